@@ -1,0 +1,267 @@
+-- The ways of Codec, each with its two laws, made into codecs.
+use mathlib.Core.Path.{_≡_, refl, sym, ap, ap₂, _∙_}
+use Prim.Native.Nat.{ℕ, zero, suc, _+_, _-_, _^_, _≤_, _<_}
+use native.Mathlib.Omega.{arith}
+use mathlib.Core.Bool.{Bool, true, false, not}
+use mathlib.Core.Option.{Option, none, some}
+use mathlib.Core.List.{List, [], _∷_, _++_, append-assoc}
+use lib.ListN.{length, take, drop, length-append, take-append-drop}
+use lib.Dec.{T, leb, eqb, leb→le, le→leb, eqb-refl, eqb→eq}
+use lib.Seq.{take-at, drop-at, length-take-le}
+use Rattle.bits.specs.Choice.{pick, within, pick-yes, pick-split}
+use Rattle.bits.specs.Lists.{All, Along}
+use Rattle.bits.specs.Bits.{Bits, numberOf, bitsOfNumber}
+use Rattle.bits.specs.BitsLaws.{length-bits, number-bits, bits-number, number-lt}
+use Rattle.bits.specs.Codec.{Read, got, refused, next, Codec, fieldDec, thenDec, timesDec, alongDec, viaDec, onlyDec, sound, judgedDec, atStart, wholeDec, roomDec}
+
+-- ---- a value was got
+
+-- no refusal is a value
+pub not-got {ℓ} : {S A : Type 0} {X : Type ℓ} {e l : ℕ} {a : A} {r : List S} → refused e l ≡ got a r → X
+not-got p = let z : _≡_ {A = ℕ} 0 1 = cc in absurd (omega arith)
+
+-- a test that leads to a value passed
+pub pick-got : {S A : Type 0} {b : A} {q : List S} (t : Bool) (a : A) (r : List S) (e l : ℕ) → pick t (got a r) (refused e l) ≡ got b q
+    → T t × (a ≡ b) × (r ≡ q)
+pick-got true a r e l p = (tt, cc, cc)
+pick-got false a r e l p = not-got p
+
+-- a step that leads to a value had one
+pub next-got : {S A B : Type 0} {P : Type 0} {b : B} {q : List S} (o : Read S A) (f : A → List S → Read S B) → next o f ≡ got b q
+    → ((a : A) (r : List S) → o ≡ got a r → f a r ≡ got b q → P) → P
+next-got (got a r) f p k = k a r refl p
+next-got (refused e l) f p k = not-got p
+
+-- ---- field
+
+module _ (e w : ℕ) where
+  pub field-there : (n : ℕ) (r : Bits) → n < 2 ^ w → fieldDec e w (bitsOfNumber w n ++ r) ≡ got n r
+  field-there n r h =
+      let l : length (bitsOfNumber w n) ≡ w = length-bits w n in
+      pick-yes (leb w (length (bitsOfNumber w n ++ r))) _ _ (le→leb w _ (simp (length-append, l) (omega arith)))
+      ∙ ap₂ got (ap numberOf (take-at (bitsOfNumber w n) r w l) ∙ number-bits w n h) (drop-at (bitsOfNumber w n) r w l)
+
+  pub field-back : (s : Bits) (n : ℕ) (r : Bits) → fieldDec e w s ≡ got n r → (n < 2 ^ w) × (s ≡ bitsOfNumber w n ++ r)
+  field-back s n r p =
+      let q = pick-got (leb w (length s)) _ _ e _ p in
+      let l : length (take w s) ≡ w = length-take-le w s (leb→le w (length s) (q .0)) in (
+        rw (← q .1) (rw l at (number-lt (take w s))),
+        rw (← q .1, ← q .2) (sym (take-append-drop w s) ∙ ap (λ (x : Bits). x ++ drop w s) (sym (rw l at (bits-number (take w s))))),
+      )
+
+  abbrev pub field : Codec Bool ℕ
+  field = record { Fits = λ n. n < 2 ^ w; enc = bitsOfNumber w; dec = fieldDec e w; there = field-there; back = field-back }
+
+-- ---- then
+
+module _ {S A B : Type 0} (c : Codec S A) (d : A → Codec S B) where
+  pub then-there : (p : A × B) (r : List S) → c .Fits (p .0) × d (p .0) .Fits (p .1)
+      → thenDec c d (c .enc (p .0) ++ d (p .0) .enc (p .1) ++ r) ≡ got p r
+  unfolding thenDec
+  then-there p r h = rw (append-assoc, c .there, h .0) (rw (d (p .0) .there, h .1))
+
+  pub then-back : (s : List S) (p : A × B) (r : List S) → thenDec c d s ≡ got p r
+      → (c .Fits (p .0) × d (p .0) .Fits (p .1)) × (s ≡ c .enc (p .0) ++ d (p .0) .enc (p .1) ++ r)
+  unfolding thenDec
+  then-back s p r h =
+      next-got (c .dec s) _ h λ a q e h1.
+      next-got (d a .dec q) _ h1 λ b q2 e2 h2.
+      let (f, g) = c .back s a q e in
+      let (f2, g2) = d a .back q b q2 e2 in
+      let u : (a, b) ≡ p = cc in
+      let v : q2 ≡ r = cc in
+      rw (← u, ← v) ((f, f2), cc (append-assoc (c .enc a) (d a .enc b) q2))
+
+  abbrev pub then : Codec S (A × B)
+  then =
+      record {
+        Fits = λ p. c .Fits (p .0) × d (p .0) .Fits (p .1);
+        enc = λ p. c .enc (p .0) ++ d (p .0) .enc (p .1);
+        dec = thenDec c d;
+        there = then-there;
+        back = then-back;
+      }
+
+-- ---- times
+
+module _ {S A : Type 0} (c : Codec S A) where
+  abbrev pub encAll : List A → List S
+  encAll [] = []
+  encAll (x ∷ xs) = c .enc x ++ encAll xs
+
+  abbrev pub TimesFits : ℕ → List A → Type 0
+  TimesFits n xs = (length xs ≡ n) × All (c .Fits) xs
+
+  pub times-all : (xs : List A) (r : List S) → All (c .Fits) xs → timesDec c (length xs) (encAll xs ++ r) ≡ got xs r
+  times-all [] r h = refl
+  times-all (x ∷ xs) r h = rw (append-assoc, c .there, h .0) (rw (times-all xs r (h .1)))
+
+  pub times-there : (n : ℕ) (xs : List A) (r : List S) → TimesFits n xs → timesDec c n (encAll xs ++ r) ≡ got xs r
+  times-there n xs r h = rw (← h .0) (times-all xs r (h .1))
+
+  pub times-back : (n : ℕ) (s : List S) (xs : List A) (r : List S) → timesDec c n s ≡ got xs r → TimesFits n xs × (s ≡ encAll xs ++ r)
+  times-back zero s xs r h =
+      let u : [] ≡ xs = cc in
+      let v : s ≡ r = cc in
+      rw (← u, ← v) ((refl, tt), refl)
+  times-back (suc n) s ys r h =
+      next-got (c .dec s) _ h λ x q e h1.
+      next-got (timesDec c n q) _ h1 λ xs q2 e2 h2.
+      let (f, g) = c .back s x q e in
+      let ((l, fs), g2) = times-back n q xs q2 e2 in
+      let u : (x ∷ xs) ≡ ys = cc in
+      let v : q2 ≡ r = cc in
+      rw (← u, ← v) ((ap suc l, (f, fs)), cc (append-assoc (c .enc x) (encAll xs) q2))
+
+  abbrev pub times : ℕ → Codec S (List A)
+  times n = record { Fits = TimesFits n; enc = encAll; dec = timesDec c n; there = times-there n; back = times-back n }
+
+-- ---- along
+
+module _ {S A I : Type 0} (c : I → Codec S A) (m : I → A → I) where
+  abbrev pub encAlong : I → List A → List S
+  encAlong i [] = []
+  encAlong i (x ∷ xs) = c i .enc x ++ encAlong (m i x) xs
+
+  abbrev pub AlongFits : ℕ → I → List A → Type 0
+  AlongFits n i xs = (length xs ≡ n) × Along m (λ j x. c j .Fits x) i xs
+
+  pub along-all : (i : I) (xs : List A) (r : List S) → Along m (λ j x. c j .Fits x) i xs → alongDec c m (length xs) i (encAlong i xs ++ r) ≡ got xs r
+  along-all i [] r h = refl
+  along-all i (x ∷ xs) r h = rw (append-assoc, c i .there, h .0) (rw (along-all (m i x) xs r (h .1)))
+
+  pub along-there : (n : ℕ) (i : I) (xs : List A) (r : List S) → AlongFits n i xs → alongDec c m n i (encAlong i xs ++ r) ≡ got xs r
+  along-there n i xs r h = rw (← h .0) (along-all i xs r (h .1))
+
+  pub along-back : (n : ℕ) (i : I) (s : List S) (xs : List A) (r : List S) → alongDec c m n i s ≡ got xs r → AlongFits n i xs × (s ≡ encAlong i xs ++ r)
+  along-back zero i s xs r h =
+      let u : [] ≡ xs = cc in
+      let v : s ≡ r = cc in
+      rw (← u, ← v) ((refl, tt), refl)
+  along-back (suc n) i s ys r h =
+      next-got (c i .dec s) _ h λ x q e h1.
+      next-got (alongDec c m n (m i x) q) _ h1 λ xs q2 e2 h2.
+      let (f, g) = c i .back s x q e in
+      let ((l, fs), g2) = along-back n (m i x) q xs q2 e2 in
+      let u : (x ∷ xs) ≡ ys = cc in
+      let v : q2 ≡ r = cc in
+      rw (← u, ← v) ((ap suc l, (f, fs)), cc (append-assoc (c i .enc x) (encAlong (m i x) xs) q2))
+
+  abbrev pub along : ℕ → I → Codec S (List A)
+  along n i = record { Fits = AlongFits n i; enc = encAlong i; dec = alongDec c m n i; there = along-there n i; back = along-back n i }
+
+-- ---- via: F says which of the other type's values fit
+
+module _ {S A B : Type 0} (c : Codec S A) (f : A → B) (g : B → A) (F : B → Type 0)
+    (fit : (b : B) → F b → c .Fits (g b)) (fg : (b : B) → F b → f (g b) ≡ b)
+    (unfit : (a : A) → c .Fits a → F (f a)) (gf : (a : A) → c .Fits a → g (f a) ≡ a) where
+  pub via-there : (b : B) (r : List S) → F b → viaDec c f (c .enc (g b) ++ r) ≡ got b r
+  unfolding viaDec
+  via-there b r h = rw (c .there (g b) r (fit b h), fg b h)
+
+  pub via-back : (s : List S) (b : B) (r : List S) → viaDec c f s ≡ got b r → F b × (s ≡ c .enc (g b) ++ r)
+  unfolding viaDec
+  via-back s b r h =
+      next-got (c .dec s) _ h λ a q e h1.
+      let (k, l) = c .back s a q e in
+      let u : f a ≡ b = cc in
+      let v : q ≡ r = cc in
+      rw (← u, ← v) (unfit a k, rw (gf a k) l)
+
+  abbrev pub via : Codec S B
+  via = record { Fits = F; enc = λ b. c .enc (g b); dec = viaDec c f; there = via-there; back = via-back }
+
+-- ---- only
+
+module _ {S A : Type 0} (c : Codec S A) (e : ℕ) (t : A → Bool) where
+  pub only-there : (a : A) (r : List S) → c .Fits a × T (t a) → onlyDec c e t (c .enc a ++ r) ≡ got a r
+  unfolding onlyDec
+  only-there a r h = rw (c .there a r (h .0)) (pick-yes (t a) _ _ (h .1))
+
+  pub only-back : (s : List S) (a : A) (r : List S) → onlyDec c e t s ≡ got a r → (c .Fits a × T (t a)) × (s ≡ c .enc a ++ r)
+  unfolding onlyDec
+  only-back s a r h =
+      next-got (c .dec s) _ h λ b q k h1.
+      let (x, y, z) = pick-got (t b) b q e _ h1 in
+      let (f, g) = c .back s b q k in
+      rw (← y, ← z) ((f, x), g)
+
+  abbrev pub only : Codec S A
+  only = record { Fits = λ a. c .Fits a × T (t a); enc = c .enc; dec = onlyDec c e t; there = only-there; back = only-back }
+
+-- ---- judged
+
+module _ {S A : Type 0} (c : Codec S A) (e : ℕ) (t : A → Option ℕ) where
+  pub judged-there : (a : A) (r : List S) → c .Fits a × (t a ≡ none) → judgedDec c e t (c .enc a ++ r) ≡ got a r
+  unfolding judgedDec
+  judged-there a r h = rw (c .there a r (h .0), h .1)
+
+  pub judged-back : (s : List S) (a : A) (r : List S) → judgedDec c e t s ≡ got a r → (c .Fits a × (t a ≡ none)) × (s ≡ c .enc a ++ r)
+  unfolding judgedDec
+  judged-back s a r h =
+      next-got (c .dec s) _ h λ b q k h1.
+      let (f, g) = c .back s b q k in
+      go b q (t b) refl h1 f g
+    where
+      go : (b : A) (q : List S) (o : Option ℕ) → t b ≡ o → sound o (λ d. refused e (length s - d)) (got b q) ≡ got a r → c .Fits b → s ≡ c .enc b ++ q
+          → (c .Fits a × (t a ≡ none)) × (s ≡ c .enc a ++ r)
+      go b q none z p f g =
+          let y : b ≡ a = cc in
+          let x : q ≡ r = cc in
+          rw (← y, ← x) ((f, z), g)
+      go b q (some d) z p f g = not-got p
+
+  abbrev pub judged : Codec S A
+  judged = record { Fits = λ a. c .Fits a × (t a ≡ none); enc = c .enc; dec = judgedDec c e t; there = judged-there; back = judged-back }
+
+-- ---- whole
+
+module _ {S A : Type 0} (c : Codec S A) where
+  pub whole-there : (a : A) (r : List S) → c .Fits a → wholeDec c (c .enc a ++ r) ≡ got a r
+  unfolding wholeDec
+  whole-there a r h = rw (c .there a r h)
+
+  pub whole-back : (s : List S) (a : A) (r : List S) → wholeDec c s ≡ got a r → c .Fits a × (s ≡ c .enc a ++ r)
+  unfolding wholeDec
+  whole-back s a r h = c .back s a r (go (c .dec s) h)
+    where
+      go : (o : Read S A) → atStart (length s) o ≡ got a r → o ≡ got a r
+      go (got b q) p = p
+      go (refused e l) p = not-got p
+
+  abbrev pub whole : Codec S A
+  whole = record { Fits = c .Fits; enc = c .enc; dec = wholeDec c; there = whole-there; back = whole-back }
+
+-- ---- room
+
+module _ {A : Type 0} (c : Codec Bool A) (e n : ℕ) (long : (a : A) → c .Fits a → n ≤ length (c .enc a)) where
+  pub room-there : (a : A) (r : Bits) → c .Fits a → roomDec c e n (c .enc a ++ r) ≡ got a r
+  unfolding roomDec
+  room-there a r h =
+      let l : n ≤ length (c .enc a ++ r) = simp length-append (omega (arith, long a h)) in
+      pick-yes (leb n (length (c .enc a ++ r))) _ _ (le→leb n _ l) ∙ c .there a r h
+
+  pub room-back : (s : Bits) (a : A) (r : Bits) → roomDec c e n s ≡ got a r → c .Fits a × (s ≡ c .enc a ++ r)
+  unfolding roomDec
+  room-back s a r p = pick-split (leb n (length s)) _ _ p (λ t q. c .back s a r q) (λ t q. not-got q)
+
+  abbrev pub room : Codec Bool A
+  room = record { Fits = c .Fits; enc = c .enc; dec = roomDec c e n; there = room-there; back = room-back }
+
+-- ---- numbers with a rule, and a count
+
+-- a number that must be v
+abbrev pub fixed : (e w v : ℕ) → Codec Bool (Unit {0})
+fixed e w v =
+    via (only (field e w) e (eqb v)) (λ n. tt) (λ u. v) (λ u. v < 2 ^ w) (λ u h. (h, eqb-refl v)) (λ u h. refl)
+    (λ n h. rw (eqb→eq v n (h .1)) (h .0)) (λ n h. eqb→eq v n (h .1))
+
+-- a number of w bits from low to high
+abbrev pub ranged : (e w low high : ℕ) → Codec Bool ℕ
+ranged e w low high = only (field e w) e (within low high)
+
+-- a count, then that many
+abbrev pub counted : {S A : Type 0} → Codec S ℕ → Codec S A → Codec S (List A)
+counted n c =
+    via (then n (times c)) (λ p. p .1) (λ xs. (length xs, xs)) (λ xs. n .Fits (length xs) × All (c .Fits) xs)
+    (λ xs h. (h .0, (refl, h .1))) (λ xs h. refl) (λ p h. (rw (h .1 .0) (h .0), h .1 .1)) (λ p h. λ i. (h .1 .0 i, p .1))

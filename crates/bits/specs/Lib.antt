@@ -1,0 +1,11 @@
+pub mod Choice
+pub mod Lists
+pub mod Bits
+pub mod BitsLaws
+pub mod Codec
+pub mod CodecLaws
+pub mod Block
+pub mod BlockLaws
+pub mod SizedLaws
+pub mod Bytes
+pub mod BytesLaws

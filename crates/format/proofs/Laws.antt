@@ -1,0 +1,3 @@
+-- The laws of the formats, by topic.
+pub mod Size
+pub mod Record

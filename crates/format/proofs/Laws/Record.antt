@@ -1,0 +1,63 @@
+-- Reading and writing of a record, in bytes: what is written is read, and what is read was written. So reading accepts exactly the
+-- bytes of the records that are allowed.
+use mathlib.Core.Path.{_≡_, refl, sym, ap, ap₂, _∙_}
+use Prim.Native.Nat.{ℕ, _*_, _^_, _≤_, _<_}
+use native.Mathlib.Omega.{arith}
+use mathlib.Core.Bool.{Bool}
+use mathlib.Core.List.{List, [], _∷_, _++_, append-nil}
+use lib.ListN.{length}
+use lib.Dec.{T}
+use Rattle.bits.specs.Choice.{pick, within, pick-yes, pick-split, within-low, within-high, within-yes}
+use Rattle.bits.specs.Lists.{All}
+use Rattle.bits.specs.Bits.{Bits}
+use Rattle.bits.specs.Bytes.{Byte, bitsOf, bytesOf}
+use Rattle.bits.specs.BytesLaws.{length-bitsOf, length-bytesOf, bits-bytes, bytes-bits, bytes-are}
+use Rattle.bits.specs.Codec.{Read, got, refused, next}
+use Rattle.bits.specs.CodecLaws.{not-got, next-got}
+use Rattle.format.specs.Limits.{leastBytes, mostBytes}
+use Rattle.format.specs.Record.{Record, FitsRecord, recordOf, read, allOf, size, write, Allowed}
+use Rattle.format.proofs.Laws.Size.{size-is, views-length}
+
+pub length-write : (r : Record) → length (write r) ≡ size r
+unfolding write
+length-write r = length-bytesOf (size r) (recordOf (size r) .enc r)
+
+pub write-bytes : (r : Record) → All Byte (write r)
+unfolding write
+write-bytes r = bytes-are (size r) (recordOf (size r) .enc r) (size-is (size r) r)
+
+record-there : (n : ℕ) (r : Record) → n < 2 ^ 32 → FitsRecord r → recordOf n .dec (recordOf n .enc r) ≡ got r []
+unfolding recordOf
+record-there n r l f = rw (append-nil (recordOf n .enc r)) at (recordOf n .there r [] (l, f))
+
+record-back : (n : ℕ) (s : Bits) (r : Record) → recordOf n .dec s ≡ got r [] → FitsRecord r × (s ≡ recordOf n .enc r)
+unfolding recordOf
+record-back n s r p = let ((l, f), e) = recordOf n .back s r [] p in (f, e ∙ append-nil (recordOf n .enc r))
+
+all-of : {a r : Record} {q : Bits} (rest : Bits) → allOf a rest ≡ got r q → (a ≡ r) × (rest ≡ []) × (q ≡ [])
+all-of [] p = (cc, refl, cc)
+all-of (b ∷ s) p = not-got p
+
+pub read-there : (r : Record) → Allowed r → read (write r) ≡ got r []
+unfolding read write leastBytes mostBytes
+read-there r a =
+    let n : ℕ = size r in
+    let low : 24 ≤ n = omega (arith, views-length r) in
+    rw (length-bytesOf n (recordOf n .enc r), bits-bytes n (recordOf n .enc r) (size-is n r))
+    (pick-yes (within leastBytes mostBytes n) _ _ (within-yes leastBytes mostBytes n low (a .small))
+    ∙ rw (record-there n r (omega (arith, a .small)) (a .fits)))
+
+pub read-back : (bytes : List ℕ) (r : Record) (rest : Bits) → All Byte bytes → read bytes ≡ got r rest → Allowed r × (bytes ≡ write r) × (rest ≡ [])
+unfolding read write
+read-back bytes r q h p =
+    let n : ℕ = length bytes in
+    pick-split (within leastBytes mostBytes n) _ _ p
+    (λ t k. next-got (recordOf n .dec (bitsOf bytes)) _ k λ a rest e m.
+    let (b, z, y) = all-of rest m in
+    let (f, g) = record-back n (bitsOf bytes) r (e ∙ ap₂ got b z) in
+    let s : n ≡ size r = omega (arith, size-is n r, ap length g, length-bitsOf bytes) in (
+      record { fits = f; small = rw (← s) (within-high leastBytes mostBytes n t) },
+      rw (← s, ← g) (sym (bytes-bits bytes h)),
+      y,
+    ))
+    (λ t k. not-got k)

@@ -1,0 +1,41 @@
+-- How long what is written is: whole bytes, whatever the length field says, and a header of 24.
+use mathlib.Core.Path.{_≡_, refl}
+use Prim.Native.Nat.{ℕ, _+_, _*_, _/_, _%_, _≤_}
+use native.Mathlib.Omega.{arith}
+use mathlib.Core.List.{List, [], _∷_}
+use lib.ListN.{length, length-append}
+use Rattle.bits.specs.Bits.{bitsOfNumber}
+use Rattle.bits.specs.BitsLaws.{length-bits}
+use Rattle.bits.specs.CodecLaws.{encAlong}
+use Rattle.format.specs.Line.{skeleton}
+use Rattle.format.specs.Index.{indexBlock}
+use Rattle.format.specs.Segments.{segments}
+use Rattle.format.specs.View.{View, view, viewHeader}
+use Rattle.format.specs.Record.{Record, tellSeen, recordOf, header, views, size}
+use Rattle.format.specs.declared.Widths.{Widths}
+
+-- a view: 14 bytes of header and length fields, and its blocks
+pub view-length : (w : Widths) (seen : List ℕ) (v : View)
+    → length (view w seen .enc v) ≡ 112 + length (skeleton w .enc (v .lines)) + length (indexBlock (length (v .lines)) .enc (v .index)) + length (segments .enc (v .segments))
+unfolding view viewHeader
+view-length w seen v = simp (length-append, length-bits) (omega arith)
+
+pub view-bytes : (w : Widths) (seen : List ℕ) (v : View) → length (view w seen .enc v) % 8 ≡ 0
+view-bytes w seen v =
+    omega (arith, view-length w seen v, skeleton w .bytes (v .lines), indexBlock (length (v .lines)) .bytes (v .index), segments .bytes (v .segments))
+
+views-bytes : (w : Widths) (seen : List ℕ) (vs : List View) → length (encAlong (view w) tellSeen seen vs) % 8 ≡ 0
+views-bytes w seen [] = refl
+views-bytes w seen (v ∷ vs) = simp length-append (omega (arith, view-bytes w seen v, views-bytes w (tellSeen seen v) vs))
+
+-- the header's 24 bytes, and the views
+pub record-length : (n : ℕ) (r : Record) → length (recordOf n .enc r) ≡ 192 + length (encAlong (view (r .head .scale .widths)) tellSeen [] (r .views))
+unfolding recordOf header views
+record-length n r = simp (length-append, length-bits) (omega arith)
+
+pub size-is : (n : ℕ) (r : Record) → length (recordOf n .enc r) ≡ 8 * size r
+unfolding size
+size-is n r = omega (arith, record-length n r, record-length 0 r, views-bytes (r .head .scale .widths) [] (r .views))
+
+pub views-length : (r : Record) → 192 + length (encAlong (view (r .head .scale .widths)) tellSeen [] (r .views)) ≡ 8 * size r
+views-length r = omega (arith, record-length 0 r, size-is 0 r)

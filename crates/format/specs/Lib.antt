@@ -1,0 +1,7 @@
+pub mod Limits
+pub mod Line
+pub mod Index
+pub mod IndexLaws
+pub mod Segments
+pub mod View
+pub mod Record

@@ -1,0 +1,42 @@
+// The parts of a record that code passes by value. Their formats, and the rules they obey, are in specs/.
+
+// Bits of a coordinate, of a start or end direction and of a direction code.
+pub struct Widths {
+    pub c: usize,
+    pub b: usize,
+    pub k: usize,
+}
+
+// Bytes 15 to 21 of a record: points per cm, widths, straight step, 256 times perpendicular over straight step, and half, the
+// directions in a half turn (N).
+pub struct Scale {
+    pub points: usize,
+    pub widths: Widths,
+    pub step: usize,
+    pub ratio: usize,
+    pub half: usize,
+}
+
+// A record's header, without what the rest of the record says. Certificates and device are one number of 16 bits.
+pub struct Header {
+    pub device: usize,
+    pub scale: Scale,
+}
+
+// A view's header, without the length of its skeleton.
+pub struct ViewHeader {
+    pub number: usize,
+    pub position: usize,
+    pub impression: usize,
+    pub quality: usize,
+    pub width: usize,
+    pub height: usize,
+}
+
+// Where a line starts or ends. Kinds: 0 imaginary end, 1 ridge end, 2 bifurcation, 3 imaginary continuation.
+pub struct End {
+    pub kind: usize,
+    pub direction: usize,
+    pub x: usize,
+    pub y: usize,
+}
