@@ -5,3 +5,4 @@ pub mod IndexLaws
 pub mod Segments
 pub mod View
 pub mod Record
+pub mod Call

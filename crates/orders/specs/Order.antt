@@ -1,0 +1,74 @@
+-- An order on a record: when it is refused (13 to 19), the record it leaves, the outcome of the call, and the record that then
+-- holds. "An order names a view by its place (from 0) and the line count it was made for."
+use Prim.Native.Nat.{ℕ, suc}
+use mathlib.Core.Bool.{Bool, true, not, _&&_}
+use mathlib.Core.List.{List, [], _∷_, _++_}
+use mathlib.Core.Option.{none}
+use lib.ListN.{length, getD, set, take}
+use lib.Dec.{leb, ltb, eqb}
+use Rattle.bits.specs.Choice.{pick}
+use Rattle.bits.specs.Lists.{empty?}
+use Rattle.outcome.specs.Refusals.{noView, otherCount, badLines, extended, noIndex, alreadySo, tooLong}
+use Rattle.outcome.specs.Outcome.{Outcome, refused, given}
+use Rattle.format.specs.Limits.{mostBytes}
+use Rattle.format.specs.View.{View}
+use Rattle.format.specs.Record.{Record, write, size}
+use Rattle.format.specs.Call.{onRecord}
+use Rattle.orders.specs.Act.{Act, remove, join, part, count, indexed?, near, after}
+
+pub record Order : Type 0 where
+  pub view : ℕ
+  pub count : ℕ
+  pub act : Act
+
+-- a view that no record has, for places behind the last
+abbrev pub blank : View
+blank = record { head = record { number = 0; position = 0; impression = 0; quality = 0; width = 0; height = 0 }; lines = []; index = none; segments = [] }
+
+abbrev pub viewAt : Record → ℕ → View
+viewAt r i = getD (r .views) i blank
+
+-- ---- the record that an order leaves
+
+unfoldable pub edited : Order → Record → Record
+edited o r = record { head = r .head; views = set (r .views) (o .view) (after (o .act) (viewAt r (o .view))) }
+
+-- ---- when it is refused
+
+-- the first test that fails gives its number; 0 where all pass
+abbrev pub firstBad : List (Bool × ℕ) → ℕ
+firstBad [] = 0
+firstBad (t ∷ ts) = pick (t .0) (firstBad ts) (t .1)
+
+-- strictly rising, each at least m and below n
+abbrev pub risesOk : ℕ → ℕ → List ℕ → Bool
+risesOk m n [] = true
+risesOk m n (r ∷ rs) = leb m r && ltb r n && risesOk (suc r) n rs
+
+-- "removal 15, 16; pair 17, 15, 18"
+unfoldable pub tests : Act → View → List (Bool × ℕ)
+tests (remove rs) v = (not (empty? rs) && risesOk 0 (count v) rs, badLines) ∷ (empty? (v .segments), extended) ∷ []
+tests (join a b) v = (indexed? v, noIndex) ∷ (ltb a (count v) && ltb b (count v), badLines) ∷ (not (near v a b), alreadySo) ∷ []
+tests (part a b) v = (indexed? v, noIndex) ∷ (ltb a (count v) && ltb b (count v), badLines) ∷ (near v a b, alreadySo) ∷ []
+
+-- "Orders: 13, 14, then removal 15, 16; pair 17, 15, 18; then 19"
+unfoldable pub allTests : Order → Record → List (Bool × ℕ)
+allTests o r =
+    (ltb (o .view) (length (r .views)), noView) ∷ (eqb (count (viewAt r (o .view))) (o .count), otherCount)
+    ∷ tests (o .act) (viewAt r (o .view)) ++ (leb (size (edited o r)) mostBytes, tooLong) ∷ []
+
+unfoldable pub verdict : Order → Record → ℕ
+verdict o r = firstBad (allTests o r)
+
+-- ---- the call
+
+abbrev pub ordered : Order → Record → Outcome ℕ
+ordered o r = pick (eqb (verdict o r) 0) (given (write (edited o r))) (refused (verdict o r) 0)
+
+-- 20 comes with the room that is lent
+unfoldable pub order : Order → List ℕ → Outcome ℕ
+order o = onRecord (ordered o)
+
+-- "the second buffer's first bytes if the number is 0 and the length fits it, else the whole old record"
+unfoldable pub holds : List ℕ → List ℕ → ℕ → ℕ → List ℕ
+holds old second number n = pick (eqb number 0 && leb n (length second)) (take n second) old
