@@ -52,11 +52,11 @@ module _ {A : Type 0} (w : Block A) where
   maybeDec [] = got none []
   maybeDec (b ∷ s) = next (w .dec (b ∷ s)) (λ a r. got (some a) r)
 
--- values that fill the block; n bounds how many, and a block's length is enough
-module _ {A : Type 0} (c : Codec Bool A) where
+-- values that fill the block, at most n; a block's length in bits is always enough, and e is the refusal of more
+module _ {A : Type 0} (c : Codec Bool A) (e : ℕ) where
   abbrev pub fillDec : ℕ → Bits → Read Bool (List A)
   fillDec zero [] = got [] []
-  fillDec zero (b ∷ s) = refused 0 0
+  fillDec zero (b ∷ s) = refused e (suc (length s))
   fillDec (suc n) [] = got [] []
   fillDec (suc n) (b ∷ s) = next (c .dec (b ∷ s)) (λ x r. next (fillDec n r) (λ xs q. got (x ∷ xs) q))
 

@@ -182,34 +182,34 @@ module _ {A : Type 0} (w : Block A) (some-bits : (a : A) → 0 < length (w .enc 
 
 -- ---- fill
 
-pub fill-more : {A : Type 0} (c : Codec Bool A) (n : ℕ) (s : Bits) → 0 < length s → fillDec c (suc n) s ≡ next (c .dec s) (λ x r. next (fillDec c n r) (λ xs q. got (x ∷ xs) q))
-fill-more c n [] l = absurd (omega arith)
-fill-more c n (b ∷ s) l = refl
+pub fill-more : {A : Type 0} (c : Codec Bool A) (e n : ℕ) (s : Bits) → 0 < length s → fillDec c e (suc n) s ≡ next (c .dec s) (λ x r. next (fillDec c e n r) (λ xs q. got (x ∷ xs) q))
+fill-more c e n [] l = absurd (omega arith)
+fill-more c e n (b ∷ s) l = refl
 
-module _ {A : Type 0} (c : Codec Bool A) (some-bits : (a : A) → 0 < length (c .enc a)) (whole : (a : A) → length (c .enc a) % 8 ≡ 0) where
-  pub fill-to : (n : ℕ) (xs : List A) → length xs ≤ n → All (c .Fits) xs → fillDec c n (encAll c xs) ≡ got xs []
+module _ {A : Type 0} (c : Codec Bool A) (e : ℕ) (some-bits : (a : A) → 0 < length (c .enc a)) (whole : (a : A) → length (c .enc a) % 8 ≡ 0) where
+  pub fill-to : (n : ℕ) (xs : List A) → length xs ≤ n → All (c .Fits) xs → fillDec c e n (encAll c xs) ≡ got xs []
   fill-to zero [] l h = refl
   fill-to (suc n) [] l h = refl
   fill-to zero (x ∷ xs) l h = absurd (omega arith)
   fill-to (suc n) (x ∷ xs) l h =
       let k : 0 < length (c .enc x ++ encAll c xs) = simp length-append (omega (arith, some-bits x)) in
-      fill-more c n (c .enc x ++ encAll c xs) k ∙ rw (c .there x (encAll c xs) (h .0), fill-to n xs (omega arith) (h .1))
+      fill-more c e n (c .enc x ++ encAll c xs) k ∙ rw (c .there x (encAll c xs) (h .0), fill-to n xs (omega arith) (h .1))
 
-  fill-nil : (s xs : List A) (r q : Bits) → got [] q ≡ got xs r → All (c .Fits) xs × (encAll c xs ≡ []) × (r ≡ q)
-  fill-nil s xs r q p =
+  fill-nil : (xs : List A) (r q : Bits) → got [] q ≡ got xs r → All (c .Fits) xs × (encAll c xs ≡ []) × (r ≡ q)
+  fill-nil xs r q p =
       let u : [] ≡ xs = cc in
       let v : q ≡ r = cc in
       rw (← u, ← v) (tt, refl, refl)
 
-  pub fill-from : (n : ℕ) (s : Bits) (xs : List A) (r : Bits) → fillDec c n s ≡ got xs r → All (c .Fits) xs × (s ≡ encAll c xs) × (r ≡ [])
-  fill-from zero [] xs r p = let (a, b, z) = fill-nil [] xs r [] p in (a, sym b, z)
-  fill-from (suc n) [] xs r p = let (a, b, z) = fill-nil [] xs r [] p in (a, sym b, z)
+  pub fill-from : (n : ℕ) (s : Bits) (xs : List A) (r : Bits) → fillDec c e n s ≡ got xs r → All (c .Fits) xs × (s ≡ encAll c xs) × (r ≡ [])
+  fill-from zero [] xs r p = let (a, b, z) = fill-nil xs r [] p in (a, sym b, z)
+  fill-from (suc n) [] xs r p = let (a, b, z) = fill-nil xs r [] p in (a, sym b, z)
   fill-from zero (b ∷ s) xs r p = not-got p
   fill-from (suc n) (b ∷ s) ys r p =
-      next-got (c .dec (b ∷ s)) _ p λ x q e h1.
-      next-got (fillDec c n q) _ h1 λ xs u e2 h2.
-      let (f, g) = c .back (b ∷ s) x q e in
-      let (fs, g2, z) = fill-from n q xs u e2 in
+      next-got (c .dec (b ∷ s)) _ p λ x q d h1.
+      next-got (fillDec c e n q) _ h1 λ xs u d2 h2.
+      let (f, g) = c .back (b ∷ s) x q d in
+      let (fs, g2, z) = fill-from n q xs u d2 in
       let y : (x ∷ xs) ≡ ys = cc in
       let w : u ≡ r = cc in
       rw (← y, ← w) ((f, fs), cc, z)
@@ -227,7 +227,7 @@ module _ {A : Type 0} (c : Codec Bool A) (some-bits : (a : A) → 0 < length (c 
       record {
         Fits = All (c .Fits);
         enc = encAll c;
-        dec = λ s. fillDec c (length s) s;
+        dec = λ s. fillDec c e (length s) s;
         bytes = fill-bytes;
         there = λ xs h. fill-to (length (encAll c xs)) xs (fill-long xs) h;
         back = λ s xs l p. let (a, b, z) = fill-from (length s) s xs [] p in (a, b);

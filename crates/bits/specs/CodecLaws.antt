@@ -92,12 +92,12 @@ module _ {S A : Type 0} (c : Codec S A) where
   abbrev pub TimesFits : ℕ → List A → Type 0
   TimesFits n xs = (length xs ≡ n) × All (c .Fits) xs
 
-  pub times-all : (xs : List A) (r : List S) → All (c .Fits) xs → timesDec c (length xs) (encAll xs ++ r) ≡ got xs r
-  times-all [] r h = refl
-  times-all (x ∷ xs) r h = rw (append-assoc, c .there, h .0) (rw (times-all xs r (h .1)))
+  times-list : (xs : List A) (r : List S) → All (c .Fits) xs → timesDec c (length xs) (encAll xs ++ r) ≡ got xs r
+  times-list [] r h = refl
+  times-list (x ∷ xs) r h = rw (append-assoc, c .there, h .0) (rw (times-list xs r (h .1)))
 
   pub times-there : (n : ℕ) (xs : List A) (r : List S) → TimesFits n xs → timesDec c n (encAll xs ++ r) ≡ got xs r
-  times-there n xs r h = rw (← h .0) (times-all xs r (h .1))
+  times-there n xs r h = rw (← h .0) (times-list xs r (h .1))
 
   pub times-back : (n : ℕ) (s : List S) (xs : List A) (r : List S) → timesDec c n s ≡ got xs r → TimesFits n xs × (s ≡ encAll xs ++ r)
   times-back zero s xs r h =
@@ -126,12 +126,12 @@ module _ {S A I : Type 0} (c : I → Codec S A) (m : I → A → I) where
   abbrev pub AlongFits : ℕ → I → List A → Type 0
   AlongFits n i xs = (length xs ≡ n) × Along m (λ j x. c j .Fits x) i xs
 
-  pub along-all : (i : I) (xs : List A) (r : List S) → Along m (λ j x. c j .Fits x) i xs → alongDec c m (length xs) i (encAlong i xs ++ r) ≡ got xs r
-  along-all i [] r h = refl
-  along-all i (x ∷ xs) r h = rw (append-assoc, c i .there, h .0) (rw (along-all (m i x) xs r (h .1)))
+  along-list : (i : I) (xs : List A) (r : List S) → Along m (λ j x. c j .Fits x) i xs → alongDec c m (length xs) i (encAlong i xs ++ r) ≡ got xs r
+  along-list i [] r h = refl
+  along-list i (x ∷ xs) r h = rw (append-assoc, c i .there, h .0) (rw (along-list (m i x) xs r (h .1)))
 
   pub along-there : (n : ℕ) (i : I) (xs : List A) (r : List S) → AlongFits n i xs → alongDec c m n i (encAlong i xs ++ r) ≡ got xs r
-  along-there n i xs r h = rw (← h .0) (along-all i xs r (h .1))
+  along-there n i xs r h = rw (← h .0) (along-list i xs r (h .1))
 
   pub along-back : (n : ℕ) (i : I) (s : List S) (xs : List A) (r : List S) → alongDec c m n i s ≡ got xs r → AlongFits n i xs × (s ≡ encAlong i xs ++ r)
   along-back zero i s xs r h =
@@ -257,6 +257,9 @@ fixed e w v =
     (λ n h. rw (eqb→eq v n (h .1)) (h .0)) (λ n h. eqb→eq v n (h .1))
 
 -- a number of w bits from low to high
+abbrev pub Ranged : (w low high n : ℕ) → Type 0
+Ranged w low high n = (n < 2 ^ w) × T (within low high n)
+
 abbrev pub ranged : (e w low high : ℕ) → Codec Bool ℕ
 ranged e w low high = only (field e w) e (within low high)
 

@@ -3,9 +3,11 @@
 use mathlib.Core.Path.{_≡_, refl, ap}
 use Prim.Native.Nat.{ℕ, zero, suc, _<_}
 use native.Mathlib.Omega.{arith}
-use mathlib.Core.Bool.{Bool, true, false}
+use mathlib.Core.Bool.{Bool, true, false, _&&_}
 use mathlib.Core.List.{List, [], _∷_, _++_, map}
 use lib.ListN.{length, getD}
+use lib.Dec.{T}
+use mir.Facts.{and-yes, yes-and}
 
 abbrev pub All : {A : Type 0} → (A → Type 0) → List A → Type 0
 All P [] = Unit {0}
@@ -15,6 +17,14 @@ All P (x ∷ xs) = P x × All P xs
 abbrev pub Along : {I A : Type 0} → (I → A → I) → (I → A → Type 0) → I → List A → Type 0
 Along m P i [] = Unit {0}
 Along m P i (x ∷ xs) = P i x × Along m P (m i x) xs
+
+abbrev pub every : {A : Type 0} → (A → Bool) → List A → Bool
+every t [] = true
+every t (x ∷ xs) = t x && every t xs
+
+-- a list of tests, all passed
+abbrev pub allTrue : List Bool → Bool
+allTrue ts = every (λ t. t) ts
 
 abbrev pub empty? : {A : Type 0} → List A → Bool
 empty? [] = true
@@ -51,6 +61,42 @@ pub map-at : {A B : Type 0} (f : A → B) (l : List A) (n : ℕ) (d : A) (e : B)
 map-at f [] n d e h = absurd (omega arith)
 map-at f (x ∷ xs) zero d e h = refl
 map-at f (x ∷ xs) (suc n) d e h = map-at f xs n d e (omega arith)
+
+-- ---- Along
+
+module _ {I A : Type 0} (m : I → A → I) where
+  pub along-map : (P Q : I → A → Type 0) (i : I) (xs : List A) → ((j : I) (x : A) → P j x → Q j x) → Along m P i xs → Along m Q i xs
+  along-map P Q i [] f h = tt
+  along-map P Q i (x ∷ xs) f h = (f i x (h .0), along-map P Q (m i x) xs f (h .1))
+
+  pub along-both : (P Q R : I → A → Type 0) (i : I) (xs : List A) → ((j : I) (x : A) → P j x → Q j x → R j x) → Along m P i xs → Along m Q i xs → Along m R i xs
+  along-both P Q R i [] f h k = tt
+  along-both P Q R i (x ∷ xs) f h k = (f i x (h .0) (k .0), along-both P Q R (m i x) xs f (h .1) (k .1))
+
+  -- where nothing is said, it is All
+  pub all-along : (P : A → Type 0) (i : I) (xs : List A) → All P xs → Along m (λ j x. P x) i xs
+  all-along P i [] h = tt
+  all-along P i (x ∷ xs) h = (h .0, all-along P (m i x) xs (h .1))
+
+  pub along-all : (P : A → Type 0) (i : I) (xs : List A) → Along m (λ j x. P x) i xs → All P xs
+  along-all P i [] h = tt
+  along-all P i (x ∷ xs) h = (h .0, along-all P (m i x) xs (h .1))
+
+-- ---- every
+
+pub every-yes : {A : Type 0} (t : A → Bool) (xs : List A) → All (λ x. T (t x)) xs → T (every t xs)
+every-yes t [] h = tt
+every-yes t (x ∷ xs) h = yes-and (t x) (every t xs) (h .0) (every-yes t xs (h .1))
+
+pub yes-every : {A : Type 0} (t : A → Bool) (xs : List A) → T (every t xs) → All (λ x. T (t x)) xs
+yes-every t [] h = tt
+yes-every t (x ∷ xs) h = let (a, b) = and-yes (t x) (every t xs) h in (a, yes-every t xs b)
+
+pub true-all : (ts : List Bool) → All T ts → T (allTrue ts)
+true-all ts h = every-yes (λ t. t) ts h
+
+pub all-true : (ts : List Bool) → T (allTrue ts) → All T ts
+all-true ts h = yes-every (λ t. t) ts h
 
 -- ---- empty?
 

@@ -70,3 +70,12 @@ steps-falls w m l (d ∷ ds) h =
 pub falls-less : (m k l : ℕ) (ns : List ℕ) → k ≤ m → Falls m l ns → Falls k l ns
 falls-less m k l [] h f = tt
 falls-less m k l (n ∷ ns) h f = (omega arith, f .1)
+
+-- a list that falls from l on has at most l numbers below l, and l itself may be one more
+pub falls-length : (l : ℕ) (ns : List ℕ) → Falls 1 l ns → length ns ≤ l
+falls-length l [] h = omega arith
+falls-length l (n ∷ ns) h = omega (arith, falls-length n ns (h .1))
+
+pub falls-count : (l : ℕ) (ns : List ℕ) → Falls 0 l ns → length ns ≤ suc l
+falls-count l [] h = omega arith
+falls-count l (n ∷ ns) h = omega (arith, falls-length n ns (h .1))

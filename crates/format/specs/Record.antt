@@ -10,7 +10,7 @@ use Rattle.bits.specs.Lists.{Along}
 use Rattle.bits.specs.Bits.{Bits}
 use Rattle.bits.specs.Bytes.{bitsOf, bytesOf}
 use Rattle.bits.specs.Codec.{Read, got, refused, next, Codec}
-use Rattle.bits.specs.CodecLaws.{field, then, via, along, fixed, ranged}
+use Rattle.bits.specs.CodecLaws.{field, then, via, along, fixed, Ranged, ranged}
 use Rattle.outcome.specs.Refusals.{badSize, badIdentifier, badVersion, badLength, badHeader, bytesOver}
 use Rattle.format.specs.Limits.{leastBytes, mostBytes}
 use Rattle.format.specs.View.{View, view}
@@ -24,40 +24,38 @@ pub record Record : Type 0 where
 
 -- ---- the header
 
--- points per cm 1-255, c 1-16, b 4-8, k 2-8, straight step 1-255, ratio all, N 1-255; e is the refusal
-pub record FitsScale (e : ℕ) (s : Scale) : Type 0 where
-  pub points : ranged e 8 1 255 .Fits (s .points)
-  pub c : ranged e 8 1 16 .Fits (s .widths .c)
-  pub b : ranged e 8 4 8 .Fits (s .widths .b)
-  pub k : ranged e 8 2 8 .Fits (s .widths .k)
-  pub step : ranged e 8 1 255 .Fits (s .step)
+-- points per cm 1-255, c 1-16, b 4-8, k 2-8, straight step 1-255, ratio all, N 1-255
+pub record FitsScale (s : Scale) : Type 0 where
+  pub points : Ranged 8 1 255 (s .points)
+  pub c : Ranged 8 1 16 (s .widths .c)
+  pub b : Ranged 8 4 8 (s .widths .b)
+  pub k : Ranged 8 2 8 (s .widths .k)
+  pub step : Ranged 8 1 255 (s .step)
   pub ratio : s .ratio < 2 ^ 8
-  pub half : ranged e 8 1 255 .Fits (s .half)
+  pub half : Ranged 8 1 255 (s .half)
 
+-- e is the refusal
 abbrev pub scale : ℕ → Codec Bool Scale
 scale e =
     via (then (ranged e 8 1 255) λ _. then (ranged e 8 1 16) λ _. then (ranged e 8 4 8) λ _. then (ranged e 8 2 8) λ _.
     then (ranged e 8 1 255) λ _. then (field e 8) λ _. ranged e 8 1 255)
     (λ (p, (c, (b, (k, (s, (r, h)))))). record { points = p; widths = record { c = c; b = b; k = k }; step = s; ratio = r; half = h })
     (λ s. (s .points, (s .widths .c, (s .widths .b, (s .widths .k, (s .step, (s .ratio, s .half)))))))
-    (FitsScale e)
+    FitsScale
     (λ s f. (f .points, (f .c, (f .b, (f .k, (f .step, (f .ratio, f .half))))))) (λ s f. refl)
     (λ t (p, (c, (b, (k, (s, (r, h)))))). record { points = p; c = c; b = b; k = k; step = s; ratio = r; half = h }) (λ t f. refl)
 
-abbrev pub views? : Codec Bool ℕ
-views? = ranged badHeader 8 1 255
-
 pub record FitsHeader (h : Header) : Type 0 where
   pub device : h .device < 2 ^ 16
-  pub scale : FitsScale badHeader (h .scale)
+  pub scale : FitsScale (h .scale)
 
 -- n: the bytes lent, which the stated length must be; the number read is how many views there are
 unfoldable pub header : ℕ → Codec Bool (Header × ℕ)
 header n =
     via (then (fixed badIdentifier 32 0x46534B00) λ _. then (fixed badVersion 32 0x30313000) λ _. then (fixed badLength 32 n) λ _.
-    then (field badHeader 16) λ _. then views? λ _. then (scale badHeader) λ _. fixed badHeader 16 0)
+    then (field badHeader 16) λ _. then (ranged badHeader 8 1 255) λ _. then (scale badHeader) λ _. fixed badHeader 16 0)
     (λ (x, (y, (z, (d, (m, (s, u)))))). (record { device = d; scale = s }, m)) (λ t. (tt, (tt, (tt, (t .0 .device, (t .1, (t .0 .scale, tt)))))))
-    (λ t. (n < 2 ^ 32) × FitsHeader (t .0) × views? .Fits (t .1))
+    (λ t. (n < 2 ^ 32) × FitsHeader (t .0) × Ranged 8 1 255 (t .1))
     (λ t f. (omega arith, (omega arith, (f .0, (f .1 .device, (f .2, (f .1 .scale, omega arith))))))) (λ t f. refl)
     (λ t (x, (y, (z, (d, (m, (s, u)))))). (z, record { device = d; scale = s }, m)) (λ t f. refl)
 
@@ -71,7 +69,7 @@ views w m = along (view w) tellSeen m []
 
 pub record FitsRecord (r : Record) : Type 0 where
   pub head : FitsHeader (r .head)
-  pub count : views? .Fits (length (r .views))
+  pub count : Ranged 8 1 255 (length (r .views))
   pub views : Along tellSeen (λ seen v. view (r .head .scale .widths) seen .Fits v) [] (r .views)
 
 unfoldable pub recordOf : ℕ → Codec Bool Record

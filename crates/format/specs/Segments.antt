@@ -53,4 +53,4 @@ unfolding segment
 segment-length g = simp (length-append, length-bits, length-bytes) (omega arith)
 
 unfoldable pub segments : Block (List Segment)
-segments = fill segment (λ g. omega (arith, segment-length g)) (λ g. omega (arith, segment-length g))
+segments = fill segment badSegment (λ g. omega (arith, segment-length g)) (λ g. omega (arith, segment-length g))

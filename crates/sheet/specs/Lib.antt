@@ -1,0 +1,5 @@
+pub mod Fields
+pub mod Grammar
+pub mod Code
+pub mod Values
+pub mod Sheet
