@@ -5,4 +5,5 @@ pub mod IndexLaws
 pub mod Segments
 pub mod View
 pub mod Record
+pub mod Places
 pub mod Call

@@ -1,0 +1,32 @@
+-- The parts of a record by their places, from 0. A place behind the last has a part that no record holds; every definition that
+-- asks for one tests the place first.
+use Prim.Native.Nat.{ℕ}
+use mathlib.Core.Option.{none}
+use mathlib.Core.List.{List, []}
+use lib.ListN.{length, getD}
+use Rattle.format.specs.Line.{Line}
+use Rattle.format.specs.Segments.{Segment}
+use Rattle.format.specs.View.{View}
+use Rattle.format.specs.Record.{Record}
+
+abbrev pub noLine : Line
+noLine = record { start = record { kind = 0; direction = 0; x = 0; y = 0 }; codes = []; finish = record { kind = 0; direction = 0; x = 0; y = 0 } }
+
+abbrev pub noSegmentThere : Segment
+noSegmentThere = record { kind = 0; payload = [] }
+
+abbrev pub noViewThere : View
+noViewThere = record { head = record { number = 0; position = 0; impression = 0; quality = 0; width = 0; height = 0 }; lines = []; index = none; segments = [] }
+
+abbrev pub viewAt : Record → ℕ → View
+viewAt r i = getD (r .views) i noViewThere
+
+-- how many lines a view has
+abbrev pub count : View → ℕ
+count v = length (v .lines)
+
+abbrev pub lineAt : View → ℕ → Line
+lineAt v i = getD (v .lines) i noLine
+
+abbrev pub segmentAt : View → ℕ → Segment
+segmentAt v i = getD (v .segments) i noSegmentThere

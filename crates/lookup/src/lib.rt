@@ -1,0 +1,2 @@
+// What is asked of an accepted record without changing it: a segment's payload, and the numbers of the listing. The definitions
+// are in specs/.

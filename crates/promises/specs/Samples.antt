@@ -1,0 +1,136 @@
+-- The samples P1 to P11 of document 01, as one table: a job, what must come of it, and how many elements that is.
+use Prim.Native.Nat.{ℕ, zero, suc, _/_, _%_}
+use mathlib.Core.List.{List, [], _∷_, _++_}
+use lib.ListN.{replicate}
+use Rattle.outcome.specs.Refusals.{badHeader, past, otherCount, alreadySo}
+use Rattle.outcome.specs.Outcome.{Outcome, refused, given, lengthOf}
+use Rattle.format.specs.Record.{write}
+use Rattle.format.specs.Call.{onRecord}
+use Rattle.sheet.specs.Sheet.{reading, writing}
+use Rattle.trail.specs.Trail.{trailing}
+use Rattle.orders.specs.Act.{remove, join}
+use Rattle.orders.specs.Order.{Order, order}
+
+-- ---- jobs
+
+pub data Job : Type 0 where
+  -- judge a record, and write it again
+  judges : List ℕ → Job
+  reads : List ℕ → Job
+  writes : List ℕ → Job
+  -- view, line, record
+  trails : ℕ → ℕ → List ℕ → Job
+  orders : Order → List ℕ → Job
+
+unfoldable pub result : Job → Outcome ℕ
+result (judges bytes) = onRecord (λ r. given (write r)) bytes
+result (reads bytes) = reading bytes
+result (writes sheet) = writing sheet
+result (trails view line bytes) = trailing view line bytes
+result (orders o bytes) = order o bytes
+
+-- ---- records
+
+abbrev pub sampleA : List ℕ
+sampleA =
+    0x46 ∷ 0x53 ∷ 0x4B ∷ 0x00 ∷ 0x30 ∷ 0x31 ∷ 0x30 ∷ 0x00 ∷ 0x00 ∷ 0x00 ∷ 0x00 ∷ 0x38 ∷ 0x00 ∷ 0x00 ∷ 0x01 ∷ 0xC5
+    ∷ 0x08 ∷ 0x08 ∷ 0x04 ∷ 0x10 ∷ 0x40 ∷ 0x20 ∷ 0x00 ∷ 0x00 ∷ 0x00 ∷ 0x02 ∷ 0x00 ∷ 0x50 ∷ 0x01 ∷ 0x00 ∷ 0x01 ∷ 0x00
+    ∷ 0x00 ∷ 0x10 ∷ 0x50 ∷ 0x02 ∷ 0x85 ∷ 0x00 ∷ 0x48 ∷ 0xC0 ∷ 0x0E ∷ 0x14 ∷ 0x50 ∷ 0x02 ∷ 0x85 ∷ 0x00 ∷ 0x48 ∷ 0xC0
+    ∷ 0x0E ∷ 0x14 ∷ 0x00 ∷ 0x02 ∷ 0x01 ∷ 0x60 ∷ 0x00 ∷ 0x00 ∷ []
+
+abbrev pub sheetA : List ℕ
+sheetA =
+    0x01 ∷ 0x00 ∷ 0x09 ∷ 0x00 ∷ 0x00 ∷ 0xC5 ∷ 0x08 ∷ 0x08 ∷ 0x04 ∷ 0x10 ∷ 0x40 ∷ 0x20 ∷ 0x02 ∷ 0x00 ∷ 0x08 ∷ 0x00
+    ∷ 0x02 ∷ 0x00 ∷ 0x50 ∷ 0x01 ∷ 0x00 ∷ 0x01 ∷ 0x00 ∷ 0x03 ∷ 0x00 ∷ 0x0D ∷ 0x01 ∷ 0x40 ∷ 0x00 ∷ 0x0A ∷ 0x00 ∷ 0x14
+    ∷ 0x00 ∷ 0xC0 ∷ 0x00 ∷ 0x0E ∷ 0x00 ∷ 0x14 ∷ 0x02 ∷ 0x03 ∷ 0x00 ∷ 0x0D ∷ 0x01 ∷ 0x40 ∷ 0x00 ∷ 0x0A ∷ 0x00 ∷ 0x14
+    ∷ 0x00 ∷ 0xC0 ∷ 0x00 ∷ 0x0E ∷ 0x00 ∷ 0x14 ∷ 0x02 ∷ 0x04 ∷ 0x00 ∷ 0x01 ∷ 0x01 ∷ 0x05 ∷ 0x00 ∷ 0x00 ∷ 0x05 ∷ 0x00
+    ∷ 0x02 ∷ 0x00 ∷ 0x00 ∷ []
+
+-- A's header, with a record length of n bytes and b bits of a direction
+abbrev header : (n b : ℕ) → List ℕ
+header n b =
+    0x46 ∷ 0x53 ∷ 0x4B ∷ 0x00 ∷ 0x30 ∷ 0x31 ∷ 0x30 ∷ 0x00 ∷ 0x00 ∷ 0x00 ∷ (n / 256) ∷ (n % 256) ∷ 0x00 ∷ 0x00 ∷ 0x01 ∷ 0xC5
+    ∷ 0x08 ∷ b ∷ 0x04 ∷ 0x10 ∷ 0x40 ∷ 0x20 ∷ 0x00 ∷ 0x00 ∷ []
+
+-- A's view header, with a skeleton of n bytes
+abbrev viewHeader : ℕ → List ℕ
+viewHeader n = 0x00 ∷ 0x02 ∷ 0x00 ∷ 0x50 ∷ 0x01 ∷ 0x00 ∷ 0x01 ∷ 0x00 ∷ (n / 256) ∷ (n % 256) ∷ []
+
+-- A's line, n times
+abbrev lines : ℕ → List ℕ
+lines zero = []
+lines (suc n) = 0x50 ∷ 0x02 ∷ 0x85 ∷ 0x00 ∷ 0x48 ∷ 0xC0 ∷ 0x0E ∷ 0x14 ∷ lines n
+
+-- no lines, no index, no segments; b bits of a direction
+abbrev bare : ℕ → List ℕ
+bare b = header 38 b ++ viewHeader 0 ++ 0x00 ∷ 0x00 ∷ 0x00 ∷ 0x00 ∷ []
+
+abbrev afterP3 : List ℕ
+afterP3 = header 48 8 ++ viewHeader 8 ++ lines 1 ++ 0x00 ∷ 0x02 ∷ 0x01 ∷ 0x00 ∷ 0x00 ∷ 0x00 ∷ []
+
+abbrev afterP5 : List ℕ
+afterP5 = header 56 8 ++ viewHeader 16 ++ lines 2 ++ 0x00 ∷ 0x02 ∷ 0x01 ∷ 0xB0 ∷ 0x00 ∷ 0x00 ∷ []
+
+-- A's line with the codes 1000 and 1001
+abbrev levelLine : List ℕ
+levelLine = header 47 8 ++ viewHeader 9 ++ 0x50 ∷ 0x02 ∷ 0x85 ∷ 0x00 ∷ 0xA2 ∷ 0x4C ∷ 0x00 ∷ 0xE1 ∷ 0x40 ∷ 0x00 ∷ 0x00 ∷ 0x00 ∷ 0x00 ∷ []
+
+-- A's line with start direction 3 and the codes 0 and 2
+abbrev directionThree : List ℕ
+directionThree = header 47 8 ++ viewHeader 9 ++ 0x40 ∷ 0xC2 ∷ 0x85 ∷ 0x00 ∷ 0x80 ∷ 0x8C ∷ 0x00 ∷ 0xE1 ∷ 0x40 ∷ 0x00 ∷ 0x00 ∷ 0x00 ∷ 0x00 ∷ []
+
+-- 31 lines, line 30 next to 15 and 0; and the same without line 15
+abbrev beforeP11 : List ℕ
+beforeP11 = header 304 8 ++ viewHeader 248 ++ lines 31 ++ 0x00 ∷ 0x12 ∷ 0x04 ∷ replicate 15 0x00 ++ 0x2F ∷ 0xF0 ∷ 0x00 ∷ 0x00 ∷ []
+
+abbrev afterP11 : List ℕ
+afterP11 = header 299 8 ++ viewHeader 240 ++ lines 30 ++ 0x00 ∷ 0x15 ∷ 0x05 ∷ replicate 18 0x00 ++ 0x07 ∷ 0xA0 ∷ 0x00 ∷ 0x00 ∷ []
+
+-- ---- the table
+
+pub record Row : Type 0 where
+  pub job : Job
+  pub gives : Outcome ℕ
+  pub length : ℕ
+
+abbrev pub expected : Row → Outcome ℕ × ℕ
+expected r = (r .gives, r .length)
+
+abbrev pub computed : Row → Outcome ℕ × ℕ
+computed r = (result (r .job), lengthOf (result (r .job)))
+
+abbrev row : Job → Outcome ℕ → ℕ → Row
+row j o n = record { job = j; gives = o; length = n }
+
+abbrev removeLineZero : Order
+removeLineZero = record { view = 0; count = 2; act = remove (0 ∷ []) }
+
+abbrev pub table : List Row
+table =
+    -- P1
+    row (judges sampleA) (given sampleA) 56
+    ∷ row (reads sampleA) (given sheetA) 67
+    ∷ row (writes sheetA) (given sampleA) 56
+    -- P2
+    ∷ row (trails 0 0 sampleA) (given (36 ∷ [])) 1
+    -- P3
+    ∷ row (orders removeLineZero sampleA) (given afterP3) 48
+    -- P4
+    ∷ row (orders removeLineZero afterP3) (refused otherCount 0) 0
+    -- P5
+    ∷ row (orders (record { view = 0; count = 2; act = join 0 1 }) sampleA) (refused alreadySo 0) 0
+    ∷ row (orders (record { view = 0; count = 2; act = join 0 0 }) sampleA) (given afterP5) 56
+    -- P6
+    ∷ row (judges (bare 8)) (given (bare 8)) 38
+    -- P7
+    ∷ row (judges (header 24 8)) (refused past 192) 0
+    -- P8
+    ∷ row (judges (bare 3)) (refused badHeader 136) 0
+    ∷ row (judges (bare 4)) (given (bare 4)) 38
+    -- P9: heading 16 - 7 at level 1
+    ∷ row (trails 0 0 levelLine) (given (19 ∷ [])) 1
+    -- P10: heading 0, then 2
+    ∷ row (trails 0 0 directionThree) (given (0 ∷ 4 ∷ [])) 2
+    -- P11
+    ∷ row (orders (record { view = 0; count = 31; act = remove (15 ∷ []) }) beforeP11) (given afterP11) 299
+    ∷ []

@@ -1,0 +1,52 @@
+-- The trail of a line. "Codes are two's complement. The value with only its top bit set turns the level between 0 (standard) and 1
+-- (high); it counts as a code and draws nothing. Each line starts at level 0. Each other code is added to the heading modulo 2N.
+-- The trail is one 16-bit number for each drawn element: twice its heading after the change, plus the level."
+use Prim.Native.Nat.{ℕ, _+_, _-_, _*_, _/_, _%_, _^_}
+use mathlib.Core.Bool.{Bool, false, not}
+use mathlib.Core.List.{List, [], _∷_, _++_}
+use lib.ListN.{length}
+use lib.Dec.{ltb, eqb}
+use Rattle.bits.specs.Choice.{pick}
+use Rattle.bits.specs.Bits.{val}
+use Rattle.outcome.specs.Refusals.{noView, badLines}
+use Rattle.outcome.specs.Outcome.{Outcome, refused, given}
+use Rattle.format.specs.Line.{Line}
+use Rattle.format.specs.Record.{Record}
+use Rattle.format.specs.Places.{viewAt, count, lineAt}
+use Rattle.format.specs.Call.{onRecord}
+use Rattle.format.specs.declared.Scale.{Scale}
+
+-- "The first heading is the start direction times 2N divided by 2 to the b, rounded down."
+abbrev pub firstHeading : (n b direction : ℕ) → ℕ
+firstHeading n b direction = direction * (2 * n) / 2 ^ b
+
+-- the code of k bits with only its top bit set
+abbrev pub turnsLevel : ℕ → ℕ → Bool
+turnsLevel k code = eqb code (2 ^ (k - 1))
+
+-- A code of k bits added to a heading, modulo 2N. A negative code is 2 to the k less; 2 to the k times a multiple of 2N is added so
+-- that no difference is below zero.
+abbrev pub turned : (n k heading code : ℕ) → ℕ
+turned n k heading code = (heading + code + pick (ltb code (2 ^ (k - 1))) 0 ((2 * n - 1) * 2 ^ k)) % (2 * n)
+
+-- high: the level is 1
+abbrev pub follow : (n k : ℕ) → Bool → ℕ → List ℕ → List ℕ
+follow n k high heading [] = []
+follow n k high heading (code ∷ codes) =
+    let turns : Bool = turnsLevel k code in
+    let now : ℕ = pick turns heading (turned n k heading code) in
+    pick turns [] ((2 * now + val high) ∷ []) ++ follow n k (pick turns (not high) high) now codes
+
+unfoldable pub trail : Scale → Line → List ℕ
+trail s l = follow (s .half) (s .widths .k) false (firstHeading (s .half) (s .widths .b) (l .start .direction)) (l .codes)
+
+-- ---- the call: "Trail: 13, 15, 20"
+
+abbrev pub trailIn : (view line : ℕ) → Record → Outcome ℕ
+trailIn view line r =
+    pick (ltb view (length (r .views)))
+    (pick (ltb line (count (viewAt r view))) (given (trail (r .head .scale) (lineAt (viewAt r view) line))) (refused badLines 0))
+    (refused noView 0)
+
+unfoldable pub trailing : (view line : ℕ) → List ℕ → Outcome ℕ
+trailing view line = onRecord (trailIn view line)
