@@ -7,3 +7,4 @@ pub mod View
 pub mod Record
 pub mod Places
 pub mod Call
+pub mod Sample
