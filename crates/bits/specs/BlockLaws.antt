@@ -38,6 +38,10 @@ module _ {A : Type 0} (c : Codec Bool A) (bad over : ℕ) where
   many-end zero k h = pick-yes (ltb (length (zeros k)) 8) _ _ (lt→ltb (length (zeros k)) 8 (simp length-replicate h)) ∙ rw (zeros-there bad k)
   many-end (suc n) k h = pick-yes (ltb (length (zeros k)) 8) _ _ (lt→ltb (length (zeros k)) 8 (simp length-replicate h)) ∙ rw (zeros-there bad k)
 
+  -- where no more values may come and eight bits or more are left, that is the refusal, whatever they are
+  pub many-over : (s : Bits) → 8 ≤ length s → manyDec c bad over 0 s ≡ refused over (length s)
+  many-over s h = pick-no (ltb (length s) 8) _ _ (no-ltb h)
+
   pub many-to : (long : (x : A) → 8 ≤ length (c .enc x)) (n k : ℕ) (xs : List A) → k < 8 → length xs ≤ n → All (c .Fits) xs
       → manyDec c bad over n (encAll c xs ++ zeros k) ≡ got xs []
   many-to long n k [] h l f = many-end n k h

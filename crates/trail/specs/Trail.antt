@@ -24,8 +24,8 @@ firstHeading n b direction = direction * (2 * n) / 2 ^ b
 abbrev pub turnsLevel : ℕ → ℕ → Bool
 turnsLevel k code = eqb code (2 ^ (k - 1))
 
--- A code of k bits added to a heading, modulo 2N. A negative code is 2 to the k less; 2 to the k times a multiple of 2N is added so
--- that no difference is below zero.
+-- A code of k bits added to a heading, modulo 2N. A negative code is 2 to the k less, which modulo 2N is 2N - 1 times 2 to the k
+-- more.
 abbrev pub turned : (n k heading code : ℕ) → ℕ
 turned n k heading code = (heading + code + pick (ltb code (2 ^ (k - 1))) 0 ((2 * n - 1) * 2 ^ k)) % (2 * n)
 

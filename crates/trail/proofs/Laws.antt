@@ -1,0 +1,43 @@
+-- The laws of a trail: each code but a level turn is added to the heading modulo 2N, and every number of a trail is small.
+use mathlib.Core.Path.{_≡_, refl, sym, ap, _∙_}
+use Prim.Native.Nat.{ℕ, zero, suc, _+_, _-_, _*_, _/_, _%_, _^_, _≤_, _<_}
+use native.Mathlib.Omega.{arith}
+use native.Mathlib.Nat.{add-mul, one-mul, mod-lt, mod-add-mod, add-mul-mod-self-left}
+use mathlib.Core.Bool.{Bool, true, false, not}
+use mathlib.Core.List.{List, [], _∷_, _++_}
+use lib.ListN.{length}
+use lib.Dec.{T, ltb}
+use Rattle.bits.specs.Choice.{pick, pick-yes, pick-no, pick-case}
+use Rattle.bits.specs.Lists.{All, all-append}
+use Rattle.bits.specs.Bits.{val}
+use Rattle.trail.specs.Trail.{turnsLevel, turned, follow}
+
+-- a code that is not negative is added
+pub turned-up : (n k heading code : ℕ) → T (ltb code (2 ^ (k - 1))) → turned n k heading code ≡ (heading + code) % (2 * n)
+turned-up n k heading code t =
+    let e : heading + code + 0 ≡ heading + code = omega arith in
+    ap (λ (x : ℕ). (heading + code + x) % (2 * n)) (pick-yes (ltb code (2 ^ (k - 1))) _ _ t) ∙ ap (λ (x : ℕ). x % (2 * n)) e
+
+-- a negative one is 2 to the k less: adding that again gives the sum
+pub turned-down : (n k heading code : ℕ) → 0 < n → T (not (ltb code (2 ^ (k - 1)))) → (turned n k heading code + 2 ^ k) % (2 * n) ≡ (heading + code) % (2 * n)
+turned-down n k heading code p t =
+    let m : ℕ = 2 ^ k in
+    let e : (2 * n - 1) * m + m ≡ 2 * n * m = sym (ap (λ (x : ℕ). (2 * n - 1) * m + x) (one-mul m)) ∙ sym (add-mul (2 * n - 1) 1 m) ∙ ap (λ (x : ℕ). x * m) (omega arith) in
+    let z : heading + code + (2 * n - 1) * m + m ≡ heading + code + 2 * n * m = omega arith in
+    ap (λ (x : ℕ). ((heading + code + x) % (2 * n) + m) % (2 * n)) (pick-no (ltb code (2 ^ (k - 1))) _ _ t)
+    ∙ mod-add-mod (heading + code + (2 * n - 1) * m) (2 * n) m ∙ ap (λ (x : ℕ). x % (2 * n)) z ∙ add-mul-mod-self-left (heading + code) (2 * n) m
+
+-- every number of a trail is below 4N
+pub trail-small : (n k : ℕ) (high : Bool) (heading : ℕ) (codes : List ℕ) → 0 < n → heading < 2 * n → All (λ x. x < 4 * n) (follow n k high heading codes)
+trail-small n k high heading [] p h = tt
+trail-small n k high heading (c ∷ cs) p h =
+    let now : ℕ = pick (turnsLevel k c) heading (turned n k heading c) in
+    let l : now < 2 * n = pick-case (λ (x : ℕ). x < 2 * n) (turnsLevel k c) _ _ (λ t. h) (λ t. mod-lt _ (omega arith)) in
+    let v : val high ≤ 1 = one high in
+    all-append (λ x. x < 4 * n) (pick (turnsLevel k c) [] ((2 * now + val high) ∷ [])) _
+    (pick-case (All (λ x. x < 4 * n)) (turnsLevel k c) [] _ (λ t. tt) (λ t. (omega arith, tt)))
+    (trail-small n k _ now cs p l)
+  where
+    one : (b : Bool) → val b ≤ 1
+    one true = omega arith
+    one false = omega arith
