@@ -1,3 +1,4 @@
 -- The laws of the formats, by topic.
 pub mod Size
 pub mod Record
+pub mod Call

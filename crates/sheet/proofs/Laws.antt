@@ -6,3 +6,4 @@ pub mod Lengths
 pub mod Fits
 pub mod Allowed
 pub mod Sheet
+pub mod Calls

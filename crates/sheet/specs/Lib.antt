@@ -3,3 +3,4 @@ pub mod Grammar
 pub mod Code
 pub mod Values
 pub mod Sheet
+pub mod Sample
