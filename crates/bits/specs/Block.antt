@@ -22,6 +22,10 @@ pub record Block (A : Type 0) : Type 1 where
   -- it is used up
   pub all : (s : Bits) (a : A) (r : Bits) → dec s ≡ got a r → r ≡ []
 
+-- so few bits may be left over: 0 to 7
+abbrev pub few : ℕ → Bool
+few n = ltb n 8
+
 -- the rest is zero bits; e is the refusal at the first that is not
 abbrev pub zerosDec : ℕ → Bits → Read Bool (Unit {0})
 zerosDec e [] = got tt []
@@ -35,13 +39,13 @@ module _ {A : Type 0} (c : Codec Bool A) (bad over : ℕ) where
   lastBits s = next (zerosDec bad s) (λ u r. got [] r)
 
   abbrev pub manyDec : ℕ → Bits → Read Bool (List A)
-  manyDec zero s = pick (ltb (length s) 8) (lastBits s) (refused over (length s))
-  manyDec (suc n) s = pick (ltb (length s) 8) (lastBits s) (next (c .dec s) (λ x r. next (manyDec n r) (λ xs q. got (x ∷ xs) q)))
+  manyDec zero s = pick (few (length s)) (lastBits s) (refused over (length s))
+  manyDec (suc n) s = pick (few (length s)) (lastBits s) (next (c .dec s) (λ x r. next (manyDec n r) (λ xs q. got (x ∷ xs) q)))
 
 -- one value, then 0 to 7 zero bits; where eight or more are left and all are zero, the eighth is at fault
 module _ {A : Type 0} (c : Codec Bool A) (bad : ℕ) where
   abbrev pub endDec : A → Bits → Read Bool A
-  endDec a r = next (zerosDec bad r) (λ u q. pick (ltb (length r) 8) (got a []) (refused bad (length r - 7)))
+  endDec a r = next (zerosDec bad r) (λ u q. pick (few (length r)) (got a []) (refused bad (length r - 7)))
 
   unfoldable pub endedDec : Bits → Read Bool A
   endedDec s = next (c .dec s) endDec

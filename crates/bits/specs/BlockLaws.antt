@@ -6,15 +6,26 @@ use mathlib.Core.Bool.{Bool, true, false, not}
 use mathlib.Core.Option.{Option, none, some}
 use mathlib.Core.List.{List, [], _∷_, _++_, append-assoc}
 use lib.ListN.{length, length-append, length-replicate}
-use lib.Dec.{T, ltb, lt→ltb, ltb→lt}
-use mir.Facts.{no-ltb}
+use lib.Dec.{T}
+use mir.Facts.{ltb-yes, yes-ltb, no-ltb}
 use Rattle.bits.specs.Choice.{pick, pick-yes, pick-no, pick-split}
 use Rattle.bits.specs.Lists.{All}
 use Rattle.bits.specs.Bits.{Bits, zeros, pad, filled}
 use Rattle.bits.specs.BitsLaws.{pad-lt, pad-is, filled-bytes}
 use Rattle.bits.specs.Codec.{Read, got, refused, next, Codec}
 use Rattle.bits.specs.CodecLaws.{not-got, pick-got, next-got, encAll}
-use Rattle.bits.specs.Block.{Block, zerosDec, manyDec, endedDec, maybeDec, fillDec}
+use Rattle.bits.specs.Block.{Block, few, zerosDec, manyDec, endedDec, maybeDec, fillDec}
+
+-- ---- few
+
+few-yes : (n : ℕ) → n < 8 → T (few n)
+few-yes n h = yes-ltb {a = n} (omega arith)
+
+few-no : (n : ℕ) → 8 ≤ n → T (not (few n))
+few-no n h = no-ltb {a = n} (omega arith)
+
+few-lt : (n : ℕ) → T (few n) → n < 8
+few-lt n t = let h = ltb-yes {a = n} t in omega arith
 
 -- ---- zeros
 
@@ -35,12 +46,12 @@ pub record ManyFits {A : Type 0} (c : Codec Bool A) (n : ℕ) (xs : List A) : Ty
 
 module _ {A : Type 0} (c : Codec Bool A) (bad over : ℕ) where
   many-end : (n k : ℕ) → k < 8 → manyDec c bad over n (zeros k) ≡ got [] []
-  many-end zero k h = pick-yes (ltb (length (zeros k)) 8) _ _ (lt→ltb (length (zeros k)) 8 (simp length-replicate h)) ∙ rw (zeros-there bad k)
-  many-end (suc n) k h = pick-yes (ltb (length (zeros k)) 8) _ _ (lt→ltb (length (zeros k)) 8 (simp length-replicate h)) ∙ rw (zeros-there bad k)
+  many-end zero k h = pick-yes (few (length (zeros k))) _ _ (few-yes (length (zeros k)) (simp length-replicate h)) ∙ rw (zeros-there bad k)
+  many-end (suc n) k h = pick-yes (few (length (zeros k))) _ _ (few-yes (length (zeros k)) (simp length-replicate h)) ∙ rw (zeros-there bad k)
 
   -- where no more values may come and eight bits or more are left, that is the refusal, whatever they are
   pub many-over : (s : Bits) → 8 ≤ length s → manyDec c bad over 0 s ≡ refused over (length s)
-  many-over s h = pick-no (ltb (length s) 8) _ _ (no-ltb h)
+  many-over s h = pick-no (few (length s)) _ _ (few-no (length s) h)
 
   pub many-to : (long : (x : A) → 8 ≤ length (c .enc x)) (n k : ℕ) (xs : List A) → k < 8 → length xs ≤ n → All (c .Fits) xs
       → manyDec c bad over n (encAll c xs ++ zeros k) ≡ got xs []
@@ -48,7 +59,7 @@ module _ {A : Type 0} (c : Codec Bool A) (bad over : ℕ) where
   many-to long zero k (x ∷ xs) h l f = absurd (omega arith)
   many-to long (suc n) k (x ∷ xs) h l f =
       let far : 8 ≤ length (c .enc x ++ encAll c xs ++ zeros k) = simp length-append (omega (arith, long x)) in
-      pick-no (ltb (length (c .enc x ++ encAll c xs ++ zeros k)) 8) _ _ (no-ltb far)
+      pick-no (few (length (c .enc x ++ encAll c xs ++ zeros k))) _ _ (few-no _ far)
       ∙ rw (append-assoc, c .there, f .0) (rw (many-to long n k xs h (omega arith) (f .1)))
 
   -- what is read: the values written, then fewer than eight zero bits; and nothing is left
@@ -59,17 +70,17 @@ module _ {A : Type 0} (c : Codec Bool A) (bad over : ℕ) where
     pub is : s ≡ encAll c xs ++ zeros left
     pub none : r ≡ []
 
-  many-last : (n : ℕ) (s : Bits) (ys : List A) (r : Bits) → T (ltb (length s) 8) → next (zerosDec bad s) (λ u q. got [] q) ≡ got ys r → Read-many n s ys r
+  many-last : (n : ℕ) (s : Bits) (ys : List A) (r : Bits) → T (few (length s)) → next (zerosDec bad s) (λ u q. got [] q) ≡ got ys r → Read-many n s ys r
   many-last n s ys r t e =
       next-got (zerosDec bad s) _ e λ v q z h1.
       let u : [] ≡ ys = cc in
       let w : q ≡ r = cc in
-      rw (← u) (record { fits = record { most = omega arith; all = tt }; left = length s; few = ltb→lt (length s) 8 t; is = zeros-back bad s z .0; none = sym w ∙ zeros-back bad s z .1 })
+      rw (← u) (record { fits = record { most = omega arith; all = tt }; left = length s; few = few-lt (length s) t; is = zeros-back bad s z .0; none = sym w ∙ zeros-back bad s z .1 })
 
   pub many-from : (n : ℕ) (s : Bits) (xs : List A) (r : Bits) → manyDec c bad over n s ≡ got xs r → Read-many n s xs r
-  many-from zero s ys r p = pick-split (ltb (length s) 8) _ _ p (λ t e. many-last zero s ys r t e) (λ t e. not-got e)
+  many-from zero s ys r p = pick-split (few (length s)) _ _ p (λ t e. many-last zero s ys r t e) (λ t e. not-got e)
   many-from (suc n) s ys r p =
-      pick-split (ltb (length s) 8) _ _ p (λ t e. many-last (suc n) s ys r t e)
+      pick-split (few (length s)) _ _ p (λ t e. many-last (suc n) s ys r t e)
       (λ t e. next-got (c .dec s) _ e λ x q e1 h1.
       next-got (manyDec c bad over n q) _ h1 λ xs v e2 h2.
       let u : (x ∷ xs) ≡ ys = cc in
@@ -115,22 +126,22 @@ module _ {A : Type 0} (c : Codec Bool A) (bad : ℕ) where
   ended-there a h =
       let k : ℕ = pad (length (c .enc a)) in
       let u : length (zeros k) < 8 = simp length-replicate (pad-lt (length (c .enc a))) in
-      rw (c .there a (zeros k) h, zeros-there bad k) (pick-yes (ltb (length (zeros k)) 8) _ _ (lt→ltb (length (zeros k)) 8 u))
+      rw (c .there a (zeros k) h, zeros-there bad k) (pick-yes (few (length (zeros k))) _ _ (few-yes (length (zeros k)) u))
 
   pub ended-back : (s : Bits) (a : A) → length s % 8 ≡ 0 → endedDec c bad s ≡ got a [] → c .Fits a × (s ≡ filled (c .enc a))
   unfolding endedDec
   ended-back s a l p =
       next-got (c .dec s) _ p λ b r e h.
       next-got (zerosDec bad r) _ h λ v y zr h2.
-      let (t, u, w) = pick-got (ltb (length r) 8) b [] bad _ h2 in
+      let (t, u, w) = pick-got (few (length r)) b [] bad _ h2 in
       let (f, g) = c .back s b r e in
       let z : length (c .enc b) + length r ≡ length s = sym (ap length g ∙ simp length-append) in
-      let q : length r ≡ pad (length (c .enc b)) = pad-is (length (c .enc b)) (length r) (ltb→lt (length r) 8 t) (rw z l) in
+      let q : length r ≡ pad (length (c .enc b)) = pad-is (length (c .enc b)) (length r) (few-lt (length r) t) (rw z l) in
       rw (← u) (f, g ∙ ap (λ (x : Bits). c .enc b ++ x) (zeros-back bad r zr .0 ∙ ap zeros q))
 
   pub ended-all : (s : Bits) (a : A) (r : Bits) → endedDec c bad s ≡ got a r → r ≡ []
   unfolding endedDec
-  ended-all s a r p = next-got (c .dec s) _ p λ b q e h. next-got (zerosDec bad q) _ h λ u v z k. sym (pick-got (ltb (length q) 8) b [] bad _ k .2)
+  ended-all s a r p = next-got (c .dec s) _ p λ b q e h. next-got (zerosDec bad q) _ h λ u v z k. sym (pick-got (few (length q)) b [] bad _ k .2)
 
   abbrev pub ended : Block A
   ended =

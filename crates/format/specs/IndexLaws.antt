@@ -53,12 +53,6 @@ undiffs-diffs m l (n ∷ ns) h =
     let e : l - (l - n) ≡ n = omega arith in
     rw e (ap (λ (r : List ℕ). n ∷ r) (undiffs-diffs 1 n ns (h .1)))
 
-pub falls-steps : (w m l : ℕ) (ns : List ℕ) → Falls m l ns → All (λ d. d < 2 ^ w) (diffs l ns) → Steps w m l (diffs l ns)
-falls-steps w m l [] h f = tt
-falls-steps w m l (n ∷ ns) h f =
-    let e : l - (l - n) ≡ n = omega arith in
-    ((f .0, within-yes m l (l - n) (omega arith) (omega arith)), rw e (falls-steps w 1 n ns (h .1) (f .1)))
-
 pub steps-falls : (w m l : ℕ) (ds : List ℕ) → Steps w m l ds → Falls m l (undiffs l ds) × (diffs l (undiffs l ds) ≡ ds) × All (λ d. d < 2 ^ w) ds
 steps-falls w m l [] h = (tt, refl, tt)
 steps-falls w m l (d ∷ ds) h =
@@ -66,6 +60,12 @@ steps-falls w m l (d ∷ ds) h =
     let hi : d ≤ l = within-high m l d (h .0 .1) in
     let (f, e, g) = steps-falls w 1 (l - d) ds (h .1) in
     ((omega arith, f), ap₂ (λ (x : ℕ) (y : List ℕ). x ∷ y) (omega arith) e, (h .0 .0, g))
+
+pub falls-steps : (w m l : ℕ) (ns : List ℕ) → Falls m l ns → All (λ d. d < 2 ^ w) (diffs l ns) → Steps w m l (diffs l ns)
+falls-steps w m l [] h f = tt
+falls-steps w m l (n ∷ ns) h f =
+    let e : l - (l - n) ≡ n = omega arith in
+    ((f .0, within-yes m l (l - n) (omega arith) (omega arith)), rw e (falls-steps w 1 n ns (h .1) (f .1)))
 
 pub falls-less : (m k l : ℕ) (ns : List ℕ) → k ≤ m → Falls m l ns → Falls k l ns
 falls-less m k l [] h f = tt

@@ -5,12 +5,11 @@ use Prim.Native.Nat.{ℕ, _+_, _-_, _*_, _%_, _^_, _≤_, _<_}
 use native.Mathlib.Omega.{arith}
 use native.Mathlib.Nat.{mod-eq-of-lt, add-mul-mod-self-right}
 use mathlib.Core.Bool.{Bool}
-use lib.Dec.{T, ltb, eqb}
-use mir.Facts.{yes-eqb}
+use lib.Dec.{T, ltb, eqb, eqb-refl}
 use lib.Pow.{pow-mono, high-ones}
 use Rattle.bits.specs.Choice.{pick, pick-case, split}
 
-abbrev pub extended : ℕ → ℕ → ℕ
+unfoldable pub extended : ℕ → ℕ → ℕ
 extended k n = pick (ltb n (2 ^ (k - 1))) n (n + (2 ^ 8 - 2 ^ k))
 
 -- a byte that is the extension of its lowest k bits
@@ -29,7 +28,8 @@ raised k n h =
 
 -- the lowest k bits of the byte are the code
 pub extended-low : (k n : ℕ) → n < 2 ^ k → extended k n % 2 ^ k ≡ n
+unfolding extended
 extended-low k n h = pick-case (λ (x : ℕ). x % 2 ^ k ≡ n) (ltb n (2 ^ (k - 1))) _ _ (λ t. mod-eq-of-lt h) (λ t. raised k n h)
 
 pub extended-ok : (k n : ℕ) → n < 2 ^ k → T (codeOk k (extended k n))
-extended-ok k n h = yes-eqb {a = extended k (extended k n % 2 ^ k)} {b = extended k n} (ap (extended k) (extended-low k n h))
+extended-ok k n h = rw (extended-low k n h) (eqb-refl (extended k n))

@@ -10,7 +10,7 @@ use lib.Dec.{T, ltb}
 use Rattle.bits.specs.Choice.{pick, pick-yes, pick-no, pick-case}
 use Rattle.bits.specs.Lists.{All, all-append}
 use Rattle.bits.specs.Bits.{val}
-use Rattle.trail.specs.Trail.{turnsLevel, turned, follow}
+use Rattle.trail.specs.Trail.{turnsLevel, turned, newHeading, follow}
 
 -- a code that is not negative is added
 pub turned-up : (n k heading code : ℕ) → T (ltb code (2 ^ (k - 1))) → turned n k heading code ≡ (heading + code) % (2 * n)
@@ -27,12 +27,17 @@ turned-down n k heading code p t =
     ap (λ (x : ℕ). ((heading + code + x) % (2 * n) + m) % (2 * n)) (pick-no (ltb code (2 ^ (k - 1))) _ _ t)
     ∙ mod-add-mod (heading + code + (2 * n - 1) * m) (2 * n) m ∙ ap (λ (x : ℕ). x % (2 * n)) z ∙ add-mul-mod-self-left (heading + code) (2 * n) m
 
+heading-small : (n k heading code : ℕ) → 0 < n → heading < 2 * n → newHeading n k heading code < 2 * n
+heading-small n k heading code p h =
+    let m : turned n k heading code < 2 * n = mod-lt _ (omega arith) in
+    pick-case (λ (x : ℕ). x < 2 * n) (turnsLevel k code) _ _ (λ t. omega arith) (λ t. omega arith)
+
 -- every number of a trail is below 4N
 pub trail-small : (n k : ℕ) (high : Bool) (heading : ℕ) (codes : List ℕ) → 0 < n → heading < 2 * n → All (λ x. x < 4 * n) (follow n k high heading codes)
 trail-small n k high heading [] p h = tt
 trail-small n k high heading (c ∷ cs) p h =
-    let now : ℕ = pick (turnsLevel k c) heading (turned n k heading c) in
-    let l : now < 2 * n = pick-case (λ (x : ℕ). x < 2 * n) (turnsLevel k c) _ _ (λ t. h) (λ t. mod-lt _ (omega arith)) in
+    let now : ℕ = newHeading n k heading c in
+    let l : now < 2 * n = heading-small n k heading c p h in
     let v : val high ≤ 1 = one high in
     all-append (λ x. x < 4 * n) (pick (turnsLevel k c) [] ((2 * now + val high) ∷ [])) _
     (pick-case (All (λ x. x < 4 * n)) (turnsLevel k c) [] _ (λ t. tt) (λ t. (omega arith, tt)))

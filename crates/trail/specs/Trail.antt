@@ -29,12 +29,16 @@ turnsLevel k code = eqb code (2 ^ (k - 1))
 abbrev pub turned : (n k heading code : ℕ) → ℕ
 turned n k heading code = (heading + code + pick (ltb code (2 ^ (k - 1))) 0 ((2 * n - 1) * 2 ^ k)) % (2 * n)
 
+-- the heading after a code
+abbrev pub newHeading : (n k heading code : ℕ) → ℕ
+newHeading n k heading code = pick (turnsLevel k code) heading (turned n k heading code)
+
 -- high: the level is 1
 abbrev pub follow : (n k : ℕ) → Bool → ℕ → List ℕ → List ℕ
 follow n k high heading [] = []
 follow n k high heading (code ∷ codes) =
     let turns : Bool = turnsLevel k code in
-    let now : ℕ = pick turns heading (turned n k heading code) in
+    let now : ℕ = newHeading n k heading code in
     pick turns [] ((2 * now + val high) ∷ []) ++ follow n k (pick turns (not high) high) now codes
 
 unfoldable pub trail : Scale → Line → List ℕ

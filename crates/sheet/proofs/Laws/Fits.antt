@@ -62,6 +62,7 @@ end-fits w p v =
     }
 
 code-byte : (k n : ℕ) → k ≤ 8 → n < 2 ^ k → Byte (extended k n)
+unfolding extended
 code-byte k n l h =
     let p : 2 ^ k ≤ 2 ^ 8 = pow-mono l in
     pick-case Byte (ltb n (2 ^ (k - 1))) _ _ (λ t. omega arith) (λ t. omega arith)
@@ -140,18 +141,18 @@ falls-small m l k (n ∷ ns) h f = (omega arith, falls-small 1 n k ns (omega ari
 abbrev listTests : ℕ → ℕ → List ℕ → List Bool
 listTests w l ns = fallsOk 0 l ns ∷ ltb (length ns) (2 ^ w) ∷ every (λ d. ltb d (2 ^ w)) (diffs l ns) ∷ []
 
+list-fits : (w l : ℕ) (ns : List ℕ) → listValue w l .Fits ns → FitsList w l ns
+unfolding listValue
+list-fits w l ns v =
+    let t = all-true (listTests w l ns) (v .1) in
+    record { falls = yes-falls 0 l ns (t .0); count = ltb→lt (length ns) (2 ^ w) (t .1 .0); diffs = all-below (2 ^ w) (diffs l ns) (t .1 .1 .0) }
+
 list-value : (w l : ℕ) (ns : List ℕ) → l < 2 ^ 16 → FitsList w l ns → listValue w l .Fits ns
 unfolding listValue
 list-value w l ns h f = (
   falls-small 0 l (2 ^ 16) ns h (f .falls),
   true-all (listTests w l ns) (falls-yes 0 l ns (f .falls), (lt→ltb (length ns) (2 ^ w) (f .count), (below-all (2 ^ w) (diffs l ns) (f .diffs), tt))),
 )
-
-list-fits : (w l : ℕ) (ns : List ℕ) → listValue w l .Fits ns → FitsList w l ns
-unfolding listValue
-list-fits w l ns v =
-    let t = all-true (listTests w l ns) (v .1) in
-    record { falls = yes-falls 0 l ns (t .0); count = ltb→lt (length ns) (2 ^ w) (t .1 .0); diffs = all-below (2 ^ w) (diffs l ns) (t .1 .1 .0) }
 
 -- ---- an index
 
