@@ -1,6 +1,7 @@
 -- Sample A of document 01, and the parts that other samples share with it.
 use Prim.Native.Nat.{ℕ, zero, suc, _/_, _%_}
 use mathlib.Core.List.{List, [], _∷_, _++_}
+use lib.ListN.{replicate}
 
 abbrev pub sampleA : List ℕ
 sampleA =
@@ -27,3 +28,10 @@ linesA (suc n) = 0x50 ∷ 0x02 ∷ 0x85 ∷ 0x00 ∷ 0x48 ∷ 0xC0 ∷ 0x0E ∷ 
 -- no lines, no index, no segments; b bits of a direction
 abbrev pub bare : ℕ → List ℕ
 bare b = headerA 38 b ++ viewHeaderA 0 ++ 0x00 ∷ 0x00 ∷ 0x00 ∷ 0x00 ∷ []
+
+-- 31 lines, line 30 next to 15 and 0; and the same without line 15, where the difference is 29 and w is 5
+abbrev pub wide : List ℕ
+wide = headerA 304 8 ++ viewHeaderA 248 ++ linesA 31 ++ 0x00 ∷ 0x12 ∷ 0x04 ∷ replicate 15 0x00 ++ 0x2F ∷ 0xF0 ∷ 0x00 ∷ 0x00 ∷ []
+
+abbrev pub wider : List ℕ
+wider = headerA 299 8 ++ viewHeaderA 240 ++ linesA 30 ++ 0x00 ∷ 0x15 ∷ 0x05 ∷ replicate 18 0x00 ++ 0x07 ∷ 0xA0 ∷ 0x00 ∷ 0x00 ∷ []

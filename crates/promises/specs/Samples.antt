@@ -1,12 +1,11 @@
 -- The samples P1 to P11 of document 01, as one table: a job, what must come of it, and how many elements that is.
 use Prim.Native.Nat.{ℕ}
 use mathlib.Core.List.{List, [], _∷_, _++_}
-use lib.ListN.{replicate}
 use Rattle.outcome.specs.Refusals.{badHeader, past, otherCount, alreadySo}
 use Rattle.outcome.specs.Outcome.{Outcome, refused, given, lengthOf}
 use Rattle.format.specs.Record.{write}
 use Rattle.format.specs.Call.{onRecord}
-use Rattle.format.specs.Sample.{sampleA, headerA, viewHeaderA, linesA, bare}
+use Rattle.format.specs.Sample.{sampleA, headerA, viewHeaderA, linesA, bare, wide, wider}
 use Rattle.sheet.specs.Sheet.{reading, writing}
 use Rattle.sheet.specs.Sample.{sheetA}
 use Rattle.trail.specs.Trail.{trailing}
@@ -46,13 +45,6 @@ levelLine = headerA 47 8 ++ viewHeaderA 9 ++ 0x50 ∷ 0x02 ∷ 0x85 ∷ 0x00 ∷
 -- A's line with start direction 3 and the codes 0 and 2
 abbrev directionThree : List ℕ
 directionThree = headerA 47 8 ++ viewHeaderA 9 ++ 0x40 ∷ 0xC2 ∷ 0x85 ∷ 0x00 ∷ 0x80 ∷ 0x8C ∷ 0x00 ∷ 0xE1 ∷ 0x40 ∷ 0x00 ∷ 0x00 ∷ 0x00 ∷ 0x00 ∷ []
-
--- 31 lines, line 30 next to 15 and 0; and the same without line 15
-abbrev beforeP11 : List ℕ
-beforeP11 = headerA 304 8 ++ viewHeaderA 248 ++ linesA 31 ++ 0x00 ∷ 0x12 ∷ 0x04 ∷ replicate 15 0x00 ++ 0x2F ∷ 0xF0 ∷ 0x00 ∷ 0x00 ∷ []
-
-abbrev afterP11 : List ℕ
-afterP11 = headerA 299 8 ++ viewHeaderA 240 ++ linesA 30 ++ 0x00 ∷ 0x15 ∷ 0x05 ∷ replicate 18 0x00 ++ 0x07 ∷ 0xA0 ∷ 0x00 ∷ 0x00 ∷ []
 
 -- ---- the table
 
@@ -100,5 +92,5 @@ table =
     -- P10: heading 0, then 2
     ∷ row (trails 0 0 directionThree) (given (0 ∷ 4 ∷ [])) 2
     -- P11
-    ∷ row (orders (record { view = 0; count = 31; act = remove (15 ∷ []) }) beforeP11) (given afterP11) 299
+    ∷ row (orders (record { view = 0; count = 31; act = remove (15 ∷ []) }) wide) (given wider) 299
     ∷ []

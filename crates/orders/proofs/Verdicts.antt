@@ -1,0 +1,82 @@
+-- Orders, computed: the refusals 13 to 18 in their order, and the records that accepted orders leave.
+use mathlib.Core.Path.{_≡_, refl}
+use Prim.Native.Nat.{ℕ}
+use mathlib.Core.List.{List, [], _∷_, _++_, map}
+use lib.ListN.{set}
+use Rattle.bits.specs.Bits.{numberOf, bitsOfNumber}
+use Rattle.bits.specs.Bytes.{bitsOf, bytesOf}
+use Rattle.bits.specs.Codec.{thenDec, viaDec, onlyDec, judgedDec, wholeDec, roomDec}
+use Rattle.bits.specs.Block.{endedDec, sizedDec}
+use Rattle.outcome.specs.Outcome.{Outcome, refused, given}
+use Rattle.format.specs.Limits.{mostLines, leastBytes, mostBytes}
+use Rattle.format.specs.Line.{end, line, skeleton}
+use Rattle.format.specs.Index.{index, indexBlock}
+use Rattle.format.specs.Segments.{segment, segments}
+use Rattle.format.specs.View.{view, viewHeader}
+use Rattle.format.specs.Record.{header, views, recordOf, read, size, write}
+use Rattle.format.specs.Call.{onRecord}
+use Rattle.format.specs.Sample.{sampleA, headerA, viewHeaderA, linesA, wide, wider}
+use Rattle.orders.specs.Least.{leastWidth}
+use Rattle.orders.specs.Act.{Act, remove, join, part, near, after}
+use Rattle.orders.specs.Order.{Order, edited, tests, allTests, verdict, order}
+
+-- two lines: with an index of these bytes, and with these segments
+abbrev twoLines : ℕ → List ℕ → List ℕ → List ℕ
+twoLines n index segments = headerA n 8 ++ viewHeaderA 16 ++ linesA 2 ++ index ++ segments
+
+abbrev none : List ℕ
+none = 0x00 ∷ 0x00 ∷ []
+
+abbrev indexed : ℕ → List ℕ
+indexed lists = 0x00 ∷ 0x02 ∷ 0x01 ∷ lists ∷ []
+
+pub record Row : Type 0 where
+  pub order : Order
+  pub bytes : List ℕ
+  pub gives : Outcome ℕ
+
+-- on view 0 of two lines
+abbrev row : Act → List ℕ → Outcome ℕ → Row
+row a bytes o = record { order = record { view = 0; count = 2; act = a }; bytes = bytes; gives = o }
+
+abbrev parted : List ℕ
+parted = twoLines 56 (indexed 0x00) none
+
+abbrev withSegment : List ℕ
+withSegment = twoLines 60 (indexed 0x60) (0x00 ∷ 0x04 ∷ 0x00 ∷ 0x03 ∷ 0x00 ∷ 0x04 ∷ [])
+
+abbrev table : List Row
+table =
+    -- the record's own refusal first, with its place
+    row (remove (0 ∷ [])) (set sampleA 17 3) (refused 5 136)
+    -- 13, 14
+    ∷ record { order = record { view = 1; count = 0; act = remove [] }; bytes = sampleA; gives = refused 13 0 }
+    ∷ record { order = record { view = 0; count = 3; act = remove [] }; bytes = sampleA; gives = refused 14 0 }
+    -- 15, also before 16
+    ∷ row (remove []) withSegment (refused 15 0) ∷ row (remove (2 ∷ [])) sampleA (refused 15 0) ∷ row (remove (0 ∷ 0 ∷ [])) sampleA (refused 15 0)
+    ∷ row (remove (1 ∷ 0 ∷ [])) sampleA (refused 15 0) ∷ row (join 0 2) sampleA (refused 15 0) ∷ row (part 2 0) sampleA (refused 15 0)
+    -- 16
+    ∷ row (remove (0 ∷ [])) withSegment (refused 16 0)
+    -- 17, also before 15
+    ∷ row (join 0 1) (twoLines 54 none none) (refused 17 0) ∷ row (part 0 2) (twoLines 54 none none) (refused 17 0)
+    -- 18
+    ∷ row (join 0 1) sampleA (refused 18 0) ∷ row (join 1 0) sampleA (refused 18 0) ∷ row (part 0 0) sampleA (refused 18 0)
+    -- parted, joined, a line next to itself; segments are no hindrance to a pair
+    ∷ row (part 1 0) sampleA (given parted) ∷ row (join 1 0) parted (given sampleA) ∷ row (join 1 1) parted (given (twoLines 56 (indexed 0x40) none))
+    ∷ row (part 0 1) withSegment (given (twoLines 60 (indexed 0x00) (0x00 ∷ 0x04 ∷ 0x00 ∷ 0x03 ∷ 0x00 ∷ 0x04 ∷ [])))
+    -- all lines removed: an index stays, and stays absent
+    ∷ row (remove (0 ∷ 1 ∷ [])) sampleA (given (headerA 39 8 ++ viewHeaderA 0 ++ 0x00 ∷ 0x01 ∷ 0x01 ∷ 0x00 ∷ 0x00 ∷ []))
+    ∷ row (remove (0 ∷ 1 ∷ [])) (twoLines 54 none none) (given (headerA 38 8 ++ viewHeaderA 0 ++ none ++ none))
+    -- a removal that lengthens the index
+    ∷ record { order = record { view = 0; count = 31; act = remove (15 ∷ []) }; bytes = wide; gives = given wider }
+    ∷ []
+
+abbrev computed : Row → Outcome ℕ
+computed r = order (r .order) (r .bytes)
+
+abbrev expected : Row → Outcome ℕ
+expected r = r .gives
+
+verdicts : map computed table ≡ map expected table
+unfolding numberOf bitsOfNumber bitsOf bytesOf thenDec viaDec onlyDec judgedDec wholeDec roomDec endedDec sizedDec mostLines leastBytes mostBytes end line skeleton index indexBlock segment segments view viewHeader header views recordOf read size write onRecord leastWidth near after edited tests allTests verdict order
+verdicts = refl
