@@ -1,9 +1,10 @@
 -- What holds of every element of a list, alone (`All`) or by what the elements before it say (`Along`), and how it is taken
 -- apart and put together by places.
 use mathlib.Core.Path.{_≡_, refl, ap}
-use Prim.Native.Nat.{ℕ, zero, suc, _<_}
+use Prim.Native.Nat.{ℕ, zero, suc, _+_, _<_}
 use native.Mathlib.Omega.{arith}
 use mathlib.Core.Bool.{Bool, true, false, _&&_}
+use mathlib.Core.Option.{Option, none, some, Option·map}
 use mathlib.Core.List.{List, [], _∷_, _++_, map}
 use lib.ListN.{length, getD}
 use lib.Dec.{T}
@@ -82,6 +83,26 @@ module _ {I A : Type 0} (m : I → A → I) where
   along-all P i [] h = tt
   along-all P i (x ∷ xs) h = (h .0, along-all P (m i x) xs (h .1))
 
+-- what holds along a list holds at each place, for what the elements before it say
+pub along-at : {I A : Type 0} (m : I → A → I) (P : I → A → Type 0) (d : A) (i : I) (xs : List A) (p : ℕ) → p < length xs → Along m P i xs
+    → (j : I) × P j (getD xs p d)
+along-at m P d i [] p l h = absurd (omega arith)
+along-at m P d i (x ∷ xs) zero l h = (i, h .0)
+along-at m P d i (x ∷ xs) (suc p) l h = along-at m P d (m i x) xs p (omega arith) (h .1)
+
+-- along a list that counts up from n
+module _ {A : Type 0} (P : ℕ → A → Type 0) (d : A) where
+  pub along-up : (n : ℕ) (xs : List A) (p : ℕ) → p < length xs → Along (λ i x. suc i) P n xs → P (n + p) (getD xs p d)
+  along-up n [] p l h = absurd (omega arith)
+  along-up n (x ∷ xs) zero l h = let e : n + 0 ≡ n = omega arith in rw e (h .0)
+  along-up n (x ∷ xs) (suc p) l h = let e : n + suc p ≡ suc n + p = omega arith in rw e (along-up (suc n) xs p (omega arith) (h .1))
+
+  pub up-along : (n : ℕ) (xs : List A) → ((p : ℕ) → p < length xs → P (n + p) (getD xs p d)) → Along (λ i x. suc i) P n xs
+  up-along n [] f = tt
+  up-along n (x ∷ xs) f =
+      let e : n + 0 ≡ n = omega arith in
+      (rw e at (f 0 (omega arith)), up-along (suc n) xs (λ p l. let z : n + suc p ≡ suc n + p = omega arith in rw z at (f (suc p) (omega arith))))
+
 -- ---- every
 
 pub every-yes : {A : Type 0} (t : A → Bool) (xs : List A) → All (λ x. T (t x)) xs → T (every t xs)
@@ -103,3 +124,10 @@ all-true ts h = yes-every (λ t. t) ts h
 pub empty-is : {A : Type 0} (xs : List A) → empty? xs ≡ true → xs ≡ []
 empty-is [] e = refl
 empty-is (x ∷ xs) e = let z : true ≡ false = cc in cc
+
+-- ---- Option
+
+-- what is mapped to a value was one
+pub mapped : {A B X : Type 0} (f : A → B) (o : Option A) (b : B) → Option·map f o ≡ some b → ((a : A) → o ≡ some a → f a ≡ b → X) → X
+mapped f none b e k = let z : _≡_ {A = ℕ} 0 1 = cc in absurd (omega arith)
+mapped f (some a) b e k = k a refl (cc)

@@ -71,11 +71,7 @@ pub falls-less : (m k l : ℕ) (ns : List ℕ) → k ≤ m → Falls m l ns → 
 falls-less m k l [] h f = tt
 falls-less m k l (n ∷ ns) h f = (omega arith, f .1)
 
--- a list that falls from l on has at most l numbers below l, and l itself may be one more
-pub falls-length : (l : ℕ) (ns : List ℕ) → Falls 1 l ns → length ns ≤ l
-falls-length l [] h = omega arith
-falls-length l (n ∷ ns) h = omega (arith, falls-length n ns (h .1))
-
-pub falls-count : (l : ℕ) (ns : List ℕ) → Falls 0 l ns → length ns ≤ suc l
-falls-count l [] h = omega arith
-falls-count l (n ∷ ns) h = omega (arith, falls-length n ns (h .1))
+-- at most l + 1 numbers fall from l on, and one less where the first is below l
+pub falls-count : (m l : ℕ) (ns : List ℕ) → m ≤ 1 → Falls m l ns → length ns + m ≤ suc l
+falls-count m l [] k h = omega arith
+falls-count m l (n ∷ ns) k h = omega (arith, falls-count 1 n ns (omega arith) (h .1))

@@ -1,14 +1,14 @@
 -- What an order does to its view. Being neighbours is mutual and is written once, at the higher line.
 use Prim.Native.Nat.{ℕ, min, max}
-use mathlib.Core.Bool.{Bool, true, false, not, _&&_}
+use mathlib.Core.Bool.{Bool, true, false}
 use mathlib.Core.Option.{Option, none, some, Option·map}
 use mathlib.Core.List.{List, [], _∷_, map}
-use lib.ListN.{length, getD, set}
+use lib.ListN.{getD, set}
 use lib.Dec.{ltb, eqb}
 use Rattle.bits.specs.Choice.{pick}
 use Rattle.format.specs.Line.{Line}
-use Rattle.format.specs.Index.{Index}
 use Rattle.format.specs.View.{View}
+use Rattle.format.specs.Places.{count, lineAt}
 use Rattle.orders.specs.Survive.{elem, survivors, renumber}
 use Rattle.orders.specs.Least.{indexOf}
 
@@ -18,16 +18,6 @@ pub data Act : Type 0 where
   part : ℕ → ℕ → Act
 
 -- ---- what a view holds
-
-abbrev pub count : View → ℕ
-count v = length (v .lines)
-
--- a line that no view has, for numbers behind the last
-abbrev pub noLine : Line
-noLine = record { start = record { kind = 0; direction = 0; x = 0; y = 0 }; codes = []; finish = record { kind = 0; direction = 0; x = 0; y = 0 } }
-
-abbrev pub lineAt : View → ℕ → Line
-lineAt v i = getD (v .lines) i noLine
 
 -- the lists of neighbours, where there is an index
 abbrev pub lists : View → Option (List (List ℕ))

@@ -1,16 +1,20 @@
 -- A sequence of orders. "Feeding each result to the next order is how a sequence is meant." A history tells what the accepted
 -- orders on one view say: which of its first lines are left, and what was last ordered about a pair of them.
 use mathlib.Core.Path.{_≡_}
-use Prim.Native.Nat.{ℕ, _<_, _≤_, min, max}
+use Prim.Native.Nat.{ℕ, suc, _<_, min, max}
 use mathlib.Core.Bool.{Bool, true, false, _&&_}
+use mathlib.Core.Option.{some}
 use mathlib.Core.List.{List, [], _∷_, map}
 use lib.ListN.{length}
 use lib.Dec.{eqb}
 use Rattle.bits.specs.Choice.{pick}
 use Rattle.outcome.specs.Outcome.{Outcome, refused, given, room, numberOf}
+use Rattle.format.specs.Index.{Index}
 use Rattle.format.specs.View.{View}
+use Rattle.format.specs.Places.{count, lineAt}
 use Rattle.orders.specs.Survive.{at, upFrom, survivors, RisesFrom}
-use Rattle.orders.specs.Act.{Act, remove, join, part, count, lineAt, near, indexed?}
+use Rattle.orders.specs.Least.{leastWidth}
+use Rattle.orders.specs.Act.{Act, remove, join, part, near, indexed?}
 use Rattle.orders.specs.Order.{Order, order}
 
 -- ---- a sequence, in bytes
@@ -40,19 +44,21 @@ pub record Word : Type 0 where
   pub other : ℕ
   pub joins : Bool
 
--- left: the lines that are left, by their numbers at the start; words: the accepted orders about pairs, the last first
+-- left: the lines that are left, by their numbers at the start; words: the accepted orders about pairs, the last first; accepted:
+-- how many orders on the view were accepted
 pub record History : Type 0 where
   pub left : List ℕ
   pub words : List Word
+  pub accepted : ℕ
 
 abbrev pub fresh : View → History
-fresh v = record { left = upFrom 0 (count v); words = [] }
+fresh v = record { left = upFrom 0 (count v); words = []; accepted = 0 }
 
 -- an accepted order, told to the history
 abbrev pub tell : Act → History → History
-tell (remove rs) h = record { left = map (at (h .left)) (survivors (length (h .left)) rs); words = h .words }
-tell (join a b) h = record { left = h .left; words = record { one = at (h .left) a; other = at (h .left) b; joins = true } ∷ h .words }
-tell (part a b) h = record { left = h .left; words = record { one = at (h .left) a; other = at (h .left) b; joins = false } ∷ h .words }
+tell (remove rs) h = record { left = map (at (h .left)) (survivors (length (h .left)) rs); words = h .words; accepted = suc (h .accepted) }
+tell (join a b) h = record { left = h .left; words = record { one = at (h .left) a; other = at (h .left) b; joins = true } ∷ h .words; accepted = suc (h .accepted) }
+tell (part a b) h = record { left = h .left; words = record { one = at (h .left) a; other = at (h .left) b; joins = false } ∷ h .words; accepted = suc (h .accepted) }
 
 -- the history of view i through a sequence
 abbrev pub history : ℕ → List Call → List ℕ → History → History
@@ -78,6 +84,9 @@ pub record Follows (v₀ v : View) (h : History) : Type 0 where
   pub head : v .head ≡ v₀ .head
   pub segments : v .segments ≡ v₀ .segments
   pub indexed : indexed? v ≡ indexed? v₀
+  -- a view on which no order was accepted is as it was; any other has its least width
+  pub spared : h .accepted ≡ 0 → v ≡ v₀
+  pub least : 0 < h .accepted → (i : Index) → v .index ≡ some i → i .width ≡ leastWidth (i .lists)
   -- the lines are those that are left, in their order
   pub counts : length (h .left) ≡ count v
   pub rises : RisesFrom 0 (h .left)

@@ -3,8 +3,7 @@
 use Prim.Native.Nat.{ℕ, suc}
 use mathlib.Core.Bool.{Bool, true, not, _&&_}
 use mathlib.Core.List.{List, [], _∷_, _++_}
-use mathlib.Core.Option.{none}
-use lib.ListN.{length, getD, set, take}
+use lib.ListN.{length, set, take}
 use lib.Dec.{leb, ltb, eqb}
 use Rattle.bits.specs.Choice.{pick}
 use Rattle.bits.specs.Lists.{empty?}
@@ -13,20 +12,14 @@ use Rattle.outcome.specs.Outcome.{Outcome, refused, given}
 use Rattle.format.specs.Limits.{mostBytes}
 use Rattle.format.specs.View.{View}
 use Rattle.format.specs.Record.{Record, write, size}
+use Rattle.format.specs.Places.{viewAt, count}
 use Rattle.format.specs.Call.{onRecord}
-use Rattle.orders.specs.Act.{Act, remove, join, part, count, indexed?, near, after}
+use Rattle.orders.specs.Act.{Act, remove, join, part, indexed?, near, after}
 
 pub record Order : Type 0 where
   pub view : ℕ
   pub count : ℕ
   pub act : Act
-
--- a view that no record has, for places behind the last
-abbrev pub blank : View
-blank = record { head = record { number = 0; position = 0; impression = 0; quality = 0; width = 0; height = 0 }; lines = []; index = none; segments = [] }
-
-abbrev pub viewAt : Record → ℕ → View
-viewAt r i = getD (r .views) i blank
 
 -- ---- the record that an order leaves
 

@@ -129,7 +129,7 @@ fields-of t vs l h = all-map FitsField Small (one t) vs (λ v s. field-of t v l 
 lists-small : (w k l : ℕ) (ls : List (List ℕ)) → l + length ls ≤ k → k ≤ 1024 → Along up (FitsList w) l ls → All Small (eachEnc (listValue w) up l ls)
 lists-small w k l [] b s h = tt
 lists-small w k l (ns ∷ ls) b s h =
-    (small (listValue w l) ns (omega (arith, length-list w l ns, falls-count l ns (h .0 .falls))), lists-small w k (suc l) ls (omega arith) s (h .1))
+    (small (listValue w l) ns (omega (arith, length-list w l ns, falls-count 0 l ns (omega arith) (h .0 .falls))), lists-small w k (suc l) ls (omega arith) s (h .1))
 
 index-fields : (n : ℕ) (o : Option Index) → n ≤ 1024 → indexBlock n .Fits o → All FitsField (indexFields (Option·map rawIndex o))
 unfolding indexBlock index

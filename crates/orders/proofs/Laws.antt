@@ -1,0 +1,9 @@
+-- The laws of orders, by topic.
+pub mod Survive
+pub mod Near
+pub mod Least
+pub mod Accept
+pub mod Right
+pub mod Keep
+pub mod Story
+pub mod Sequence

@@ -1,0 +1,90 @@
+-- When an order is accepted: exactly if its view is there and has the count that the order names, the order's own tests pass, and
+-- the new record is not too long. So the table of refusals leaves no other way to be refused.
+use mathlib.Core.Path.{_≡_, refl, _∙_}
+use mathlib.Core.Logic.{_≢_}
+use Prim.Native.Nat.{ℕ, _≤_, _<_}
+use native.Mathlib.Omega.{arith}
+use mathlib.Core.Bool.{Bool, _&&_}
+use mathlib.Core.List.{List, [], _∷_}
+use lib.ListN.{length}
+use lib.Dec.{T, leb, ltb, eqb, leb→le, le→leb, ltb→lt, lt→ltb, eqb→eq}
+use mir.Facts.{and-yes, yes-eqb, no-eqb}
+use Rattle.bits.specs.Choice.{pick-yes, pick-no, pick-split}
+use Rattle.bits.specs.Lists.{All, all-front, all-rest, all-append}
+use Rattle.outcome.specs.Refusals.{otherCount}
+use Rattle.format.specs.Limits.{mostBytes}
+use Rattle.format.specs.View.{View}
+use Rattle.format.specs.Record.{Record, size}
+use Rattle.format.specs.Places.{count, viewAt}
+use Rattle.orders.specs.Act.{Act, remove, join, part}
+use Rattle.orders.specs.Order.{Order, edited, firstBad, tests, allTests, verdict}
+
+-- ---- tests, one after another
+
+abbrev pub Pass : List (Bool × ℕ) → Type 0
+Pass = All (λ t. T (t .0))
+
+-- no test has the number 0, which says that all passed
+abbrev Numbered : List (Bool × ℕ) → Type 0
+Numbered = All (λ t. 0 < t .1)
+
+pass-zero : (ts : List (Bool × ℕ)) → Pass ts → firstBad ts ≡ 0
+pass-zero [] h = refl
+pass-zero (t ∷ ts) h = pick-yes (t .0) _ _ (h .0) ∙ pass-zero ts (h .1)
+
+zero-pass : (ts : List (Bool × ℕ)) → Numbered ts → firstBad ts ≡ 0 → Pass ts
+zero-pass [] n p = tt
+zero-pass (t ∷ ts) n p = pick-split (t .0) _ _ p (λ u e. (u, zero-pass ts (n .1) e)) (λ u e. absurd (omega (arith, n .0)))
+
+tests-numbered : (a : Act) (v : View) → Numbered (tests a v)
+unfolding tests
+tests-numbered (remove rs) v = (omega arith, (omega arith, tt))
+tests-numbered (join a b) v = (omega arith, (omega arith, (omega arith, tt)))
+tests-numbered (part a b) v = (omega arith, (omega arith, (omega arith, tt)))
+
+all-numbered : (o : Order) (r : Record) → Numbered (allTests o r)
+unfolding allTests
+all-numbered o r =
+    let v : View = viewAt r (o .view) in
+    (omega arith, (omega arith, all-append (λ t. 0 < t .1) (tests (o .act) v) _ (tests-numbered (o .act) v) (omega arith, tt)))
+
+-- what the test of a pair's lines says
+pub both-lines : (a b n : ℕ) → T (ltb a n && ltb b n) → (a < n) × (b < n)
+both-lines a b n t = let (h, k) = and-yes (ltb a n) (ltb b n) t in (ltb→lt a n h, ltb→lt b n k)
+
+-- ---- an order
+
+pub record Accepted (o : Order) (r : Record) : Type 0 where
+  pub place : o .view < length (r .views)
+  pub count : count (viewAt r (o .view)) ≡ o .count
+  pub passes : Pass (tests (o .act) (viewAt r (o .view)))
+  pub small : size (edited o r) ≤ mostBytes
+
+pub accepted : (o : Order) (r : Record) → verdict o r ≡ 0 → Accepted o r
+unfolding verdict allTests
+accepted o r p =
+    let h = zero-pass (allTests o r) (all-numbered o r) p in
+    let v : View = viewAt r (o .view) in
+    record {
+      place = ltb→lt (o .view) (length (r .views)) (h .0);
+      count = eqb→eq (count v) (o .count) (h .1 .0);
+      passes = all-front (λ t. T (t .0)) (tests (o .act) v) _ (h .1 .1);
+      small = leb→le (size (edited o r)) mostBytes (all-rest (λ t. T (t .0)) (tests (o .act) v) _ (h .1 .1) .0);
+    }
+
+pub verdict-zero : (o : Order) (r : Record) → Accepted o r → verdict o r ≡ 0
+unfolding verdict allTests
+verdict-zero o r a =
+    let small : T (leb (size (edited o r)) mostBytes) = le→leb (size (edited o r)) mostBytes (a .small) in
+    pass-zero (allTests o r) (
+      lt→ltb (o .view) (length (r .views)) (a .place),
+      (yes-eqb (a .count), all-append (λ t. T (t .0)) (tests (o .act) (viewAt r (o .view))) _ (a .passes) (small, tt)),
+    )
+
+-- an order made for another count
+pub verdict-count : (o : Order) (r : Record) → o .view < length (r .views) → count (viewAt r (o .view)) ≢ o .count
+    → verdict o r ≡ otherCount
+unfolding verdict allTests
+verdict-count o r l n =
+    pick-yes (ltb (o .view) (length (r .views))) _ _ (lt→ltb (o .view) (length (r .views)) l)
+    ∙ pick-no (eqb (count (viewAt r (o .view))) (o .count)) _ _ (no-eqb n)

@@ -1,0 +1,148 @@
+-- An accepted order leaves a record that is allowed, with the same header and as many views, and every view that it does not name
+-- is as it was, to the bit.
+use mathlib.Core.Path.{_≡_, refl}
+use mathlib.Core.Logic.{_≢_}
+use Prim.Native.Nat.{ℕ, zero, suc, _*_, _≤_, _<_}
+use native.Mathlib.Nat.{zero-add}
+use native.Mathlib.Omega.{arith}
+use mathlib.Core.Bool.{Bool}
+use mathlib.Core.Option.{Option, none, some, Option·map}
+use mathlib.Core.List.{List, [], _∷_}
+use lib.ListN.{length, getD, set, length-append, length-set, length-map}
+use lib.Seq.{getD-set-same, getD-set-other}
+use Rattle.bits.specs.Lists.{Along, all-at, all-map, along-at, along-up, up-along, mapped}
+use Rattle.bits.specs.Codec.{Codec}
+use Rattle.bits.specs.CodecLaws.{encAlong}
+use Rattle.bits.specs.BlockLaws.{ManyFits}
+use Rattle.format.specs.Limits.{mostLines, mostBytes}
+use Rattle.format.specs.Line.{Line, line, skeleton}
+use Rattle.format.specs.IndexLaws.{Falls}
+use Rattle.format.specs.Index.{Index, FitsList, FitsIndex, up, index, indexBlock}
+use Rattle.format.specs.View.{View, view, viewHeader}
+use Rattle.format.specs.Record.{Record, tellSeen, Allowed}
+use Rattle.format.specs.declared.Widths.{Widths}
+use Rattle.format.proofs.Laws.Size.{view-length, views-length}
+use Rattle.format.specs.Places.{count, noLine, lineAt, noViewThere, viewAt}
+use Rattle.orders.specs.Survive.{survivors}
+use Rattle.orders.specs.Least.{indexOf}
+use Rattle.orders.specs.Act.{Act, remove, join, part, lists, newLines, after}
+use Rattle.orders.specs.Order.{Order, edited, tests, verdict}
+use Rattle.orders.proofs.Laws.Survive.{survivors-le, survivors-below}
+use Rattle.orders.proofs.Laws.Near.{head-after, segments-after, lines-after, index-after}
+use Rattle.orders.proofs.Laws.Least.{least-fits}
+use Rattle.orders.proofs.Laws.Accept.{Pass, accepted}
+use Rattle.orders.proofs.Laws.Right.{RightLists, Right, after-right}
+
+-- ---- what fits is right, and what is right fits
+
+index-right : (n : ℕ) (o : Option Index) → indexBlock n .Fits o → (ls : List (List ℕ)) → Option·map (λ i. i .lists) o ≡ some ls
+    → RightLists n ls
+unfolding indexBlock index
+index-right n o h ls e =
+    mapped (λ i. i .lists) o ls e λ i q z.
+    let f : FitsIndex n i = rw q at h in
+    rw (← z) (record {
+      count = f .count;
+      falls = λ p l. rw zero-add at (along-up (FitsList (i .width)) [] 0 (i .lists) p (omega (arith, f .count)) (f .lists)) .falls;
+    })
+
+right-index : (n : ℕ) (o : Option (List (List ℕ))) → n ≤ mostLines → ((ls : List (List ℕ)) → o ≡ some ls → RightLists n ls)
+    → indexBlock n .Fits (Option·map indexOf o)
+unfolding indexBlock index
+right-index n none l h = tt
+right-index n (some ls) l h =
+    let r = h ls refl in
+    let falls : Along up (Falls 0) 0 ls = up-along (Falls 0) [] 0 ls λ p k. rw zero-add (r .falls p (omega (arith, r .count))) in
+    rw (r .count) at (least-fits ls (omega (arith, r .count)) falls)
+
+lines-keep : (c : Codec Bool Line) (n : ℕ) (a : Act) (v : View) → ManyFits c n (v .lines) → ManyFits c n (newLines a v)
+lines-keep c n (remove rs) v h =
+    let ks : List ℕ = survivors (count v) rs in
+    record {
+      most = omega (arith, h .most, survivors-le (count v) rs, length-map ks (lineAt v));
+      all = all-map (c .Fits) (λ x. x < count v) (lineAt v) ks (λ x l. all-at (c .Fits) noLine (v .lines) x l (h .all))
+          (survivors-below (count v) rs);
+    }
+lines-keep c n (join a b) v h = h
+lines-keep c n (part a b) v h = h
+
+-- ---- a view
+
+view-right : (w : Widths) (seen : List ℕ) (v : View) → view w seen .Fits v → Right v
+unfolding view
+view-right w seen v f = index-right (count v) (v .index) (f .1 .0 .1)
+
+view-keep : (w : Widths) (seen : List ℕ) (a : Act) (v : View) → view w seen .Fits v → Pass (tests a v)
+    → length (view w seen .enc (after a v)) ≤ 8 * mostBytes → view w seen .Fits (after a v)
+unfolding view viewHeader skeleton mostBytes
+view-keep w seen a v f p small =
+    let u : View = after a v in
+    let z = view-length w seen u in
+    let m : ManyFits (line w) mostLines (u .lines) = rw (lines-after a v) (lines-keep (line w) mostLines a v (f .0 .1)) in
+    let r : Right u = after-right a v p (view-right w seen v f) in
+    let i : indexBlock (count u) .Fits (u .index) = rw (index-after a v) (right-index (count u) (lists u) (m .most) r) in
+    (((rw (head-after a v) (f .0 .0 .0), omega (arith, z)), m), ((omega (arith, z), i), rw (segments-after a v) (f .1 .1)))
+
+-- ---- the views, and the record
+
+-- one view changed: those behind it still fit, since it has the position that it had
+views-keep : (w : Widths) (seen : List ℕ) (vs : List View) (i : ℕ) (a : Act) → i < length vs → Pass (tests a (getD vs i noViewThere))
+    → length (encAlong (view w) tellSeen seen (set vs i (after a (getD vs i noViewThere)))) ≤ 8 * mostBytes
+    → Along tellSeen (λ s v. view w s .Fits v) seen vs → Along tellSeen (λ s v. view w s .Fits v) seen (set vs i (after a (getD vs i noViewThere)))
+views-keep w seen [] i a l p small h = h
+views-keep w seen (v ∷ vs) zero a l p small h =
+    let z = simp length-append at small in
+    (view-keep w seen a v (h .0) p (omega (arith, z)), rw (head-after a v) (h .1))
+views-keep w seen (v ∷ vs) (suc i) a l p small h =
+    let z = simp length-append at small in
+    (h .0, views-keep w (tellSeen seen v) vs i a (omega arith) p (omega (arith, z)) (h .1))
+
+pub edited-head : (o : Order) (r : Record) → edited o r .head ≡ r .head
+unfolding edited
+edited-head o r = refl
+
+pub edited-count : (o : Order) (r : Record) → length (edited o r .views) ≡ length (r .views)
+unfolding edited
+edited-count o r = length-set (r .views) (o .view) _
+
+pub edited-here : (o : Order) (r : Record) → o .view < length (r .views) → viewAt (edited o r) (o .view) ≡ after (o .act) (viewAt r (o .view))
+unfolding edited
+edited-here o r l = getD-set-same (r .views) (o .view) _ noViewThere l
+
+pub edited-other : (o : Order) (r : Record) (i : ℕ) → i ≢ o .view → viewAt (edited o r) i ≡ viewAt r i
+unfolding edited
+edited-other o r i n = getD-set-other (r .views) (o .view) i _ noViewThere n
+
+pub order-keeps : (o : Order) (r : Record) → Allowed r → verdict o r ≡ 0 → Allowed (edited o r)
+unfolding edited
+order-keeps o r f p =
+    let a = accepted o r p in
+    let w : Widths = r .head .scale .widths in
+    let small : length (encAlong (view w) tellSeen [] (edited o r .views)) ≤ 8 * mostBytes = omega (arith, views-length (edited o r), a .small) in
+    record {
+      fits = record {
+        head = f .fits .head;
+        count = rw (edited-count o r) (f .fits .count);
+        views = views-keep w [] (r .views) (o .view) (o .act) (a .place) (a .passes) small (f .fits .views);
+      };
+      small = a .small;
+    }
+
+-- the lists of an allowed record's views are right
+pub allowed-right : (r : Record) → Allowed r → (i : ℕ) → i < length (r .views) → Right (viewAt r i)
+allowed-right r a i l =
+    let w : Widths = r .head .scale .widths in
+    let (s, f) = along-at tellSeen (λ s v. view w s .Fits v) noViewThere [] (r .views) i l (a .fits .views) in
+    view-right w s (viewAt r i) f
+
+-- ---- a view that is not named keeps its bits
+
+-- what a view writes does not hang on the views before it
+same-bits : (w : Widths) (s t : List ℕ) (v : View) → view w s .enc v ≡ view w t .enc v
+unfolding view viewHeader
+same-bits w s t v = refl
+
+-- s and t: the positions before the view, in the new record and in the old
+pub edited-bits : (o : Order) (r : Record) (i : ℕ) (s t : List ℕ) → i ≢ o .view
+    → view (edited o r .head .scale .widths) s .enc (viewAt (edited o r) i) ≡ view (r .head .scale .widths) t .enc (viewAt r i)
+edited-bits o r i s t n = rw (edited-head o r, edited-other o r i n) (same-bits (r .head .scale .widths) s t (viewAt r i))

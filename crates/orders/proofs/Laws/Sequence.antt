@@ -1,0 +1,159 @@
+-- THE THEOREM on sequences of orders, in bytes: start from bytes that read as a record and feed each result to the next order.
+-- The bytes that hold at the end read as an allowed record, and each view of it is what the accepted orders on that view say.
+use mathlib.Core.Path.{_≡_, refl, sym, _∙_}
+use mathlib.Core.Logic.{_≢_}
+use Prim.Native.Nat.{ℕ, _<_}
+use native.Mathlib.Omega.{arith}
+use mathlib.Core.List.{List, [], _∷_}
+use lib.ListN.{length}
+use lib.Dec.{eqb, leb, eqb→eq}
+use mir.Facts.{eqb-no}
+use Rattle.bits.specs.Choice.{pick-case, eqb-true, eqb-false, eq-split}
+use Rattle.bits.specs.Lists.{All}
+use Rattle.bits.specs.Bytes.{Byte}
+use Rattle.bits.specs.Codec.{got}
+use Rattle.outcome.specs.Refusals.{otherCount, noRoom}
+use Rattle.outcome.specs.Outcome.{Outcome, refused, given, room, numberOf}
+use Rattle.format.specs.View.{View}
+use Rattle.format.specs.Record.{Record, read, write, Allowed}
+use Rattle.format.specs.Call.{onRecord}
+use Rattle.format.proofs.Laws.Record.{read-there, read-back}
+use Rattle.format.specs.Places.{count, viewAt}
+use Rattle.orders.specs.Act.{remove}
+use Rattle.orders.specs.Order.{Order, edited, verdict, ordered, order}
+use Rattle.orders.specs.History.{Call, outcome, nowHolds, run, History, fresh, history, Follows}
+use Rattle.orders.proofs.Laws.Accept.{Accepted, accepted, verdict-count}
+use Rattle.orders.proofs.Laws.Keep.{edited-head, edited-count, edited-here, edited-other, order-keeps, allowed-right}
+use Rattle.orders.proofs.Laws.Story.{follows-fresh, follows-act, follows-count, removal-shortens}
+
+-- ---- one call
+
+-- on bytes that read as a record
+outcome-is : (c : Call) (bytes : List ℕ) (r : Record) → read bytes ≡ got r [] → outcome c bytes ≡ room (c .lent) (ordered (c .order) r)
+unfolding outcome order onRecord
+outcome-is c bytes r p = rw p
+
+-- it gives the edited record, or is refused
+outcome-split : {X : Type 0} (c : Call) (bytes : List ℕ) (r : Record) → read bytes ≡ got r []
+    → (verdict (c .order) r ≡ 0 → outcome c bytes ≡ given (write (edited (c .order) r)) → X)
+    → ((e p : ℕ) → e ≢ 0 → outcome c bytes ≡ refused e p → X) → X
+outcome-split {X} c bytes r p f g =
+    let n : ℕ = verdict (c .order) r in
+    let new : List ℕ = write (edited (c .order) r) in
+    pick-case (λ (o : Outcome ℕ). outcome c bytes ≡ room (c .lent) o → X) (eqb n 0) _ _
+    (λ t. pick-case (λ (o : Outcome ℕ). outcome c bytes ≡ o → X) (leb (length new) (c .lent)) _ _
+    (λ u e. f (eqb→eq n 0 t) e) (λ u e. g noRoom 0 (omega arith) e))
+    (λ t e. g n 0 (eqb-no t) e)
+    (outcome-is c bytes r p)
+
+-- a refused order changes nothing
+pub refused-stays : (c : Call) (bytes : List ℕ) → numberOf (outcome c bytes) ≢ 0 → nowHolds bytes (outcome c bytes) ≡ bytes
+refused-stays c bytes n = go (outcome c bytes) n
+  where
+    go : (o : Outcome ℕ) → numberOf o ≢ 0 → nowHolds bytes o ≡ bytes
+    go (refused e p) n = refl
+    go (given new) n = absurd (n refl)
+
+-- ---- a sequence
+
+-- what a sequence leaves, whatever the views were before
+record Runs (cs : List Call) (r : Record) (bytes : List ℕ) : Type 0 where
+  last : Record
+  reads : read (run cs bytes) ≡ got last []
+  allowed : Allowed last
+  head : last .head ≡ r .head
+  count : length (last .views) ≡ length (r .views)
+  follows : (i : ℕ) → i < length (r .views) → (v₀ : View) (h : History) → Follows v₀ (viewAt r i) h
+      → Follows v₀ (viewAt last i) (history i cs bytes h)
+
+runs-none : (bytes : List ℕ) (r : Record) → Allowed r → read bytes ≡ got r [] → Runs [] r bytes
+runs-none bytes r a p = record { last = r; reads = p; allowed = a; head = refl; count = refl; follows = λ i l v₀ h f. f }
+
+runs-one : (c : Call) (bytes : List ℕ) (r : Record) → Allowed r → read bytes ≡ got r [] → Runs (c ∷ []) r bytes
+runs-one c bytes r a p =
+    let o : Order = c .order in
+    outcome-split c bytes r p
+    (λ z e. let k : Allowed (edited o r) = order-keeps o r a z in
+    let b : Accepted o r = accepted o r z in
+    record {
+      last = edited o r;
+      reads = rw e (read-there (edited o r) k);
+      allowed = k;
+      head = edited-head o r;
+      count = edited-count o r;
+      follows = λ i l v₀ h f. rw e
+          (eq-split (o .view) i
+          (λ q. rw (eqb-true (o .view) i q, ← q, edited-here o r (b .place))
+          (follows-act v₀ (viewAt r (o .view)) h (o .act) (allowed-right r a (o .view) (b .place)) (b .passes) (rw q f)))
+          (λ n. rw (eqb-false (o .view) i n, edited-other o r i (λ q. n (sym q))) f));
+    })
+    (λ n m d e. record {
+      last = r;
+      reads = rw e p;
+      allowed = a;
+      head = refl;
+      count = refl;
+      follows = λ i l v₀ h f. rw (e, eqb-false n 0 d) f;
+    })
+
+runs-all : (cs : List Call) (bytes : List ℕ) (r : Record) → Allowed r → read bytes ≡ got r [] → Runs cs r bytes
+runs-all [] bytes r a p = runs-none bytes r a p
+runs-all (c ∷ cs) bytes r a p =
+    let new : List ℕ = nowHolds bytes (outcome c bytes) in
+    let n : Runs (c ∷ []) r bytes = runs-one c bytes r a p in
+    let m : Runs cs (n .last) new = runs-all cs new (n .last) (n .allowed) (n .reads) in
+    record {
+      last = m .last;
+      reads = m .reads;
+      allowed = m .allowed;
+      head = m .head ∙ n .head;
+      count = m .count ∙ n .count;
+      follows = λ i l v₀ h f. m .follows i (omega (arith, n .count)) v₀ _ (n .follows i l v₀ h f);
+    }
+
+-- ---- the theorem
+
+pub record Kept (cs : List Call) (r : Record) (bytes : List ℕ) : Type 0 where
+  pub last : Record
+  pub reads : read (run cs bytes) ≡ got last []
+  pub allowed : Allowed last
+  pub head : last .head ≡ r .head
+  pub count : length (last .views) ≡ length (r .views)
+  pub follows : (i : ℕ) → i < length (r .views) → Follows (viewAt r i) (viewAt last i) (history i cs bytes (fresh (viewAt r i)))
+
+pub orders-follow : (cs : List Call) (bytes : List ℕ) (r : Record) → All Byte bytes → read bytes ≡ got r [] → Kept cs r bytes
+orders-follow cs bytes r h p =
+    let m : Runs cs r bytes = runs-all cs bytes r (read-back bytes r [] h p .0) p in
+    record {
+      last = m .last;
+      reads = m .reads;
+      allowed = m .allowed;
+      head = m .head;
+      count = m .count;
+      follows = λ i l. m .follows i l (viewAt r i) (fresh (viewAt r i)) (follows-fresh (viewAt r i));
+    }
+
+-- ---- a removal comes only once
+
+removal-refused : (o : Order) (rs : List ℕ) (cs : List Call) (r : Record) (n : ℕ) → Allowed r → o .act ≡ remove rs → verdict o r ≡ 0
+    → outcome (record { order = o; lent = n }) (run cs (write (edited o r))) ≡ refused otherCount 0
+removal-refused o rs cs r n a e z =
+    let i : ℕ = o .view in
+    let v : View = viewAt r i in
+    let x : Record = edited o r in
+    let k : Allowed x = order-keeps o r a z in
+    let b : Accepted o r = accepted o r z in
+    let m : Runs cs x (write x) = runs-all cs (write x) x k (read-there x k) in
+    let less : count (viewAt x i) < count v = rw (edited-here o r (b .place), e) (removal-shortens rs v (rw e at (b .passes))) in
+    let f = m .follows i (omega (arith, edited-count o r, b .place)) (viewAt x i) (fresh (viewAt x i)) (follows-fresh (viewAt x i)) in
+    let there : i < length (m .last .views) = omega (arith, edited-count o r, b .place, m .count) in
+    let other : verdict o (m .last) ≡ otherCount = verdict-count o (m .last) there (omega (arith, follows-count _ _ _ f, b .count)) in
+    outcome-is (record { order = o; lent = n }) (run cs (write x)) (m .last) (m .reads) ∙ rw other
+
+-- a removal that was accepted is refused wherever it comes again: the count that it names is gone
+pub removal-again : (c : Call) (rs : List ℕ) (cs : List Call) (bytes : List ℕ) (r : Record) → All Byte bytes → read bytes ≡ got r []
+    → c .order .act ≡ remove rs → numberOf (outcome c bytes) ≡ 0
+    → (n : ℕ) → outcome (record { order = c .order; lent = n }) (run cs (nowHolds bytes (outcome c bytes))) ≡ refused otherCount 0
+removal-again c rs cs bytes r h p e z n =
+    outcome-split c bytes r p (λ y d. rw d (removal-refused (c .order) rs cs r n (read-back bytes r [] h p .0) e y))
+    (λ m l d y. absurd (d (sym (rw y) ∙ z)))
