@@ -46,17 +46,17 @@ made-is : (f : List (List ℕ) → List (List ℕ)) (o : Option Index) → (some
 made-is f none = (refl, refl, refl)
 made-is f (some i) = (refl, refl, refl)
 
-pub indexed-after : (a : Act) (v : View) → indexed? (after a v) ≡ indexed? v
+pub index-after : (a : Act) (v : View) → after a v .index ≡ Option·map indexOf (lists (after a v))
 unfolding after
-indexed-after a v = made-is (newLists a (count v)) (v .index) .0
+index-after a v = made-is (newLists a (count v)) (v .index) .2
 
 pub lists-after : (a : Act) (v : View) → lists (after a v) ≡ Option·map (newLists a (count v)) (lists v)
 unfolding after
 lists-after a v = made-is (newLists a (count v)) (v .index) .1
 
-pub index-after : (a : Act) (v : View) → after a v .index ≡ Option·map indexOf (lists (after a v))
+pub indexed-after : (a : Act) (v : View) → indexed? (after a v) ≡ indexed? v
 unfolding after
-index-after a v = made-is (newLists a (count v)) (v .index) .2
+indexed-after a v = made-is (newLists a (count v)) (v .index) .0
 
 -- an index that is left has its least width
 pub least-after : (a : Act) (v : View) (i : Index) → after a v .index ≡ some i → i .width ≡ leastWidth (i .lists)
