@@ -1,12 +1,12 @@
 -- The laws of an outcome: what is given fits the lent buffer, and the statement of a call leaves one answer and one buffer.
 use mathlib.Core.Path.{_≡_, refl, sym, _∙_}
+use mathlib.Core.Logic.{_≢_}
 use Prim.Native.Nat.{ℕ, _≤_}
-use native.Mathlib.Omega.{arith}
 use mathlib.Core.List.{List}
 use lib.ListN.{length}
-use lib.Dec.{T, leb, le→leb}
+use lib.Dec.{leb, le→leb}
 use Rattle.bits.specs.Choice.{pick-yes}
-use Rattle.outcome.specs.Outcome.{Outcome, refused, given, room, Answers}
+use Rattle.outcome.specs.Outcome.{Outcome, refused, given, room, numberOf, lengthOf, laid, Answers}
 use Rattle.outcome.specs.declared.Answer.{Answer}
 
 -- two answers with the same three numbers are one
@@ -22,3 +22,16 @@ one-answer {a₁ = a₁} {a₂ = a₂} h k =
 -- given room, the outcome is what it is
 pub room-enough : {A : Type 0} (n : ℕ) (xs : List A) → length xs ≤ n → room n (given xs) ≡ given xs
 room-enough n xs h = pick-yes (leb (length xs) n) _ _ (le→leb (length xs) n h)
+
+-- ---- what an answer says of the lent buffer
+
+-- an answer other than 0 leaves it as it was
+pub refused-lays : {A : Type 0} (before : List A) (o : Outcome A) → numberOf o ≢ 0 → (laid before o ≡ before) × (lengthOf o ≡ 0)
+refused-lays before (refused e p) n = (refl, refl)
+refused-lays before (given xs) n = absurd (n refl)
+
+pub refusal-writes-nothing : {A : Type 0} {o : Outcome A} {before after : List A} {a : Answer} → Answers o before after a → a .number ≢ 0
+    → (after ≡ before) × (a .length ≡ 0)
+refusal-writes-nothing {o = o} {before = before} h n =
+    let (l, z) = refused-lays before (room (length before) o) (λ e. n (h .number ∙ e)) in
+    (h .buffer ∙ l, h .written ∙ z)
