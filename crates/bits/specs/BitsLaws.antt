@@ -1,14 +1,14 @@
 -- The laws of Bits: bits to number and back, over every width.
 use mathlib.Core.Path.{_≡_, refl, sym, ap, ap₂, _∙_}
-use Prim.Native.Nat.{ℕ, zero, suc, _+_, _-_, _*_, _/_, _%_, _^_, _≤_, _<_}
+use Prim.Native.Nat.{ℕ, zero, suc, _+_, _-_, _*_, _/_, _%_, _^_, _<_}
 use native.Mathlib.Nat.{mod-eq-of-lt, pow-suc, mod-one}
 use native.Mathlib.Numerals.{one-add}
 use native.Mathlib.Omega.{arith}
 use mathlib.Core.Bool.{Bool, true, false}
-use mathlib.Core.List.{List, [], _∷_, _++_}
+use mathlib.Core.List.{[], _∷_}
 use lib.ListN.{length, length-append, length-replicate}
 use lib.Pow.{high, low, field, mod-mod-pow, mod-pow-add}
-use Rattle.bits.specs.Bits.{Bits, val, bit, numberOf, bitsOfNumber, zeros, pad, filled}
+use Rattle.bits.specs.Bits.{Bits, val, bit, numberOf, bitsOfNumber, pad, filled}
 
 pub length-bits : (w n : ℕ) → length (bitsOfNumber w n) ≡ w
 unfolding bitsOfNumber

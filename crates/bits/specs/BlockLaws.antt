@@ -1,6 +1,6 @@
 -- Blocks of values, each kind with its laws: many with padding, one that ends its block, one or none, values that fill it.
-use mathlib.Core.Path.{_≡_, refl, sym, ap, ap₂, _∙_}
-use Prim.Native.Nat.{ℕ, zero, suc, _+_, _-_, _*_, _/_, _%_, _^_, _≤_, _<_}
+use mathlib.Core.Path.{_≡_, refl, sym, ap, _∙_}
+use Prim.Native.Nat.{ℕ, zero, suc, _+_, _-_, _%_, _≤_, _<_}
 use native.Mathlib.Omega.{arith}
 use mathlib.Core.Bool.{Bool, true, false, not}
 use mathlib.Core.Option.{Option, none, some}
@@ -8,11 +8,11 @@ use mathlib.Core.List.{List, [], _∷_, _++_, append-assoc}
 use lib.ListN.{length, length-append, length-replicate}
 use lib.Dec.{T}
 use mir.Facts.{ltb-yes, yes-ltb, no-ltb}
-use Rattle.bits.specs.Choice.{pick, pick-yes, pick-no, pick-split}
+use Rattle.bits.specs.Choice.{pick-yes, pick-no, pick-split}
 use Rattle.bits.specs.Lists.{All}
 use Rattle.bits.specs.Bits.{Bits, zeros, pad, filled}
 use Rattle.bits.specs.BitsLaws.{pad-lt, pad-is, filled-bytes}
-use Rattle.bits.specs.Codec.{Read, got, refused, next, Codec}
+use Rattle.bits.specs.Codec.{got, refused, next, Codec}
 use Rattle.bits.specs.CodecLaws.{not-got, pick-got, next-got, encAll}
 use Rattle.bits.specs.Block.{Block, few, zerosDec, manyDec, endedDec, maybeDec, fillDec}
 

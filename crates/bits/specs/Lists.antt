@@ -1,6 +1,6 @@
 -- What holds of every element of a list, alone (`All`) or by what the elements before it say (`Along`), and how it is taken
 -- apart and put together by places.
-use mathlib.Core.Path.{_≡_, refl, ap}
+use mathlib.Core.Path.{_≡_, refl}
 use Prim.Native.Nat.{ℕ, zero, suc, _+_, _<_}
 use native.Mathlib.Omega.{arith}
 use mathlib.Core.Bool.{Bool, true, false, _&&_}

@@ -3,13 +3,13 @@ use mathlib.Core.Path.{_≡_, refl, sym, ap, _∙_}
 use Prim.Native.Nat.{ℕ, _+_, _*_, _/_, _%_, _^_, _≤_, _<_}
 use native.Mathlib.Omega.{arith}
 use mathlib.Core.Bool.{Bool}
-use mathlib.Core.List.{List, [], _++_}
+use mathlib.Core.List.{[], _++_}
 use lib.ListN.{length, take, drop, length-append, take-append-drop}
 use lib.Dec.{T, leb, leb→le, le→leb}
 use lib.Seq.{take-at, drop-at, length-take-le}
-use Rattle.bits.specs.Choice.{pick, pick-yes, pick-split}
+use Rattle.bits.specs.Choice.{pick-yes, pick-split}
 use Rattle.bits.specs.Bits.{Bits}
-use Rattle.bits.specs.Codec.{Read, got, refused, next, Codec}
+use Rattle.bits.specs.Codec.{Read, got, refused, Codec}
 use Rattle.bits.specs.CodecLaws.{not-got, pick-got, next-got, field, then, via}
 use Rattle.bits.specs.Block.{Block, inside, sizedDec, aheadDec, passDec, recastDec}
 

@@ -3,22 +3,22 @@
 -- first neighbour, first minus second, and so on. The first may be 0, a line next to itself; the others are at least 1; their sum
 -- is at most L."
 use mathlib.Core.Path.{_≡_, refl, ap₂, _∙_}
-use Prim.Native.Nat.{ℕ, suc, _+_, _-_, _^_, _≤_, _<_}
+use Prim.Native.Nat.{ℕ, suc, _-_, _^_, _≤_, _<_}
 use native.Mathlib.Omega.{arith}
 use mathlib.Core.Bool.{Bool}
 use mathlib.Core.Option.{Option}
-use mathlib.Core.List.{List, _++_}
+use mathlib.Core.List.{List}
 use lib.ListN.{length, length-append}
 use Rattle.bits.specs.Choice.{within-low, within-high, within-yes}
 use Rattle.bits.specs.Lists.{All, Along}
-use Rattle.bits.specs.Bits.{bitsOfNumber, filled}
+use Rattle.bits.specs.Bits.{filled}
 use Rattle.bits.specs.BitsLaws.{length-bits}
 use Rattle.bits.specs.Codec.{Codec}
 use Rattle.bits.specs.CodecLaws.{field, then, via, along, ranged}
 use Rattle.bits.specs.Block.{Block}
 use Rattle.bits.specs.BlockLaws.{ended, maybe}
 use Rattle.outcome.specs.Refusals.{badIndex}
-use Rattle.format.specs.IndexLaws.{Falls, diffs, undiffs, diff, tell, Steps, length-diffs, length-undiffs, undiffs-diffs, falls-steps, steps-falls}
+use Rattle.format.specs.IndexLaws.{Falls, diffs, undiffs, diff, tell, length-diffs, length-undiffs, undiffs-diffs, falls-steps, steps-falls}
 
 -- line l's neighbours by number, highest first, at width w
 pub record FitsList (w l : ℕ) (ns : List ℕ) : Type 0 where

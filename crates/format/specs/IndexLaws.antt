@@ -1,11 +1,11 @@
 -- Neighbours as differences: what a difference must be, and that falling lists and right differences go over into each other.
 use mathlib.Core.Path.{_≡_, refl, ap, ap₂}
-use Prim.Native.Nat.{ℕ, zero, suc, _+_, _-_, _^_, _≤_, _<_}
+use Prim.Native.Nat.{ℕ, suc, _+_, _-_, _^_, _≤_, _<_}
 use native.Mathlib.Omega.{arith}
 use mathlib.Core.Bool.{Bool}
 use mathlib.Core.List.{List, [], _∷_}
 use lib.ListN.{length}
-use Rattle.bits.specs.Choice.{within, within-low, within-high, within-yes}
+use Rattle.bits.specs.Choice.{within-low, within-high, within-yes}
 use Rattle.bits.specs.Lists.{All, Along}
 use Rattle.bits.specs.Codec.{Codec}
 use Rattle.bits.specs.CodecLaws.{ranged}

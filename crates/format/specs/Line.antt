@@ -1,14 +1,13 @@
 -- A line of a skeleton block, and the block. "Each line: start type (2 bits), direction (b), x (c), y (c), count of codes (8), the
 -- codes (k each), end type (2), direction (b), x (c), y (c). Lines follow without padding. While 8 or more bits are left, another
 -- line must be there; the last 0 to 7 bits are zero. At most 1,024 lines."
-use mathlib.Core.Path.{_≡_, refl}
-use Prim.Native.Nat.{ℕ, _+_, _^_, _<_, _≤_}
+use mathlib.Core.Path.{refl}
+use Prim.Native.Nat.{ℕ, _^_, _<_, _≤_}
 use native.Mathlib.Omega.{arith}
 use mathlib.Core.Bool.{Bool}
-use mathlib.Core.List.{List, _++_}
+use mathlib.Core.List.{List}
 use lib.ListN.{length, length-append}
 use Rattle.bits.specs.Lists.{All}
-use Rattle.bits.specs.Bits.{bitsOfNumber}
 use Rattle.bits.specs.BitsLaws.{length-bits}
 use Rattle.bits.specs.Codec.{Codec}
 use Rattle.bits.specs.CodecLaws.{field, then, via, counted, whole}

@@ -2,7 +2,7 @@
 -- asks for one tests the place first.
 use Prim.Native.Nat.{ℕ}
 use mathlib.Core.Option.{none}
-use mathlib.Core.List.{List, []}
+use mathlib.Core.List.{[]}
 use lib.ListN.{length, getD}
 use Rattle.format.specs.Line.{Line}
 use Rattle.format.specs.Segments.{Segment}

@@ -1,5 +1,5 @@
 -- The record: its header, then its views, and nothing behind them. Refusals 1 to 12, with their places.
-use mathlib.Core.Path.{_≡_, refl, ap}
+use mathlib.Core.Path.{refl, ap}
 use Prim.Native.Nat.{ℕ, suc, _*_, _/_, _^_, _≤_, _<_}
 use native.Mathlib.Omega.{arith}
 use mathlib.Core.Bool.{Bool}

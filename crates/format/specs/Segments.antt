@@ -1,14 +1,13 @@
 -- The extended data. "Segments filling it: type (2), length (2) counting its own 4 bytes, payload." Refusal 11: "a segment length
 -- under 4 or past its block, or 1 to 3 bytes over".
 use mathlib.Core.Path.{_≡_, refl, ap}
-use Prim.Native.Nat.{ℕ, _+_, _-_, _*_, _%_, _^_, _≤_, _<_}
+use Prim.Native.Nat.{ℕ, _+_, _-_, _*_, _^_, _≤_, _<_}
 use native.Mathlib.Omega.{arith}
 use mathlib.Core.Bool.{Bool}
-use mathlib.Core.List.{List, [], _∷_, _++_}
+use mathlib.Core.List.{List, [], _∷_}
 use lib.ListN.{length, length-append}
 use lib.Dec.{leb, leb→le, le→leb}
 use Rattle.bits.specs.Lists.{All}
-use Rattle.bits.specs.Bits.{bitsOfNumber}
 use Rattle.bits.specs.BitsLaws.{length-bits}
 use Rattle.bits.specs.Codec.{Codec}
 use Rattle.bits.specs.CodecLaws.{encAll, field, then, via, only, times, whole, room}

@@ -1,19 +1,17 @@
 -- A view: header, skeleton block, index block, extended block. "Each header, length field or block is found whole (6) before it is
 -- judged."
 use mathlib.Core.Path.{_≡_, refl}
-use Prim.Native.Nat.{ℕ, suc, _+_, _/_, _^_, _≤_, _<_}
+use Prim.Native.Nat.{ℕ, suc, _^_, _<_}
 use native.Mathlib.Omega.{arith}
 use mathlib.Core.Bool.{Bool, _||_}
 use mathlib.Core.Option.{Option, none, some}
-use mathlib.Core.List.{List, [], _∷_, _++_}
+use mathlib.Core.List.{List, [], _∷_}
 use lib.ListN.{length, length-append}
 use lib.Dec.{leb, eqb}
 use Rattle.bits.specs.Choice.{pick}
-use Rattle.bits.specs.Bits.{bitsOfNumber}
 use Rattle.bits.specs.BitsLaws.{length-bits}
 use Rattle.bits.specs.Codec.{Codec}
 use Rattle.bits.specs.CodecLaws.{field, then, via, judged, room}
-use Rattle.bits.specs.Block.{Block}
 use Rattle.bits.specs.SizedLaws.{headed, prefixed}
 use Rattle.outcome.specs.Refusals.{past, badView}
 use Rattle.format.specs.Line.{Line, skeleton}

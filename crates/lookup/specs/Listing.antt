@@ -4,7 +4,6 @@ use Prim.Native.Nat.{ℕ, _+_}
 use mathlib.Core.Option.{Option, Option·map}
 use mathlib.Core.List.{List, [], _∷_, map}
 use lib.ListN.{length}
-use Rattle.format.specs.Index.{Index}
 use Rattle.format.specs.View.{View}
 use Rattle.format.specs.Record.{Record}
 use Rattle.format.specs.Places.{count}

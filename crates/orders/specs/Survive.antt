@@ -1,7 +1,7 @@
 -- Survivors of a removal: "Survivors are renumbered; a removed line leaves all lists." A removal goes by the survivors' old
 -- numbers, a rising list; a survivor's new number is its place in that list.
 use Prim.Native.Nat.{ℕ, zero, suc, _≤_}
-use mathlib.Core.Bool.{Bool, true, false, _||_}
+use mathlib.Core.Bool.{Bool, false, _||_}
 use mathlib.Core.Option.{Option, none, some, Option·map}
 use mathlib.Core.List.{List, [], _∷_}
 use lib.ListN.{getD}

@@ -1,7 +1,7 @@
 -- A direction code as a byte of the sheet. "Codes are two's complement": a code of k bits from 2 to the k - 1 on is negative, 2 to
 -- the k less, and its byte is 2 to the 8 more than that.
-use mathlib.Core.Path.{_≡_, refl, ap, _∙_}
-use Prim.Native.Nat.{ℕ, _+_, _-_, _*_, _%_, _^_, _≤_, _<_}
+use mathlib.Core.Path.{_≡_, ap, _∙_}
+use Prim.Native.Nat.{ℕ, _+_, _-_, _*_, _%_, _^_, _<_}
 use native.Mathlib.Omega.{arith}
 use native.Mathlib.Nat.{mod-eq-of-lt, add-mul-mod-self-right}
 use mathlib.Core.Bool.{Bool}

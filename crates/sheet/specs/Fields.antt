@@ -6,7 +6,6 @@ use mathlib.Core.Bool.{Bool}
 use mathlib.Core.List.{List}
 use lib.ListN.{length, length-append}
 use Rattle.bits.specs.Lists.{All}
-use Rattle.bits.specs.Bits.{bitsOfNumber}
 use Rattle.bits.specs.BitsLaws.{length-bits}
 use Rattle.bits.specs.Bytes.{Byte}
 use Rattle.bits.specs.Codec.{Codec}

@@ -1,13 +1,11 @@
 -- A record's sheet, and the record that a sheet gives: fields, grammar over the whole sheet (21), values over the whole sheet
 -- (22), the record's length (19). The two calls of the sheet stand at the end.
-use Prim.Native.Nat.{ℕ, suc}
+use Prim.Native.Nat.{ℕ}
 use mathlib.Core.Bool.{Bool}
 use mathlib.Core.Option.{Option, none, some, Option·map}
-use mathlib.Core.List.{List, [], _∷_, map}
-use lib.ListN.{length}
+use mathlib.Core.List.{List, [], _∷_}
 use lib.Dec.{leb}
 use Rattle.bits.specs.Choice.{pick}
-use Rattle.bits.specs.Bits.{Bits}
 use Rattle.bits.specs.Bytes.{bitsOf, inBytes}
 use Rattle.bits.specs.Codec.{Read, got, refused, next}
 use Rattle.bits.specs.Block.{Block}

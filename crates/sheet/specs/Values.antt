@@ -1,21 +1,19 @@
 -- The values of a sheet's fields: refusal 22. "A sheet value is right when the record rules allow it at the widths given: numbers
 -- fit c, b, k and w, neighbours obey clause 6.3.2." Each value is a block of its own, and its rules are the record's.
-use mathlib.Core.Path.{_≡_, refl, ap₂, _∙_}
-use Prim.Native.Nat.{ℕ, zero, suc, _+_, _-_, _*_, _%_, _^_, _≤_, _<_}
+use mathlib.Core.Path.{refl}
+use Prim.Native.Nat.{ℕ, _+_, _-_, _%_, _^_, _<_}
 use native.Mathlib.Omega.{arith}
 use native.Mathlib.Nat.{mod-lt}
 use mathlib.Core.Bool.{Bool, true, _&&_}
 use mathlib.Core.List.{List, [], _∷_}
 use lib.ListN.{length, length-append}
-use lib.Dec.{T, leb, ltb, eqb, eqb→eq}
+use lib.Dec.{T, leb, ltb, eqb→eq}
 use lib.Pow.{pow-pos}
-use Rattle.bits.specs.Choice.{pick, within}
 use Rattle.bits.specs.Lists.{All, every, allTrue}
-use Rattle.bits.specs.Bits.{bitsOfNumber}
 use Rattle.bits.specs.BitsLaws.{length-bits}
 use Rattle.bits.specs.Bytes.{Byte}
 use Rattle.bits.specs.Codec.{Codec}
-use Rattle.bits.specs.CodecLaws.{field, then, via, only, Ranged, ranged}
+use Rattle.bits.specs.CodecLaws.{field, then, via, only, ranged}
 use Rattle.bits.specs.Block.{Block}
 use Rattle.bits.specs.BlockLaws.{ended, fill}
 use Rattle.bits.specs.SizedLaws.{ahead, pass, recast}

@@ -1,18 +1,16 @@
 -- Reading and writing of a record, in bytes: what is written is read, and what is read was written. So reading accepts exactly the
 -- bytes of the records that are allowed.
 use mathlib.Core.Path.{_≡_, refl, sym, ap, ap₂, _∙_}
-use Prim.Native.Nat.{ℕ, _*_, _^_, _≤_, _<_}
+use Prim.Native.Nat.{ℕ, _^_, _≤_, _<_}
 use native.Mathlib.Omega.{arith}
-use mathlib.Core.Bool.{Bool}
-use mathlib.Core.List.{List, [], _∷_, _++_, append-nil}
+use mathlib.Core.List.{List, [], _∷_, append-nil}
 use lib.ListN.{length}
-use lib.Dec.{T}
-use Rattle.bits.specs.Choice.{pick, within, pick-yes, pick-split, within-low, within-high, within-yes}
+use Rattle.bits.specs.Choice.{within, pick-yes, pick-split, within-high, within-yes}
 use Rattle.bits.specs.Lists.{All}
 use Rattle.bits.specs.Bits.{Bits}
-use Rattle.bits.specs.Bytes.{Byte, bitsOf, bytesOf}
+use Rattle.bits.specs.Bytes.{Byte, bitsOf}
 use Rattle.bits.specs.BytesLaws.{length-bitsOf, length-bytesOf, bits-bytes, bytes-bits, bytes-are}
-use Rattle.bits.specs.Codec.{Read, got, refused, next}
+use Rattle.bits.specs.Codec.{got}
 use Rattle.bits.specs.CodecLaws.{not-got, next-got}
 use Rattle.format.specs.Limits.{leastBytes, mostBytes}
 use Rattle.format.specs.Record.{Record, FitsRecord, recordOf, read, allOf, size, write, Allowed}

@@ -1,21 +1,20 @@
 -- Views and records: allowed by the record's rules, right by the sheet's; and the fields of an allowed record's sheet fit.
-use mathlib.Core.Path.{_≡_, refl, sym, ap, _∙_}
-use Prim.Native.Nat.{ℕ, suc, _+_, _*_, _/_, _%_, _^_, _≤_, _<_}
+use mathlib.Core.Path.{_≡_, refl, ap}
+use Prim.Native.Nat.{ℕ, suc, _+_, _*_, _^_, _≤_, _<_}
 use native.Mathlib.Omega.{arith}
-use mathlib.Core.Bool.{Bool, true, _&&_}
+use mathlib.Core.Bool.{Bool}
 use mathlib.Core.Option.{Option, none, some, Option·map}
-use mathlib.Core.List.{List, [], _∷_, _++_, map}
+use mathlib.Core.List.{List, [], _∷_, map}
 use lib.ListN.{length, length-append}
 use lib.Dec.{T, leb, eqb, leb→le, le→leb}
 use mir.Facts.{and-yes, yes-and, yes-eqb}
-use Rattle.bits.specs.Choice.{within, within-low, within-high, within-yes}
-use Rattle.bits.specs.Lists.{All, Along, every, all-true, true-all, every-yes, yes-every, all-append, all-map, along-map, all-along, along-all}
+use Rattle.bits.specs.Choice.{within, within-high}
+use Rattle.bits.specs.Lists.{All, Along, every, all-true, true-all, every-yes, all-append, all-map, along-map, all-along}
 use Rattle.bits.specs.Bytes.{Byte, inBytes}
 use Rattle.bits.specs.Block.{Block}
-use Rattle.bits.specs.BlockLaws.{ManyFits}
 use Rattle.bits.specs.CodecLaws.{encAll, encAlong}
 use Rattle.format.specs.Limits.{mostLines, mostBytes}
-use Rattle.format.specs.Line.{Line, FitsLine, line, skeleton}
+use Rattle.format.specs.Line.{FitsLine, line, skeleton}
 use Rattle.format.specs.IndexLaws.{falls-count}
 use Rattle.format.specs.Index.{Index, FitsList, index, indexBlock, up}
 use Rattle.format.specs.Segments.{Segment, FitsSegment, segment, segment-length, segments}
@@ -23,7 +22,7 @@ use Rattle.format.specs.View.{View, view, viewHeader, occurs}
 use Rattle.format.specs.Record.{Record, FitsRecord, Allowed, tellSeen, size}
 use Rattle.format.specs.declared.Widths.{Widths}
 use Rattle.format.proofs.Laws.Size.{view-length, views-length}
-use Rattle.sheet.specs.Fields.{Field, FitsField}
+use Rattle.sheet.specs.Fields.{FitsField}
 use Rattle.sheet.specs.Grammar.{one, indexFields, bodyFields, viewsFields, sheetFields, indexShape, viewShape, sheetShape, RawView}
 use Rattle.sheet.specs.Values.{headerValue, viewHeadValue, lineValue, widthValue, listValue, segmentValue}
 use Rattle.sheet.specs.Sheet.{alike, eachEnc, rawIndex, rawView, rawViews, rawOf}

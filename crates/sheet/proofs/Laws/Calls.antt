@@ -9,9 +9,8 @@ use Rattle.bits.specs.Lists.{All}
 use Rattle.bits.specs.Bits.{Bits}
 use Rattle.bits.specs.Bytes.{Byte}
 use Rattle.bits.specs.Codec.{Read, got, refused}
-use Rattle.outcome.specs.Outcome as O
 use Rattle.outcome.specs.Outcome.{given}
-use Rattle.format.specs.Record.{Record, Allowed, read, write}
+use Rattle.format.specs.Record.{Record, read, write}
 use Rattle.format.proofs.Laws.Record.{read-there, read-back}
 use Rattle.format.proofs.Laws.Call.{on-record, given-record}
 use Rattle.sheet.specs.Sheet.{sheetOf, readSheet, writes, reading, writing}

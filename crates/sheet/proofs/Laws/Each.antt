@@ -1,15 +1,14 @@
 -- Values read each by its block: what is written is read, and what is read was written.
 use mathlib.Core.Path.{_≡_, refl, ap, ap₂, _∙_}
-use Prim.Native.Nat.{ℕ, suc, _*_, _%_}
+use Prim.Native.Nat.{ℕ, suc}
 use native.Mathlib.Omega.{arith}
-use mathlib.Core.Bool.{Bool}
 use mathlib.Core.List.{List, [], _∷_}
 use lib.ListN.{length}
 use Rattle.bits.specs.Lists.{All, Along}
 use Rattle.bits.specs.Bits.{Bits}
 use Rattle.bits.specs.Bytes.{Byte, bitsOf, inBytes}
 use Rattle.bits.specs.BytesLaws.{length-bitsOf, bits-in, in-bits}
-use Rattle.bits.specs.Codec.{Read, got, refused, next}
+use Rattle.bits.specs.Codec.{got}
 use Rattle.bits.specs.CodecLaws.{next-got}
 use Rattle.bits.specs.Block.{Block}
 use Rattle.sheet.specs.Sheet.{eachEnc, eachDec}

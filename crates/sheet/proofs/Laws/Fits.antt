@@ -1,28 +1,27 @@
 -- The record's rules and the sheet's are the same: an allowed record has right values, in a sheet of the right shape; and a record
 -- with right values, from a sheet of the right shape, is allowed if it is not too long.
-use mathlib.Core.Path.{_≡_, refl, sym, ap, _∙_}
-use Prim.Native.Nat.{ℕ, zero, suc, _+_, _-_, _*_, _/_, _%_, _^_, _≤_, _<_}
+use mathlib.Core.Path.{_≡_, sym, _∙_}
+use Prim.Native.Nat.{ℕ, suc, _+_, _-_, _%_, _^_, _≤_, _<_}
 use native.Mathlib.Omega.{arith}
-use mathlib.Core.Bool.{Bool, true, _&&_}
+use mathlib.Core.Bool.{Bool}
 use mathlib.Core.Option.{Option, none, some, Option·map}
-use mathlib.Core.List.{List, [], _∷_, _++_, map}
-use lib.ListN.{length, length-append}
+use mathlib.Core.List.{List, [], _∷_}
+use lib.ListN.{length}
 use lib.Dec.{T, leb, ltb, eqb, leb→le, le→leb, ltb→lt, lt→ltb, eqb→eq}
-use lib.Pow.{pow-mono, pow-pos}
+use lib.Pow.{pow-mono}
 use mir.Facts.{and-yes, yes-and, yes-eqb}
-use Rattle.bits.specs.Choice.{pick, within, within-low, within-high, within-yes, pick-case}
+use Rattle.bits.specs.Choice.{within, within-low, within-high, within-yes, pick-case}
 use Rattle.bits.specs.Lists.{All, Along, every, all-true, true-all, every-yes, yes-every, along-map, along-both, all-along, along-all}
 use Rattle.bits.specs.Bytes.{Byte, inBytes}
-use Rattle.bits.specs.BlockLaws.{ManyFits}
-use Rattle.format.specs.Limits.{mostLines, mostBytes}
-use Rattle.format.specs.Line.{Line, FitsEnd, FitsLine, line, skeleton}
+use Rattle.format.specs.Limits.{mostLines}
+use Rattle.format.specs.Line.{Line, FitsEnd, FitsLine}
 use Rattle.format.specs.IndexLaws.{Falls, diffs}
-use Rattle.format.specs.Index.{Index, FitsList, FitsIndex, index, indexBlock, up}
+use Rattle.format.specs.Index.{Index, FitsList, index, indexBlock, up}
 use Rattle.format.specs.declared.Widths.{Widths}
 use Rattle.format.specs.declared.End.{End}
 use Rattle.sheet.specs.Code.{extended}
 use Rattle.sheet.specs.Grammar.{indexShape}
-use Rattle.sheet.specs.Values.{Below, EndValue, CodeValue, LineValue, lineValue, widthValue, fallsOk, listValue}
+use Rattle.sheet.specs.Values.{Below, EndValue, CodeValue, lineValue, widthValue, fallsOk, listValue}
 use Rattle.sheet.specs.Sheet.{alike, eachEnc, rawIndex}
 use Rattle.sheet.proofs.Laws.Each.{each-make, each-take, length-each}
 use Rattle.sheet.proofs.Laws.Lengths.{length-line, length-width, length-list}

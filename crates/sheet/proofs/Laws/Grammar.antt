@@ -4,11 +4,11 @@ use mathlib.Core.Path.{_≡_, refl, sym, ap, ap₂, _∙_, subst}
 use mathlib.Core.Logic.{_≢_}
 use Prim.Native.Nat.{ℕ, _<_}
 use native.Mathlib.Omega.{arith}
-use mathlib.Core.Bool.{Bool, true, false, not, _&&_}
+use mathlib.Core.Bool.{Bool, true, false, not}
 use mathlib.Core.Option.{Option, none, some}
-use mathlib.Core.List.{List, [], _∷_, _++_, append-assoc, append-nil, map}
+use mathlib.Core.List.{List, [], _∷_, _++_, append-nil, map}
 use lib.Dec.{T, eqb, eqb→eq}
-use mir.Facts.{and-yes, yes-and, no-eqb, yes-eqb}
+use mir.Facts.{and-yes, yes-and, no-eqb}
 use Rattle.bits.specs.Choice.{pick, pick-no, pick-case, T-true, eqb-true, eqb-false}
 use Rattle.bits.specs.Lists.{All, every, all-true, true-all, all-append, empty?, empty-is}
 use Rattle.sheet.specs.Fields.{Field}

@@ -1,12 +1,11 @@
 -- How long the values of a sheet are, in bytes.
-use mathlib.Core.Path.{_≡_, refl, ap, _∙_}
-use Prim.Native.Nat.{ℕ, _+_, _*_, _/_, _%_, _<_}
+use mathlib.Core.Path.{_≡_, _∙_}
+use Prim.Native.Nat.{ℕ, _+_, _*_, _/_}
 use native.Mathlib.Omega.{arith}
 use mathlib.Core.Bool.{Bool}
-use mathlib.Core.List.{List, [], _∷_, _++_}
+use mathlib.Core.List.{List, [], _∷_}
 use lib.ListN.{length, length-append, length-replicate}
 use Rattle.bits.specs.Lists.{All}
-use Rattle.bits.specs.Bits.{Bits, bitsOfNumber}
 use Rattle.bits.specs.BitsLaws.{length-bits}
 use Rattle.bits.specs.Bytes.{Byte, inBytes}
 use Rattle.bits.specs.BytesLaws.{length-in, bytes-are}

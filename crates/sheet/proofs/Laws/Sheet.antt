@@ -1,29 +1,26 @@
 -- Reading and writing of a sheet: an allowed record's sheet gives the record back, and a sheet that gives a record is that
 -- record's sheet.
-use mathlib.Core.Path.{_≡_, refl, sym, ap, _∙_}
-use Prim.Native.Nat.{ℕ, _*_, _%_, _≤_}
-use native.Mathlib.Omega.{arith}
+use mathlib.Core.Path.{_≡_, sym, ap, _∙_}
+use Prim.Native.Nat.{ℕ}
 use mathlib.Core.Bool.{Bool}
-use mathlib.Core.List.{List, [], _∷_}
-use lib.ListN.{length}
+use mathlib.Core.List.{List, []}
 use lib.Dec.{T, leb, leb→le, le→leb}
-use Rattle.bits.specs.Choice.{pick, pick-yes, pick-split, T-true}
+use Rattle.bits.specs.Choice.{pick, pick-yes, pick-split}
 use Rattle.bits.specs.Lists.{All}
 use Rattle.bits.specs.Bits.{Bits}
 use Rattle.bits.specs.Bytes.{Byte, bitsOf, inBytes}
-use Rattle.bits.specs.BytesLaws.{length-bitsOf, bits-in, in-bits, bytes-are}
-use Rattle.bits.specs.Codec.{Read, got, refused, next}
+use Rattle.bits.specs.Codec.{Read, got, refused}
 use Rattle.bits.specs.CodecLaws.{not-got, next-got, pick-got}
 use Rattle.outcome.specs.Refusals.{badSheet, tooLong}
 use Rattle.format.specs.Limits.{mostBytes}
 use Rattle.format.specs.Record.{Record, Allowed, size}
 use Rattle.sheet.specs.Fields.{Field, FitsField, tagged, fields}
-use Rattle.sheet.specs.Grammar.{RawSheet, sheetFields, sheetIn, sheetShape, grammar}
+use Rattle.sheet.specs.Grammar.{sheetFields, sheetIn, grammar}
 use Rattle.sheet.specs.Sheet.{rawOf, sheetOf, recordFrom, readSheet}
 use Rattle.sheet.proofs.Laws.Each.{value-there, value-back}
 use Rattle.sheet.proofs.Laws.Lengths.{value-bytes}
 use Rattle.sheet.proofs.Laws.Grammar.{sheet-there, grammar-there, grammar-back}
-use Rattle.sheet.proofs.Laws.Values.{RightValues, values-there, values-back}
+use Rattle.sheet.proofs.Laws.Values.{values-there, values-back}
 use Rattle.sheet.proofs.Laws.Allowed.{record-right, record-shape, record-fields, record-allowed}
 
 pub sheet-bytes : (r : Record) → All Byte (sheetOf r)

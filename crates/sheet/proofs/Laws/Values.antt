@@ -1,24 +1,21 @@
 -- Raw sheets and records go over into each other, where the values are right.
-use mathlib.Core.Path.{_≡_, refl, ap, ap₂, _∙_}
+use mathlib.Core.Path.{_≡_, refl, ap₂}
 use Prim.Native.Nat.{ℕ}
-use mathlib.Core.Bool.{Bool}
 use mathlib.Core.Option.{Option, none, some, Option·map}
-use mathlib.Core.List.{List, [], _∷_, _++_, map}
+use mathlib.Core.List.{List, [], _∷_, map}
 use Rattle.bits.specs.Lists.{All, Along, all-front, all-rest, map-all}
 use Rattle.bits.specs.Bits.{Bits}
 use Rattle.bits.specs.Bytes.{Byte, bitsOf}
-use Rattle.bits.specs.Codec.{Read, got, refused, next}
+use Rattle.bits.specs.Codec.{got}
 use Rattle.bits.specs.CodecLaws.{next-got}
-use Rattle.format.specs.Line.{Line}
 use Rattle.format.specs.Index.{Index, up}
-use Rattle.format.specs.Segments.{Segment}
 use Rattle.format.specs.View.{View, occurs}
 use Rattle.format.specs.Record.{Record, tellSeen}
 use Rattle.format.specs.declared.Widths.{Widths}
-use Rattle.sheet.specs.Fields.{Field, FitsField}
+use Rattle.sheet.specs.Fields.{FitsField}
 use Rattle.sheet.specs.Grammar.{RawView, RawSheet, one, indexFields, bodyFields, viewsFields, sheetFields}
 use Rattle.sheet.specs.Values.{headerValue, viewHeadValue, lineValue, widthValue, listValue, segmentValue}
-use Rattle.sheet.specs.Sheet.{alike, eachEnc, eachDec, rawIndex, rawView, rawViews, rawOf, indexFrom, viewFrom, viewsFrom, recordFrom}
+use Rattle.sheet.specs.Sheet.{alike, eachDec, rawIndex, rawView, rawViews, rawOf, indexFrom, viewFrom, viewsFrom, recordFrom}
 use Rattle.sheet.proofs.Laws.Each.{value-there, value-back, each-there, each-back}
 
 -- ---- right values
