@@ -67,10 +67,6 @@ falls-steps w m l (n ∷ ns) h f =
     let e : l - (l - n) ≡ n = omega arith in
     ((f .0, within-yes m l (l - n) (omega arith) (omega arith)), rw e (falls-steps w 1 n ns (h .1) (f .1)))
 
-pub falls-less : (m k l : ℕ) (ns : List ℕ) → k ≤ m → Falls m l ns → Falls k l ns
-falls-less m k l [] h f = tt
-falls-less m k l (n ∷ ns) h f = (omega arith, f .1)
-
 -- at most l + 1 numbers fall from l on, and one less where the first is below l
 pub falls-count : (m l : ℕ) (ns : List ℕ) → m ≤ 1 → Falls m l ns → length ns + m ≤ suc l
 falls-count m l [] k h = omega arith
