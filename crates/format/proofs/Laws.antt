@@ -2,3 +2,4 @@
 pub mod Size
 pub mod Record
 pub mod Call
+pub mod Refuses

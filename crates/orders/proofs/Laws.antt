@@ -7,3 +7,4 @@ pub mod Right
 pub mod Keep
 pub mod Story
 pub mod Sequence
+pub mod Holds

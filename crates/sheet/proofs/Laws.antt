@@ -7,3 +7,4 @@ pub mod Fits
 pub mod Allowed
 pub mod Sheet
 pub mod Calls
+pub mod Refuses

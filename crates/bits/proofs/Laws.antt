@@ -1,0 +1,2 @@
+-- The laws of the codec kit, by topic.
+pub mod Refuses

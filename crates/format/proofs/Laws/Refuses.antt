@@ -1,0 +1,103 @@
+-- A record is refused only by document 01's numbers 1 to 12, and at a place within it. The kit's laws give this of each format
+-- from its parts; scale and headFields, which the sheet reads too, have it for whatever numbers they are given.
+use mathlib.Core.Path.{_≡_}
+use Prim.Native.Nat.{ℕ, suc, _*_, _≤_}
+use native.Mathlib.Nat.{le-refl}
+use mathlib.Core.List.{List, [], _∷_}
+use lib.ListN.{length}
+use lib.Dec.{T}
+use Rattle.bits.specs.Choice.{within}
+use Rattle.bits.specs.Bits.{Bits}
+use Rattle.bits.specs.Bytes.{bitsOf}
+use Rattle.bits.specs.BytesLaws.{length-bitsOf}
+use Rattle.bits.specs.Codec.{refused}
+use Rattle.bits.proofs.Laws.Refuses.{Refusal, accepted, by, AtMost, Refuses, refused-by, pick-refusal, next-refuses, refusing}
+use Rattle.format.specs.Limits.{leastBytes, mostBytes}
+use Rattle.format.specs.Line.{end, line, skeleton}
+use Rattle.format.specs.Index.{neighbours, index, indexBlock}
+use Rattle.format.specs.Segments.{segment, segments}
+use Rattle.format.specs.View.{headFields, viewHeader, view}
+use Rattle.format.specs.Record.{scale, header, views, recordOf, allOf, read}
+use Rattle.format.specs.declared.Widths.{Widths}
+
+abbrev Listed : ℕ → Type 0
+Listed e = T (within 1 12 e)
+
+-- ---- the blocks of a view
+
+end-refuses : (w : Widths) → Refuses Listed (end w .dec)
+unfolding end
+end-refuses w = search refusing depth 12
+
+line-refuses : (w : Widths) → Refuses Listed (line w .dec)
+unfolding line
+line-refuses w = search (refusing, end-refuses) depth 12
+
+skeleton-refuses : (w : Widths) → Refuses Listed (skeleton w .dec)
+unfolding skeleton
+skeleton-refuses w = search (refusing, line-refuses)
+
+neighbours-refuses : (w l : ℕ) → Refuses Listed (neighbours w l .dec)
+neighbours-refuses w l = search refusing depth 12
+
+index-refuses : (n : ℕ) → Refuses Listed (index n .dec)
+unfolding index
+index-refuses n = search (refusing, neighbours-refuses)
+
+indexBlock-refuses : (n : ℕ) → Refuses Listed (indexBlock n .dec)
+unfolding indexBlock
+indexBlock-refuses n = search (refusing, index-refuses)
+
+segment-refuses : Refuses Listed (segment .dec)
+unfolding segment
+segment-refuses = search refusing depth 12
+
+segments-refuses : Refuses Listed (segments .dec)
+unfolding segments
+segments-refuses = search (refusing, segment-refuses)
+
+-- ---- a view
+
+pub headFields-refuses : (P : ℕ → Type 0) (e : ℕ) (earlier : ℕ → ℕ) → P e → Refuses P (headFields e earlier .dec)
+headFields-refuses P e earlier p = search refusing depth 12
+
+viewHeader-refuses : (earlier : ℕ → ℕ) → Refuses Listed (viewHeader earlier .dec)
+unfolding viewHeader
+viewHeader-refuses earlier = search (refusing, headFields-refuses)
+
+view-refuses : (w : Widths) (seen : List ℕ) → Refuses Listed (view w seen .dec)
+unfolding view
+view-refuses w seen = search (refusing, viewHeader-refuses, skeleton-refuses, indexBlock-refuses, segments-refuses) depth 12
+
+-- ---- the record
+
+pub scale-refuses : (P : ℕ → Type 0) (e : ℕ) → P e → Refuses P (scale e .dec)
+scale-refuses P e p = search refusing depth 12
+
+header-refuses : (n : ℕ) → Refuses Listed (header n .dec)
+unfolding header
+header-refuses n = search (refusing, scale-refuses) depth 12
+
+views-refuses : (w : Widths) (m : ℕ) → Refuses Listed (views w m .dec)
+unfolding views
+views-refuses w m = search (refusing, view-refuses)
+
+record-refuses : (n : ℕ) → Refuses Listed (recordOf n .dec)
+unfolding recordOf
+record-refuses n = search (refusing, header-refuses, views-refuses)
+
+-- ---- reading, in bytes
+
+all-refuses : {A : Type 0} (a : A) → Refuses Listed (allOf a)
+all-refuses a = record { at = go }
+  where
+    go : (s : Bits) → Refusal (AtMost Listed (length s)) (allOf a s)
+    go [] = accepted
+    go (b ∷ s) = by (tt, le-refl (suc (length s)))
+
+pub read-refuses : (bytes : List ℕ) (e left : ℕ) → read bytes ≡ refused e left → T (within 1 12 e) × (left ≤ 8 * length bytes)
+unfolding read
+read-refuses bytes e left p =
+    let n : ℕ = length bytes in
+    let h = next-refuses (recordOf n) (record-refuses n) all-refuses .at (bitsOf bytes) in
+    refused-by (pick-refusal (within leastBytes mostBytes n) (rw length-bitsOf at h) (by (tt, le-refl (8 * n)))) p

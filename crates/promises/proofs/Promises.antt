@@ -1,0 +1,123 @@
+-- WHAT THE LIBRARY PROMISES. Each promise is a statement; its proof is one citation. Every name in a statement leads to one
+-- definition: `read`, `write`, `Allowed` (format/specs/Record), `reading`, `writing` (sheet/specs/Sheet), `Outcome`, `Answers`
+-- (outcome/specs/Outcome), `Order`, `verdict`, `edited` (orders/specs/Order), `Call`, `run`, `Follows` (orders/specs/History).
+use mathlib.Core.Path.{_≡_}
+use mathlib.Core.Logic.{_≢_}
+use Prim.Native.Nat.{ℕ, _*_, _≤_}
+use mathlib.Core.Bool.{_||_}
+use mathlib.Core.List.{List, [], map}
+use lib.ListN.{length}
+use lib.Dec.{T, eqb}
+use Rattle.bits.specs.Choice.{within}
+use Rattle.bits.specs.Lists.{All, Along}
+use Rattle.bits.specs.Bits.{Bits}
+use Rattle.bits.specs.Bytes.{Byte}
+use Rattle.bits.specs.Codec as C
+use Rattle.outcome.specs.Refusals.{otherCount, tooLong, badSheet, badValue}
+use Rattle.outcome.specs.Outcome.{Outcome, refused, given, numberOf, lengthOf, laid, Answers}
+use Rattle.outcome.specs.declared.Answer.{Answer}
+use Rattle.outcome.proofs.Laws as O
+use Rattle.format.specs.Index.{FitsList, up}
+use Rattle.format.specs.View.{view}
+use Rattle.format.specs.Record.{Record, read, write, Allowed}
+use Rattle.format.specs.Places.{viewAt}
+use Rattle.format.proofs.Laws.Record as R
+use Rattle.format.proofs.Laws.Refuses as F
+use Rattle.sheet.specs.Sheet.{readSheet, reading, writing}
+use Rattle.sheet.proofs.Laws.Calls as S
+use Rattle.sheet.proofs.Laws.Refuses as G
+use Rattle.orders.specs.Least.{leastWidth}
+use Rattle.orders.specs.Act.{remove}
+use Rattle.orders.specs.Order.{Order, edited, verdict, holds}
+use Rattle.orders.specs.History.{Call, outcome, nowHolds, run}
+use Rattle.orders.proofs.Laws.Least as L
+use Rattle.orders.proofs.Laws.Accept as A
+use Rattle.orders.proofs.Laws.Keep as K
+use Rattle.orders.proofs.Laws.Sequence as Q
+use Rattle.orders.proofs.Laws.Holds as H
+use Rattle.promises.specs.Samples.{expected, computed, table}
+use Rattle.promises.proofs.Samples as P
+
+-- ---- DEMAND 1: every run of bytes gets a result; bad input is refused by a fixed number; a refusal writes nothing
+
+-- a record is refused by 1 to 12 and no other number, at a place within it
+pub record-refused : (bytes : List ℕ) (e left : ℕ) → read bytes ≡ C.refused e left → T (within 1 12 e) × (left ≤ 8 * length bytes)
+record-refused = F.read-refuses
+
+-- a sheet is refused by 21, 22 or 19
+pub sheet-refused : (sheet : List ℕ) (e left : ℕ) → readSheet sheet ≡ C.refused e left → T (eqb e badSheet || eqb e badValue || eqb e tooLong)
+sheet-refused = G.readSheet-refuses
+
+-- whatever a call is, an answer other than 0 leaves the lent buffer as it was, and a length of 0
+pub refusal-writes-nothing : {A : Type 0} {o : Outcome A} {before after : List A} {a : Answer} → Answers o before after a → a .number ≢ 0
+    → (after ≡ before) × (a .length ≡ 0)
+refusal-writes-nothing = O.refusal-writes-nothing
+
+-- ---- DEMAND 2: reading accepts exactly the allowed records; sheet and record give each other back
+
+pub accepted-is-allowed : (bytes : List ℕ) (r : Record) (rest : Bits) → All Byte bytes → read bytes ≡ C.got r rest → Allowed r × (bytes ≡ write r) × (rest ≡ [])
+accepted-is-allowed = R.read-back
+
+pub allowed-is-accepted : (r : Record) → Allowed r → read (write r) ≡ C.got r []
+allowed-is-accepted = R.read-there
+
+-- writing the sheet that reading gave gives the bytes back
+pub write-after-read : (bytes sheet : List ℕ) → All Byte bytes → reading bytes ≡ given sheet → writing sheet ≡ given bytes
+write-after-read = S.write-after-read
+
+-- reading the record that writing gave gives the sheet back
+pub read-after-write : (sheet bytes : List ℕ) → All Byte sheet → writing sheet ≡ given bytes → reading bytes ≡ given sheet
+read-after-write = S.read-after-write
+
+-- ---- DEMAND 3: orders
+
+-- an order is accepted exactly where its view is there, has the count, passes the order's own tests, and the result is not too long
+pub order-accepted : (o : Order) (r : Record) → verdict o r ≡ 0 → A.Accepted o r
+order-accepted = A.accepted
+
+pub accepted-order : (o : Order) (r : Record) → A.Accepted o r → verdict o r ≡ 0
+accepted-order = A.verdict-zero
+
+-- it then leaves an allowed record
+pub order-keeps : (o : Order) (r : Record) → Allowed r → verdict o r ≡ 0 → Allowed (edited o r)
+order-keeps = K.order-keeps
+
+-- and every view that it does not name keeps its bits, whatever positions stand before it
+pub others-keep-their-bits : (o : Order) (r : Record) (i : ℕ) (s t : List ℕ) → i ≢ o .view
+    → view (edited o r .head .scale .widths) s .enc (viewAt (edited o r) i) ≡ view (r .head .scale .widths) t .enc (viewAt r i)
+others-keep-their-bits = K.edited-bits
+
+-- an edited view's width holds every count and difference (it is allowed), and no smaller one does
+pub least-width : (ls : List (List ℕ)) (u : ℕ) → 1 ≤ u → Along up (FitsList u) 0 ls → leastWidth ls ≤ u
+least-width = L.least-least
+
+-- a refused order changes nothing
+pub refused-stays : (c : Call) (bytes : List ℕ) → numberOf (outcome c bytes) ≢ 0 → nowHolds bytes (outcome c bytes) ≡ bytes
+refused-stays = Q.refused-stays
+
+-- THE SEQUENCE: from any accepted record, any orders, each result fed to the next: the record that holds at the end is allowed, has
+-- the header and as many views, and each view is what the accepted orders on it say, through all renumbering
+pub orders-follow : (cs : List Call) (bytes : List ℕ) (r : Record) → All Byte bytes → read bytes ≡ C.got r [] → Q.Kept cs r bytes
+orders-follow = Q.orders-follow
+
+-- a removal, once accepted, is refused with 14 wherever it comes again, whatever room is lent
+pub removal-again : (c : Call) (rs : List ℕ) (cs : List Call) (bytes : List ℕ) (r : Record) → All Byte bytes → read bytes ≡ C.got r []
+    → c .order .act ≡ remove rs → numberOf (outcome c bytes) ≡ 0
+    → (n : ℕ) → outcome (record { order = c .order; lent = n }) (run cs (nowHolds bytes (outcome c bytes))) ≡ refused otherCount 0
+removal-again = Q.removal-again
+
+-- the record that now holds, found from the answer and the second buffer, is the one that the sequence goes on with
+pub holds-now : (c : Call) (bytes second : List ℕ)
+    → holds bytes (laid second (outcome c bytes)) (numberOf (outcome c bytes)) (lengthOf (outcome c bytes)) ≡ nowHolds bytes (outcome c bytes)
+holds-now = H.holds-now
+
+-- ---- UNIQUENESS: two answers that a statement allows are equal, and so are the buffers they leave
+
+pub one-answer : {A : Type 0} {o : Outcome A} {before after₁ after₂ : List A} {a₁ a₂ : Answer} → Answers o before after₁ a₁ → Answers o before after₂ a₂
+    → (a₁ ≡ a₂) × (after₁ ≡ after₂)
+one-answer = O.one-answer
+
+-- ---- P1 TO P11
+
+pub samples : map computed table ≡ map expected table
+samples = P.samples
