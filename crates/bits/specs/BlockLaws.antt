@@ -8,7 +8,7 @@ use mathlib.Core.List.{List, [], _∷_, _++_, append-assoc}
 use lib.ListN.{length, length-append, length-replicate}
 use lib.Dec.{T}
 use mir.Facts.{ltb-yes, yes-ltb, no-ltb}
-use Rattle.bits.specs.Choice.{pick-yes, pick-no, pick-split}
+use Rattle.bits.specs.ChoiceLaws.{pick-yes, pick-no, pick-split}
 use Rattle.bits.specs.Lists.{All}
 use Rattle.bits.specs.Bits.{Bits, zeros, pad, filled}
 use Rattle.bits.specs.BitsLaws.{pad-lt, pad-is, filled-bytes}

@@ -8,7 +8,8 @@ use mathlib.Core.List.{List, [], _∷_, _++_, append-assoc}
 use lib.ListN.{length, take, drop, length-append, take-append-drop}
 use lib.Dec.{T, leb, eqb, leb→le, le→leb, eqb-refl, eqb→eq}
 use lib.Seq.{take-at, drop-at, length-take-le}
-use Rattle.bits.specs.Choice.{pick, within, pick-yes, pick-split}
+use Rattle.bits.specs.Choice.{pick, within}
+use Rattle.bits.specs.ChoiceLaws.{pick-yes, pick-split}
 use Rattle.bits.specs.Lists.{All, Along}
 use Rattle.bits.specs.Bits.{Bits, numberOf, bitsOfNumber}
 use Rattle.bits.specs.BitsLaws.{length-bits, number-bits, bits-number, number-lt}

@@ -1,5 +1,7 @@
 pub mod Choice
+pub mod ChoiceLaws
 pub mod Lists
+pub mod ListsLaws
 pub mod Bits
 pub mod BitsLaws
 pub mod Codec

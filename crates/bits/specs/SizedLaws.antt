@@ -7,7 +7,7 @@ use mathlib.Core.List.{[], _++_}
 use lib.ListN.{length, take, drop, length-append, take-append-drop}
 use lib.Dec.{T, leb, leb→le, le→leb}
 use lib.Seq.{take-at, drop-at, length-take-le}
-use Rattle.bits.specs.Choice.{pick-yes, pick-split}
+use Rattle.bits.specs.ChoiceLaws.{pick-yes, pick-split}
 use Rattle.bits.specs.Bits.{Bits}
 use Rattle.bits.specs.Codec.{Read, got, refused, Codec}
 use Rattle.bits.specs.CodecLaws.{not-got, pick-got, next-got, field, then, via}

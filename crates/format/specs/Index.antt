@@ -1,7 +1,5 @@
 -- The neighbour index. "Length 0 means no index. Otherwise one byte w (1-16), then for each line, in order, a count (w bits) and
--- that many differences (w bits each), then 0 to 7 zero bits up to the block's end. For line L the differences are L minus its
--- first neighbour, first minus second, and so on. The first may be 0, a line next to itself; the others are at least 1; their sum
--- is at most L."
+-- that many differences (w bits each), then 0 to 7 zero bits up to the block's end."
 use mathlib.Core.Path.{_≡_, refl, ap₂, _∙_}
 use Prim.Native.Nat.{ℕ, suc, _-_, _^_, _≤_, _<_}
 use native.Mathlib.Omega.{arith}
@@ -9,7 +7,7 @@ use mathlib.Core.Bool.{Bool}
 use mathlib.Core.Option.{Option}
 use mathlib.Core.List.{List}
 use lib.ListN.{length, length-append}
-use Rattle.bits.specs.Choice.{within-low, within-high, within-yes}
+use Rattle.bits.specs.ChoiceLaws.{within-low, within-high, within-yes}
 use Rattle.bits.specs.Lists.{All, Along}
 use Rattle.bits.specs.Bits.{filled}
 use Rattle.bits.specs.BitsLaws.{length-bits}
@@ -18,7 +16,8 @@ use Rattle.bits.specs.CodecLaws.{field, then, via, along, ranged}
 use Rattle.bits.specs.Block.{Block}
 use Rattle.bits.specs.BlockLaws.{ended, maybe}
 use Rattle.outcome.specs.Refusals.{badIndex}
-use Rattle.format.specs.IndexLaws.{Falls, diffs, undiffs, diff, tell, length-diffs, length-undiffs, undiffs-diffs, falls-steps, steps-falls}
+use Rattle.format.specs.Differences.{Falls, diffs, undiffs, diff, tell}
+use Rattle.format.specs.DifferencesLaws.{length-diffs, length-undiffs, undiffs-diffs, falls-steps, steps-falls}
 
 -- line l's neighbours by number, highest first, at width w
 pub record FitsList (w l : ℕ) (ns : List ℕ) : Type 0 where

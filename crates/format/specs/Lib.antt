@@ -1,7 +1,8 @@
 pub mod Limits
 pub mod Line
 pub mod Index
-pub mod IndexLaws
+pub mod Differences
+pub mod DifferencesLaws
 pub mod Segments
 pub mod View
 pub mod Record

@@ -4,7 +4,7 @@ use mathlib.Core.List.{List, [], _∷_}
 use lib.ListN.{length}
 use lib.Dec.{ltb}
 use Rattle.bits.specs.Choice.{pick}
-use Rattle.format.specs.IndexLaws.{diffs}
+use Rattle.format.specs.Differences.{diffs}
 use Rattle.format.specs.Index.{Index}
 
 -- the first width from w on, over at most f further ones, that holds m

@@ -5,7 +5,7 @@ use Prim.Native.Nat.{ℕ, _≤_}
 use mathlib.Core.List.{List}
 use lib.ListN.{length}
 use lib.Dec.{leb, le→leb}
-use Rattle.bits.specs.Choice.{pick-yes}
+use Rattle.bits.specs.ChoiceLaws.{pick-yes}
 use Rattle.outcome.specs.Outcome.{Outcome, refused, given, room, numberOf, lengthOf, laid, Answers}
 use Rattle.outcome.specs.declared.Answer.{Answer}
 

@@ -7,7 +7,8 @@ use native.Mathlib.Nat.{mod-eq-of-lt, add-mul-mod-self-right}
 use mathlib.Core.Bool.{Bool}
 use lib.Dec.{T, ltb, eqb, eqb-refl}
 use lib.Pow.{pow-mono, high-ones}
-use Rattle.bits.specs.Choice.{pick, pick-case, split}
+use Rattle.bits.specs.Choice.{pick}
+use Rattle.bits.specs.ChoiceLaws.{pick-case, split}
 
 unfoldable pub extended : ℕ → ℕ → ℕ
 extended k n = pick (ltb n (2 ^ (k - 1))) n (n + (2 ^ 8 - 2 ^ k))

@@ -19,7 +19,7 @@ use Rattle.bits.specs.BlockLaws.{ended, fill}
 use Rattle.bits.specs.SizedLaws.{ahead, pass, recast}
 use Rattle.outcome.specs.Refusals.{badValue}
 use Rattle.format.specs.Line.{Line, EndFits, endOf}
-use Rattle.format.specs.IndexLaws.{diffs}
+use Rattle.format.specs.Differences.{diffs}
 use Rattle.format.specs.Segments.{Segment}
 use Rattle.format.specs.View.{headFields}
 use Rattle.format.specs.Record.{FitsHeader, scale}

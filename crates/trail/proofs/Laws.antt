@@ -6,8 +6,10 @@ use native.Mathlib.Nat.{add-mul, one-mul, mod-lt, mod-add-mod, add-mul-mod-self-
 use mathlib.Core.Bool.{Bool, true, false, not}
 use mathlib.Core.List.{List, [], _∷_}
 use lib.Dec.{T, ltb}
-use Rattle.bits.specs.Choice.{pick, pick-yes, pick-no, pick-case}
-use Rattle.bits.specs.Lists.{All, all-append}
+use Rattle.bits.specs.Choice.{pick}
+use Rattle.bits.specs.ChoiceLaws.{pick-yes, pick-no, pick-case}
+use Rattle.bits.specs.Lists.{All}
+use Rattle.bits.specs.ListsLaws.{all-append}
 use Rattle.bits.specs.Bits.{val}
 use Rattle.trail.specs.Trail.{turnsLevel, turned, newHeading, follow}
 

@@ -5,7 +5,8 @@ use Prim.Native.Nat.{ℕ, _^_, _≤_, _<_}
 use native.Mathlib.Omega.{arith}
 use mathlib.Core.List.{List, [], _∷_, append-nil}
 use lib.ListN.{length}
-use Rattle.bits.specs.Choice.{within, pick-yes, pick-split, within-high, within-yes}
+use Rattle.bits.specs.Choice.{within}
+use Rattle.bits.specs.ChoiceLaws.{pick-yes, pick-split, within-high, within-yes}
 use Rattle.bits.specs.Lists.{All}
 use Rattle.bits.specs.Bits.{Bits}
 use Rattle.bits.specs.Bytes.{Byte, bitsOf}

@@ -9,8 +9,9 @@ use mathlib.Core.List.{List, [], _∷_}
 use lib.ListN.{length}
 use lib.Dec.{T, leb, ltb, eqb, leb→le, le→leb, ltb→lt, lt→ltb, eqb→eq}
 use mir.Facts.{and-yes, yes-eqb, no-eqb}
-use Rattle.bits.specs.Choice.{pick-yes, pick-no, pick-split}
-use Rattle.bits.specs.Lists.{All, all-front, all-rest, all-append}
+use Rattle.bits.specs.ChoiceLaws.{pick-yes, pick-no, pick-split}
+use Rattle.bits.specs.Lists.{All}
+use Rattle.bits.specs.ListsLaws.{all-front, all-rest, all-append}
 use Rattle.outcome.specs.Refusals.{otherCount}
 use Rattle.format.specs.Limits.{mostBytes}
 use Rattle.format.specs.View.{View}

@@ -10,7 +10,7 @@ use lib.ListN.{length, drop, length-append}
 use lib.Dec.{leb, eqb, le→leb}
 use lib.Seq.{take-append-seam}
 use mir.Facts.{eqb-no}
-use Rattle.bits.specs.Choice.{pick-yes, pick-case, eqb-false, within-low}
+use Rattle.bits.specs.ChoiceLaws.{pick-yes, pick-case, eqb-false, within-low}
 use Rattle.bits.specs.Codec.{Read}
 use Rattle.bits.specs.Codec as C
 use Rattle.outcome.specs.Outcome.{Outcome, refused, given, room, numberOf, lengthOf, laid}

@@ -10,13 +10,14 @@ use mathlib.Core.Option.{Option, none, some, Option·map}
 use mathlib.Core.List.{List, [], _∷_}
 use lib.ListN.{length, getD, set, length-append, length-set, length-map}
 use lib.Seq.{getD-set-same, getD-set-other}
-use Rattle.bits.specs.Lists.{Along, all-at, all-map, along-at, along-up, up-along, mapped}
+use Rattle.bits.specs.Lists.{Along}
+use Rattle.bits.specs.ListsLaws.{all-at, all-map, along-at, along-up, up-along, mapped}
 use Rattle.bits.specs.Codec.{Codec}
 use Rattle.bits.specs.CodecLaws.{encAlong}
 use Rattle.bits.specs.BlockLaws.{ManyFits}
 use Rattle.format.specs.Limits.{mostLines, mostBytes}
 use Rattle.format.specs.Line.{Line, line, skeleton}
-use Rattle.format.specs.IndexLaws.{Falls}
+use Rattle.format.specs.Differences.{Falls}
 use Rattle.format.specs.Index.{Index, FitsList, FitsIndex, up, index, indexBlock}
 use Rattle.format.specs.View.{View, view, viewHeader}
 use Rattle.format.specs.Record.{Record, tellSeen, Allowed}

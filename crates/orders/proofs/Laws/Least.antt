@@ -6,10 +6,11 @@ use mathlib.Core.List.{List, [], _∷_}
 use lib.ListN.{length}
 use lib.Dec.{ltb, ltb→lt, nltb→le}
 use lib.Pow.{pow-mono, pow-pos}
-use Rattle.bits.specs.Choice.{pick-case, split}
+use Rattle.bits.specs.ChoiceLaws.{pick-case, split}
 use Rattle.bits.specs.Lists.{All, Along}
 use Rattle.format.specs.Limits.{mostLines}
-use Rattle.format.specs.IndexLaws.{Falls, diffs, falls-count}
+use Rattle.format.specs.Differences.{Falls, diffs}
+use Rattle.format.specs.DifferencesLaws.{falls-count}
 use Rattle.format.specs.Index.{FitsList, FitsIndex, up}
 use Rattle.orders.specs.Least.{find, maxOf, numbersFrom, leastWidth, indexOf}
 

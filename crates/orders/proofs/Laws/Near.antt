@@ -10,8 +10,9 @@ use lib.ListN.{length, getD}
 use lib.Dec.{eqb, ltb, eqb→eq}
 use lib.Seq.{getD-set-same, getD-set-other}
 use mir.Facts.{eqb-no}
-use Rattle.bits.specs.Choice.{pick, pick-case, eqb-true, eqb-false, eq-split}
-use Rattle.bits.specs.Lists.{map-at, mapped}
+use Rattle.bits.specs.Choice.{pick}
+use Rattle.bits.specs.ChoiceLaws.{pick-case, eqb-true, eqb-false, eq-split}
+use Rattle.bits.specs.ListsLaws.{map-at, mapped}
 use Rattle.format.specs.Index.{Index}
 use Rattle.format.specs.View.{View}
 use Rattle.format.specs.Places.{count}

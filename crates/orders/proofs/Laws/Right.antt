@@ -11,9 +11,9 @@ use lib.ListN.{length, getD, length-set, length-map}
 use lib.Dec.{T, ltb, eqb, ltb→lt, nltb→le}
 use lib.Seq.{getD-set-same, getD-set-other}
 use mir.Facts.{or-no, eqb-no}
-use Rattle.bits.specs.Choice.{pick-case, split, eq-split}
-use Rattle.bits.specs.Lists.{all-at, map-at, mapped}
-use Rattle.format.specs.IndexLaws.{Falls}
+use Rattle.bits.specs.ChoiceLaws.{pick-case, split, eq-split}
+use Rattle.bits.specs.ListsLaws.{all-at, map-at, mapped}
+use Rattle.format.specs.Differences.{Falls}
 use Rattle.format.specs.View.{View}
 use Rattle.format.specs.Places.{count}
 use Rattle.orders.specs.Survive.{elem, at, survivors, renumber, RisesFrom}

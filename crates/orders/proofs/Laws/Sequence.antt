@@ -8,7 +8,7 @@ use mathlib.Core.List.{List, [], _∷_}
 use lib.ListN.{length}
 use lib.Dec.{eqb, leb, eqb→eq}
 use mir.Facts.{eqb-no}
-use Rattle.bits.specs.Choice.{pick-case, eqb-true, eqb-false, eq-split}
+use Rattle.bits.specs.ChoiceLaws.{pick-case, eqb-true, eqb-false, eq-split}
 use Rattle.bits.specs.Lists.{All}
 use Rattle.bits.specs.Bytes.{Byte}
 use Rattle.bits.specs.Codec.{got}

@@ -10,7 +10,7 @@ use lib.ListN.{length, length-map}
 use lib.Dec.{T, leb, ltb, eqb, ltb→lt}
 use mir.Facts.{and-yes}
 use Rattle.bits.specs.Choice.{pick}
-use Rattle.bits.specs.Lists.{all-at, map-at}
+use Rattle.bits.specs.ListsLaws.{all-at, map-at}
 use Rattle.format.specs.Index.{Index}
 use Rattle.format.specs.View.{View}
 use Rattle.format.specs.Places.{count, noLine, lineAt}

@@ -9,7 +9,7 @@ use mathlib.Core.Option.{none, some}
 use mathlib.Core.List.{List, [], _∷_}
 use lib.ListN.{length}
 use lib.Dec.{T, T-not, eqb}
-use Rattle.bits.specs.Choice.{pick-case, eqb-true, eqb-false, split, eq-split}
+use Rattle.bits.specs.ChoiceLaws.{pick-case, eqb-true, eqb-false, split, eq-split}
 use Rattle.bits.specs.Lists.{All}
 use Rattle.orders.specs.Survive.{elem, at, upFrom, without, survivors, place, renumber, RisesFrom}
 

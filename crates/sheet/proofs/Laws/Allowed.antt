@@ -8,14 +8,16 @@ use mathlib.Core.List.{List, [], _∷_, map}
 use lib.ListN.{length, length-append}
 use lib.Dec.{T, leb, eqb, leb→le, le→leb}
 use mir.Facts.{and-yes, yes-and, yes-eqb}
-use Rattle.bits.specs.Choice.{within, within-high}
-use Rattle.bits.specs.Lists.{All, Along, every, all-true, true-all, every-yes, all-append, all-map, along-map, all-along}
+use Rattle.bits.specs.Choice.{within}
+use Rattle.bits.specs.ChoiceLaws.{within-high}
+use Rattle.bits.specs.Lists.{All, Along, every}
+use Rattle.bits.specs.ListsLaws.{all-true, true-all, every-yes, all-append, all-map, along-map, all-along}
 use Rattle.bits.specs.Bytes.{Byte, inBytes}
 use Rattle.bits.specs.Block.{Block}
 use Rattle.bits.specs.CodecLaws.{encAll, encAlong}
 use Rattle.format.specs.Limits.{mostLines, mostBytes}
 use Rattle.format.specs.Line.{FitsLine, line, skeleton}
-use Rattle.format.specs.IndexLaws.{falls-count}
+use Rattle.format.specs.DifferencesLaws.{falls-count}
 use Rattle.format.specs.Index.{Index, FitsList, index, indexBlock, up}
 use Rattle.format.specs.Segments.{Segment, FitsSegment, segment, segment-length, segments}
 use Rattle.format.specs.View.{View, view, viewHeader, occurs}

@@ -10,12 +10,14 @@ use lib.ListN.{length}
 use lib.Dec.{T, leb, ltb, eqb, leb→le, le→leb, ltb→lt, lt→ltb, eqb→eq}
 use lib.Pow.{pow-mono}
 use mir.Facts.{and-yes, yes-and, yes-eqb}
-use Rattle.bits.specs.Choice.{within, within-low, within-high, within-yes, pick-case}
-use Rattle.bits.specs.Lists.{All, Along, every, all-true, true-all, every-yes, yes-every, along-map, along-both, all-along, along-all}
+use Rattle.bits.specs.Choice.{within}
+use Rattle.bits.specs.ChoiceLaws.{within-low, within-high, within-yes, pick-case}
+use Rattle.bits.specs.Lists.{All, Along, every}
+use Rattle.bits.specs.ListsLaws.{all-true, true-all, every-yes, yes-every, along-map, along-both, all-along, along-all}
 use Rattle.bits.specs.Bytes.{Byte, inBytes}
 use Rattle.format.specs.Limits.{mostLines}
 use Rattle.format.specs.Line.{Line, FitsEnd, FitsLine}
-use Rattle.format.specs.IndexLaws.{Falls, diffs}
+use Rattle.format.specs.Differences.{Falls, diffs}
 use Rattle.format.specs.Index.{Index, FitsList, index, indexBlock, up}
 use Rattle.format.specs.declared.Widths.{Widths}
 use Rattle.format.specs.declared.End.{End}

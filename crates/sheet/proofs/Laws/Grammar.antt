@@ -9,8 +9,10 @@ use mathlib.Core.Option.{Option, none, some}
 use mathlib.Core.List.{List, [], _∷_, _++_, append-nil, map}
 use lib.Dec.{T, eqb, eqb→eq}
 use mir.Facts.{and-yes, yes-and, no-eqb}
-use Rattle.bits.specs.Choice.{pick, pick-no, pick-case, T-true, eqb-true, eqb-false}
-use Rattle.bits.specs.Lists.{All, every, all-true, true-all, all-append, empty?, empty-is}
+use Rattle.bits.specs.Choice.{pick}
+use Rattle.bits.specs.ChoiceLaws.{pick-no, pick-case, T-true, eqb-true, eqb-false}
+use Rattle.bits.specs.Lists.{All, every, empty?}
+use Rattle.bits.specs.ListsLaws.{all-true, true-all, all-append, empty-is}
 use Rattle.sheet.specs.Fields.{Field}
 use Rattle.sheet.specs.Grammar.{RawView, RawSheet, Parts, one, indexFields, bodyFields, viewsFields, sheetFields, parted, front, rest, indexIn, indexRest, viewIn, usedUp, sheetIn, sheetShape, ordered, grammar}
 

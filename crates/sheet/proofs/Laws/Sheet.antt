@@ -5,7 +5,8 @@ use Prim.Native.Nat.{ℕ}
 use mathlib.Core.Bool.{Bool}
 use mathlib.Core.List.{List, []}
 use lib.Dec.{T, leb, leb→le, le→leb}
-use Rattle.bits.specs.Choice.{pick, pick-yes, pick-split}
+use Rattle.bits.specs.Choice.{pick}
+use Rattle.bits.specs.ChoiceLaws.{pick-yes, pick-split}
 use Rattle.bits.specs.Lists.{All}
 use Rattle.bits.specs.Bits.{Bits}
 use Rattle.bits.specs.Bytes.{Byte, bitsOf, inBytes}

@@ -3,7 +3,8 @@ use mathlib.Core.Path.{_≡_, refl, ap₂}
 use Prim.Native.Nat.{ℕ}
 use mathlib.Core.Option.{Option, none, some, Option·map}
 use mathlib.Core.List.{List, [], _∷_, map}
-use Rattle.bits.specs.Lists.{All, Along, all-front, all-rest, map-all}
+use Rattle.bits.specs.Lists.{All, Along}
+use Rattle.bits.specs.ListsLaws.{all-front, all-rest, map-all}
 use Rattle.bits.specs.Bits.{Bits}
 use Rattle.bits.specs.Bytes.{Byte, bitsOf}
 use Rattle.bits.specs.Codec.{got}

@@ -1,37 +1,12 @@
--- Neighbours as differences: what a difference must be, and that falling lists and right differences go over into each other.
+-- Falling lists and right differences go over into each other.
 use mathlib.Core.Path.{_≡_, refl, ap, ap₂}
 use Prim.Native.Nat.{ℕ, suc, _+_, _-_, _^_, _≤_, _<_}
 use native.Mathlib.Omega.{arith}
-use mathlib.Core.Bool.{Bool}
 use mathlib.Core.List.{List, [], _∷_}
 use lib.ListN.{length}
-use Rattle.bits.specs.Choice.{within-low, within-high, within-yes}
+use Rattle.bits.specs.ChoiceLaws.{within-low, within-high, within-yes}
 use Rattle.bits.specs.Lists.{All, Along}
-use Rattle.bits.specs.Codec.{Codec}
-use Rattle.bits.specs.CodecLaws.{ranged}
-use Rattle.outcome.specs.Refusals.{badIndex}
-
--- the first at most l - m, each other below the one before
-abbrev pub Falls : ℕ → ℕ → List ℕ → Type 0
-Falls m l [] = Unit {0}
-Falls m l (n ∷ ns) = (n + m ≤ l) × Falls 1 n ns
-
--- L minus the first, first minus second, and so on
-abbrev pub diffs : ℕ → List ℕ → List ℕ
-diffs l [] = []
-diffs l (n ∷ ns) = (l - n) ∷ diffs n ns
-
-abbrev pub undiffs : ℕ → List ℕ → List ℕ
-undiffs l [] = []
-undiffs l (d ∷ ds) = (l - d) ∷ undiffs (l - d) ds
-
--- a difference: at least i .0, at most i .1
-abbrev pub diff : ℕ → ℕ × ℕ → Codec Bool ℕ
-diff w i = ranged badIndex w (i .0) (i .1)
-
--- the first may be 0; those behind it are at least 1; what is left of L is what their sum may still be
-abbrev pub tell : ℕ × ℕ → ℕ → ℕ × ℕ
-tell i d = (1, i .1 - d)
+use Rattle.format.specs.Differences.{Falls, diffs, undiffs, diff, tell}
 
 -- differences that the codec takes, from the state (m, l) on
 abbrev pub Steps : ℕ → ℕ → ℕ → List ℕ → Type 0
