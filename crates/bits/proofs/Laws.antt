@@ -1,2 +1,6 @@
--- The laws of the codec kit, by topic.
+-- The laws of the kit that proofs cite, by topic.
 pub mod Refuses
+pub mod Place
+pub mod Reads
+pub mod Loops
+pub mod Parts

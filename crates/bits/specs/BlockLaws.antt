@@ -18,13 +18,13 @@ use Rattle.bits.specs.Block.{Block, few, zerosDec, manyDec, endedDec, ma
 
 -- ---- few
 
-few-yes : (n : ℕ) → n < 8 → T (few n)
+pub few-yes : (n : ℕ) → n < 8 → T (few n)
 few-yes n h = yes-ltb {a = n} (omega arith)
 
-few-no : (n : ℕ) → 8 ≤ n → T (not (few n))
+pub few-no : (n : ℕ) → 8 ≤ n → T (not (few n))
 few-no n h = no-ltb {a = n} (omega arith)
 
-few-lt : (n : ℕ) → T (few n) → n < 8
+pub few-lt : (n : ℕ) → T (few n) → n < 8
 few-lt n t = let h = ltb-yes {a = n} t in omega arith
 
 -- ---- zeros

@@ -11,3 +11,4 @@ pub mod BlockLaws
 pub mod SizedLaws
 pub mod Bytes
 pub mod BytesLaws
+pub mod Reads

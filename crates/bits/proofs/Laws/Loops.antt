@@ -1,0 +1,127 @@
+-- The laws of loops that read: the answer from here on is the whole answer, for values that are counted, that follow each other
+-- along, that fill a block, and for zero bits.
+use mathlib.Core.Path.{_≡_, refl, ap, _∙_}
+use Prim.Native.Nat.{ℕ, zero, suc, _+_, _-_, _≤_, _<_}
+use native.Mathlib.Omega.{arith}
+use mathlib.Core.Bool.{Bool, true, false}
+use mathlib.Core.List.{List, [], _∷_}
+use lib.ListN.{length}
+use lib.Dec.{leb}
+use Rattle.bits.specs.ChoiceLaws.{pick-yes, pick-no}
+use Rattle.bits.specs.Bits.{Bits, numberOf}
+use Rattle.bits.specs.Codec.{Read, got, refused, next, Codec, fieldDec, timesDec, alongDec}
+use Rattle.bits.specs.CodecLaws.{pick-got}
+use Rattle.bits.specs.Block.{few, zerosDec, manyDec, fillDec}
+use Rattle.bits.specs.BlockLaws.{few-yes, few-no, many-over, fill-more}
+use Rattle.bits.specs.Reads.{kept, total, summed, tallied}
+
+-- ---- what is kept of values, of which the first is read
+
+pub kept-same : {S A B : Type 0} (f g : A → B) (o : Read S A) → ((a : A) → f a ≡ g a) → kept f o ≡ kept g o
+kept-same f g (got a r) h = ap (λ (b : _). got b r) (h a)
+kept-same f g (refused e l) h = refl
+
+kept-cons : {S A B : Type 0} (g : List A → B) (x : A) (o : Read S (List A)) → kept g (next o (λ xs q. got (x ∷ xs) q)) ≡ kept (λ xs. g (x ∷ xs)) o
+kept-cons g x (got xs q) = refl
+kept-cons g x (refused e l) = refl
+
+-- the sum, and the count with it, go on
+pub sum-more : {S A : Type 0} (f : A → ℕ) (z : ℕ) (x : A) (o : Read S (List A)) → kept (λ xs. z + total f (x ∷ xs)) o ≡ summed f (z + f x) o
+sum-more f z x o = kept-same _ _ o (λ xs. omega arith)
+
+pub tally-more : {S A : Type 0} (f : A → ℕ) (n z : ℕ) (x : A) (o : Read S (List A))
+    → kept (λ xs. (n + length (x ∷ xs), z + total f (x ∷ xs))) o ≡ tallied f (n + 1) (z + f x) o
+tally-more f n z x o =
+    kept-same _ _ o λ xs.
+    let a : n + suc (length xs) ≡ n + 1 + length xs = omega arith in
+    let b : z + (f x + total f xs) ≡ z + f x + total f xs = omega arith in
+    λ i. (a i, b i)
+
+pub sum-start : {S A : Type 0} (f : A → ℕ) (o : Read S (List A)) → summed f 0 o ≡ kept (total f) o
+sum-start f o = kept-same _ _ o (λ xs. omega arith)
+
+-- one value less of n
+less : {n i : ℕ} → i < n → n - i ≡ suc (n - (i + 1))
+less l = omega arith
+
+-- ---- values that are counted
+
+module _ {S A : Type 0} (c : Codec S A) (n i : ℕ) (s : List S) where
+  pub times-turn : {B : Type 0} (g : List A → B) {x : A} {r : List S} → i < n → c .dec s ≡ got x r
+      → kept g (timesDec c (n - i) s) ≡ kept (λ xs. g (x ∷ xs)) (timesDec c (n - (i + 1)) r)
+  times-turn g {x} {r} l h = ap (λ (k : ℕ). kept g (timesDec c k s)) (less l) ∙ rw h (kept-cons g x (timesDec c (n - (i + 1)) r))
+
+  pub times-stop : {e l : ℕ} → i < n → c .dec s ≡ refused e l → timesDec c (n - i) s ≡ refused e l
+  times-stop k h = ap (λ (j : ℕ). timesDec c j s) (less k) ∙ rw h
+
+  pub times-done : n ≤ i → timesDec c (n - i) s ≡ got [] s
+  times-done h = let z : n - i ≡ 0 = omega arith in ap (λ (j : ℕ). timesDec c j s) z
+
+module _ {S A I : Type 0} (c : I → Codec S A) (m : I → A → I) (n j : ℕ) (i : I) (s : List S) where
+  pub along-turn : {B : Type 0} (g : List A → B) {x : A} {r : List S} → j < n → c i .dec s ≡ got x r
+      → kept g (alongDec c m (n - j) i s) ≡ kept (λ xs. g (x ∷ xs)) (alongDec c m (n - (j + 1)) (m i x) r)
+  along-turn g {x} {r} l h = ap (λ (k : ℕ). kept g (alongDec c m k i s)) (less l) ∙ rw h (kept-cons g x (alongDec c m (n - (j + 1)) (m i x) r))
+
+  pub along-stop : {e l : ℕ} → j < n → c i .dec s ≡ refused e l → alongDec c m (n - j) i s ≡ refused e l
+  along-stop k h = ap (λ (d : ℕ). alongDec c m d i s) (less k) ∙ rw h
+
+  pub along-done : n ≤ j → alongDec c m (n - j) i s ≡ got [] s
+  along-done h = let z : n - j ≡ 0 = omega arith in ap (λ (d : ℕ). alongDec c m d i s) z
+
+-- ---- values while eight bits or more are left
+
+module _ {A : Type 0} (c : Codec Bool A) (bad over most n : ℕ) (s : Bits) where
+  pub many-turn : {B : Type 0} (g : List A → B) {x : A} {r : Bits} → n < most → 8 ≤ length s → c .dec s ≡ got x r
+      → kept g (manyDec c bad over (most - n) s) ≡ kept (λ xs. g (x ∷ xs)) (manyDec c bad over (most - (n + 1)) r)
+  many-turn g {x} {r} l h e =
+      ap (λ (k : ℕ). kept g (manyDec c bad over k s)) (less l)
+      ∙ ap (kept g) (pick-no (few (length s)) _ _ (few-no (length s) h) ∙ step) ∙ kept-cons g x (manyDec c bad over (most - (n + 1)) r)
+    where
+      step : next (c .dec s) (λ y q. next (manyDec c bad over (most - (n + 1)) q) (λ xs u. got (y ∷ xs) u)) ≡ next (manyDec c bad over (most - (n + 1)) r) (λ xs u. got (x ∷ xs) u)
+      step = rw e
+
+  pub many-stop : {e l : ℕ} → n < most → 8 ≤ length s → c .dec s ≡ refused e l → manyDec c bad over (most - n) s ≡ refused e l
+  many-stop k h d = ap (λ (j : ℕ). manyDec c bad over j s) (less k) ∙ pick-no (few (length s)) _ _ (few-no (length s) h) ∙ rw d
+
+  pub many-full : n ≡ most → 8 ≤ length s → manyDec c bad over (most - n) s ≡ refused over (length s)
+  many-full e h = let z : most - n ≡ 0 = omega arith in ap (λ (j : ℕ). manyDec c bad over j s) z ∙ many-over c bad over s h
+
+  pub many-last : length s < 8 → manyDec c bad over (most - n) s ≡ next (zerosDec bad s) (λ u r. got [] r)
+  many-last h = go (most - n)
+    where
+      go : (k : ℕ) → manyDec c bad over k s ≡ next (zerosDec bad s) (λ u r. got [] r)
+      go zero = pick-yes (few (length s)) _ _ (few-yes (length s) h)
+      go (suc k) = pick-yes (few (length s)) _ _ (few-yes (length s) h)
+
+-- ---- values that fill a block
+
+module _ {A : Type 0} (c : Codec Bool A) (bad most n : ℕ) (s : Bits) where
+  pub fill-turn : {B : Type 0} (g : List A → B) {x : A} {r : Bits} → n < most → 0 < length s → c .dec s ≡ got x r
+      → kept g (fillDec c bad (most - n) s) ≡ kept (λ xs. g (x ∷ xs)) (fillDec c bad (most - (n + 1)) r)
+  fill-turn g {x} {r} l h e =
+      ap (λ (k : ℕ). kept g (fillDec c bad k s)) (less l)
+      ∙ ap (kept g) (fill-more c bad (most - (n + 1)) s h ∙ step) ∙ kept-cons g x (fillDec c bad (most - (n + 1)) r)
+    where
+      step : next (c .dec s) (λ y q. next (fillDec c bad (most - (n + 1)) q) (λ xs u. got (y ∷ xs) u)) ≡ next (fillDec c bad (most - (n + 1)) r) (λ xs u. got (x ∷ xs) u)
+      step = rw e
+
+  pub fill-stop : {e l : ℕ} → n < most → 0 < length s → c .dec s ≡ refused e l → fillDec c bad (most - n) s ≡ refused e l
+  fill-stop k h d = ap (λ (j : ℕ). fillDec c bad j s) (less k) ∙ fill-more c bad (most - (n + 1)) s h ∙ rw d
+
+pub fill-done : {A : Type 0} (c : Codec Bool A) (bad k : ℕ) (s : Bits) → s ≡ [] → fillDec c bad k s ≡ got [] []
+fill-done c bad zero s e = ap (fillDec c bad 0) e
+fill-done c bad (suc k) s e = ap (fillDec c bad (suc k)) e
+
+-- ---- zero bits, one by one
+
+pub bit-zero : (e : ℕ) (s : Bits) {v : ℕ} {r : Bits} → fieldDec e 1 s ≡ got v r → v ≡ 0 → zerosDec e s ≡ zerosDec e r
+unfolding numberOf
+bit-zero e [] h z = let y : _≡_ {A = ℕ} 0 1 = cc in absurd (omega arith)
+bit-zero e (false ∷ s) h z = ap (zerosDec e) (pick-got (leb 1 (length (false ∷ s))) _ _ e _ h .2)
+bit-zero e (true ∷ s) h z = absurd (omega (arith, pick-got (leb 1 (length (true ∷ s))) _ _ e _ h .1))
+
+pub bit-one : (e : ℕ) (s : Bits) {v : ℕ} {r : Bits} → fieldDec e 1 s ≡ got v r → (v ≡ 0 → ⊥) → zerosDec e s ≡ refused e (length s)
+unfolding numberOf
+bit-one e [] h z = let y : _≡_ {A = ℕ} 0 1 = cc in absurd (omega arith)
+bit-one e (false ∷ s) h z = absurd (z (omega (arith, pick-got (leb 1 (length (false ∷ s))) _ _ e _ h .1)))
+bit-one e (true ∷ s) h z = refl

@@ -1,0 +1,57 @@
+-- What reading means for code that moves a place over a block of bytes: the value found and the place behind it, or a refusal and
+-- its place. Places are bits from the block's start.
+use mathlib.Core.Path.{_≡_}
+use Prim.Native.Nat.{ℕ, _+_, _-_, _*_, _≤_}
+use mathlib.Core.Bool.{Bool}
+use mathlib.Core.List.{List, [], _∷_}
+use lib.ListN.{length, drop}
+use Rattle.bits.specs.Bits.{Bits}
+use Rattle.bits.specs.Bytes.{bitsOf}
+use Rattle.bits.specs.Codec.{Read, got, refused}
+use Rattle.bits.specs.declared.Taken.{Taken}
+use Rattle.bits.specs.declared.Taken.the-variants as tk
+
+pub data Found (A : Type 0) : Type 0 where
+  found : A → ℕ → Found A
+  fault : ℕ → ℕ → Found A
+
+-- the same in the words of the formats
+abbrev pub placed : {A : Type 0} → List ℕ → Found A → Read Bool A
+placed s (found a p) = got a (drop p (bitsOf s))
+placed s (fault e p) = refused e (8 * length s - p)
+
+abbrev pub placeOf : {A : Type 0} → Found A → ℕ
+placeOf (found a p) = p
+placeOf (fault e p) = p
+
+-- reading with d from place p of the block s finds r
+pub record Reads {A : Type 0} (d : Bits → Read Bool A) (s : List ℕ) (p : ℕ) (r : Found A) : Type 0 where
+  pub is : d (drop p (bitsOf s)) ≡ placed s r
+  pub within : placeOf r ≤ 8 * length s
+
+-- what a field read finds; e is the refusal where it passes the end
+abbrev pub taken : ℕ → Taken → Found ℕ
+taken e (tk.Bits n c) = found n (c .at)
+taken e (tk.Short p) = fault e p
+
+-- ---- what is kept of a value
+
+abbrev pub kept : {S A B : Type 0} → (A → B) → Read S A → Read S B
+kept f (got a r) = got (f a) r
+kept f (refused e l) = refused e l
+
+-- nothing is
+abbrev pub after : {S A : Type 0} → Read S A → Read S (Unit {0})
+after o = kept (λ a. tt) o
+
+-- of values, a sum; z is the sum of those before
+abbrev pub total : {A : Type 0} → (A → ℕ) → List A → ℕ
+total f [] = 0
+total f (x ∷ xs) = f x + total f xs
+
+abbrev pub summed : {S A : Type 0} → (A → ℕ) → ℕ → Read S (List A) → Read S ℕ
+summed f z o = kept (λ xs. z + total f xs) o
+
+-- of values, how many and a sum; n and z are those of the values before
+abbrev pub tallied : {S A : Type 0} → (A → ℕ) → ℕ → ℕ → Read S (List A) → Read S (ℕ × ℕ)
+tallied f n z o = kept (λ xs. (n + length xs, z + total f xs)) o
