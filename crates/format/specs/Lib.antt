@@ -7,5 +7,6 @@ pub mod Segments
 pub mod View
 pub mod Record
 pub mod Places
+pub mod SheetSize
 pub mod Call
 pub mod Sample

@@ -1,0 +1,125 @@
+"""What each host call must answer: number, place, length and written bytes.
+
+The outcome of a call is worked out once with all the room it wants; then the
+lent output decides between acceptance and 20.
+"""
+
+from dataclasses import dataclass
+from functools import lru_cache
+
+import orders
+from build import build
+from judge import judge
+from model import Refusal
+from sheet import from_sheet, to_sheet
+from trail import trail
+
+CALLS = {"read": 1, "write": 2, "trail": 3, "segment": 4,
+         "remove": 5, "join": 6, "part": 7, "holds": 8}
+
+
+@dataclass
+class Outcome:
+    """A refusal, or what is written; `length` counts elements of `size` bytes."""
+
+    number: int
+    place: int = 0
+    length: int = 0
+    written: bytes = b""
+    size: int = 1
+
+
+@lru_cache(maxsize=128)
+def judged(data):
+    """The record or the refusal; kept, as many cases lend the same record."""
+    try:
+        return judge(data)
+    except Refusal as refusal:
+        return refusal
+
+
+def record_of(data):
+    """The record; its refusal is raised otherwise."""
+    result = judged(data)
+    if isinstance(result, Refusal):
+        raise Refusal(result.number, result.place)
+    return result
+
+
+def written(data, size=1):
+    """Acceptance with the bytes written."""
+    return Outcome(0, 0, len(data) // size, data, size)
+
+
+def answer_read(record):
+    return written(to_sheet(record_of(record)))
+
+
+def answer_write(sheet):
+    return written(build(from_sheet(sheet)))
+
+
+def answer_trail(view, line, record):
+    """Record, then 13, 15; two bytes for each element, high byte first."""
+    whole = record_of(record)
+    if view >= len(whole.views):
+        raise Refusal(13)
+    lines = whole.views[view].lines
+    if line >= len(lines):
+        raise Refusal(15)
+    elements = trail(lines[line], whole)
+    return written(b"".join(element.to_bytes(2, "big") for element in elements), 2)
+
+
+def answer_segment(view, segment, record):
+    """Record, then 13, 23; the payload's first bit and its length in bytes."""
+    whole = record_of(record)
+    if view >= len(whole.views):
+        raise Refusal(13)
+    segments = whole.views[view].segments
+    if segment >= len(segments):
+        raise Refusal(23)
+    found = segments[segment]
+    return Outcome(0, found.payload_bit, len(found.payload))
+
+
+def answer_remove(view, count, record, lines):
+    return written(build(orders.remove(record_of(record), view, count, lines)))
+
+
+def answer_join(view, count, first, second, record):
+    return written(build(orders.join(record_of(record), view, count,
+                                     first, second)))
+
+
+def answer_part(view, count, first, second, record):
+    return written(build(orders.part(record_of(record), view, count,
+                                     first, second)))
+
+
+def answer_holds(number, length, old, second):
+    """Number 1: the second buffer's first bytes hold; 0: the whole old record."""
+    if number == 0 and length <= len(second):
+        return Outcome(1, 0, length)
+    return Outcome(0, 0, len(old))
+
+
+ANSWERS = {"read": answer_read, "write": answer_write, "trail": answer_trail,
+           "segment": answer_segment, "remove": answer_remove,
+           "join": answer_join, "part": answer_part, "holds": answer_holds}
+
+
+def outcome(call, numbers, slices):
+    """The outcome of a call whose output has all the room it wants."""
+    try:
+        return ANSWERS[call](*numbers, *slices)
+    except Refusal as refusal:
+        return Outcome(refusal.number, refusal.place)
+
+
+def lent(result, out_size):
+    """The outcome where the lent output has `out_size` bytes: 20 comes last."""
+    elements = len(result.written) // result.size
+    if elements > out_size // result.size:
+        return Outcome(20)
+    return result

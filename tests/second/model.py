@@ -1,0 +1,108 @@
+"""The record of document 01 as plain structures, its limits, and the refusal.
+
+Every other file speaks in these words. A structure holds values, never
+lengths or padding: those follow from the values when bytes are built.
+"""
+
+from dataclasses import dataclass, field
+
+SMALLEST_RECORD = 24
+LARGEST_RECORD = 32768
+MOST_LINES = 1024
+MOST_VIEWS = 255
+HEADER_BYTES = 24
+VIEW_HEADER_BYTES = 10
+IDENTIFIER = bytes([0x46, 0x53, 0x4B, 0x00])
+VERSION = bytes([0x30, 0x31, 0x30, 0x00])
+IMPRESSIONS = (0, 1, 2, 3, 8, 9)
+
+
+class Refusal(Exception):
+    """A refusal: its number, and the place that request [1] asks for."""
+
+    def __init__(self, number, place=0):
+        super().__init__(number, place)
+        self.number = number
+        self.place = place
+
+
+@dataclass
+class Line:
+    """One line of a skeleton; codes are two's complement numbers."""
+
+    start_type: int
+    start_direction: int
+    start_x: int
+    start_y: int
+    codes: list
+    end_type: int
+    end_direction: int
+    end_x: int
+    end_y: int
+
+
+@dataclass
+class Index:
+    """The width w, and for each line its neighbours by number, highest first."""
+
+    w: int
+    neighbours: list
+
+
+@dataclass
+class Segment:
+    """An extended segment; payload_bit is known only where it was read."""
+
+    type: int
+    payload: bytes
+    payload_bit: int = 0
+
+
+@dataclass
+class View:
+    """One view; index None means index length 0."""
+
+    number: int
+    position: int
+    impression: int
+    quality: int
+    width: int
+    height: int
+    lines: list = field(default_factory=list)
+    index: Index = None
+    segments: list = field(default_factory=list)
+
+
+@dataclass
+class Record:
+    """One record; `device` is bytes 12 and 13 as one number."""
+
+    device: int
+    points: int
+    c: int
+    b: int
+    k: int
+    straight: int
+    perpendicular: int
+    half_turn: int
+    views: list = field(default_factory=list)
+
+
+def differences(line, neighbours):
+    """Clause 6.3.2: L minus its first neighbour, first minus second, and so on."""
+    result = []
+    before = line
+    for neighbour in neighbours:
+        result.append(before - neighbour)
+        before = neighbour
+    return result
+
+
+def least_width(neighbours):
+    """The least w, at least 1, that holds every count and every difference."""
+    largest = 0
+    for line, listed in enumerate(neighbours):
+        largest = max(largest, len(listed))
+        for difference in differences(line, listed):
+            largest = max(largest, difference)
+    return max(1, largest.bit_length())

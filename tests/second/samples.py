@@ -1,0 +1,122 @@
+"""Document 01's samples P1 to P11 and its run-only samples, as assertions.
+
+Run it alone; it prints one line when all hold. It shows that the second
+program reads document 01 as its own samples do, before it judges anything.
+"""
+
+from dataclasses import replace
+
+from answers import lent, outcome
+from bits import signed
+from build import build, index_bytes, parts_of, put_together
+from judge import judge
+from model import Index, Line, Record, Refusal, Segment, View, least_width
+from sheet import to_sheet
+from trail import first_heading, trail
+
+SAMPLE_A = bytes.fromhex(
+    "46534B003031300000000038000001C5"
+    "08080410402000000002005001000100"
+    "00105002850048C00E145002850048C0"
+    "0E14000201600000")
+
+
+def number_and_place(data):
+    """The refusal of a record's bytes as (number, place); (0, 0) if accepted."""
+    try:
+        judge(data)
+    except Refusal as refusal:
+        return refusal.number, refusal.place
+    return 0, 0
+
+
+def plain_line():
+    return Line(0, 0, 0, 0, [], 0, 0, 0, 0)
+
+
+def plain_record(**changes):
+    """One view, no lines, no index, no segments."""
+    record = Record(0, 100, 8, 8, 4, 16, 64, 32, [View(0, 2, 0, 80, 256, 256)])
+    return replace(record, **changes)
+
+
+def result_of(call, numbers, slices):
+    """The bytes an accepted call writes."""
+    found = outcome(call, numbers, slices)
+    assert found.number == 0, found
+    return found.written
+
+
+def index_block(data):
+    return index_bytes(judge(data).views[0].index)
+
+
+def proved_samples():
+    """P1 to P11."""
+    assert len(SAMPLE_A) == 56
+    assert number_and_place(SAMPLE_A) == (0, 0)                          # P1
+    sheet = result_of("read", [], [SAMPLE_A])
+    assert len(sheet) == 67
+    assert result_of("write", [], [sheet]) == SAMPLE_A
+    assert lent(outcome("read", [], [SAMPLE_A]), 66).number == 20
+    record = judge(SAMPLE_A)
+    assert trail(record.views[0].lines[0], record) == [36]               # P2
+    assert result_of("trail", [0, 0], [SAMPLE_A]) == bytes([0, 36])
+    p3 = result_of("remove", [0, 2], [SAMPLE_A, bytes([0, 0])])          # P3
+    assert len(p3) == 48 and index_block(p3) == bytes([1, 0])
+    assert outcome("remove", [0, 2], [p3, bytes([0, 0])]).number == 14   # P4
+    assert outcome("join", [0, 2, 0, 1], [SAMPLE_A]).number == 18        # P5
+    p5 = result_of("join", [0, 2, 0, 0], [SAMPLE_A])
+    assert index_block(p5) == bytes([0x01, 0xB0])
+    p6 = build(plain_record())                                           # P6
+    assert len(p6) == 38 and number_and_place(p6) == (0, 0)
+    p7 = bytearray(p6[:24])                                              # P7
+    p7[8:12] = (24).to_bytes(4, "big")
+    assert number_and_place(bytes(p7)) == (6, 192)
+    for b, number, place in ((3, 5, 136), (4, 0, 0)):                    # P8
+        assert number_and_place(build(plain_record(b=b))) == (number, place)
+    assert signed(0b1001, 4) == -7                                       # P9
+    turning = Line(0, 0, 0, 0, [-8, -7], 0, 0, 0, 0)
+    assert trail(turning, plain_record()) == [2 * (64 - 7) + 1]
+    assert first_heading(3, 32, 8) == 0                                  # P10
+    view = View(0, 2, 0, 80, 256, 256, [plain_line() for _ in range(31)],
+                Index(4, [[] for _ in range(30)] + [[15, 0]]))           # P11
+    p11 = build(plain_record(views=[view]))
+    assert len(index_block(p11)) == 18 and least_width(view.index.neighbours) == 4
+    removed = result_of("remove", [0, 31], [p11, bytes([0, 15])])
+    assert len(index_block(removed)) == 21 and index_block(removed)[0] == 5
+    assert judge(removed).views[0].index.neighbours[29] == [0]
+
+
+def run_only_samples():
+    """Quality, lines, c, record size at their limits; empty input."""
+    for quality, number in ((100, 0), (101, 7)):
+        views = [View(0, 2, 0, quality, 0, 0)]
+        assert number_and_place(build(plain_record(views=views)))[0] == number
+    for lines, number in ((1024, 0), (1025, 9)):
+        views = [View(0, 2, 0, 80, 0, 0, [plain_line() for _ in range(lines)])]
+        parts = parts_of(plain_record(views=views))
+        assert number_and_place(put_together(parts))[0] == number
+    for c, number in ((16, 0), (17, 5)):
+        assert number_and_place(build(plain_record(c=c)))[0] == number
+    for size, number in ((32768, 0), (32769, 1)):
+        views = [View(0, 2, 0, 80, 0, 0, [], None,
+                      [Segment(1, bytes(size - 38 - 4))])]
+        data = put_together(parts_of(plain_record(views=views)))
+        assert len(data) == size and number_and_place(data)[0] == number
+        if number == 1:
+            sheet = to_sheet(plain_record(views=views))
+            assert outcome("write", [], [sheet]).number == 19
+    assert number_and_place(b"") == (1, 0)
+    zero_byte_more = parts_of(judge(SAMPLE_A))
+    zero_byte_more.views[0].skeleton += b"\0"
+    assert number_and_place(put_together(zero_byte_more)) == (8, 8 * 50)
+    assert outcome("remove", [0, 2], [SAMPLE_A, bytes([0, 0, 1])]).number == 15
+    assert outcome("holds", [0, 56], [b"old", SAMPLE_A]).length == 56
+    assert outcome("holds", [0, 57], [b"old", SAMPLE_A]).length == 3
+
+
+if __name__ == "__main__":
+    proved_samples()
+    run_only_samples()
+    print("samples: P1 to P11 and the run-only samples hold")
