@@ -1,0 +1,124 @@
+"""Writes a file of cases with their expected answers, for the C replay host.
+
+    python3 tests/second/cases.py --calls read,trail --seed 1 --count 20000 --out FILE
+
+The same seed, calls and count give the same file. All numbers in the file are
+unsigned and stand high byte first:
+
+    file   8 bytes "FSKCASES", 4 bytes number of cases, then the cases
+    case   1 byte   call: 1 read, 2 write, 3 trail, 4 segment, 5 remove,
+                    6 join, 7 part, 8 holds
+           1 byte   number of numbers passed, then 8 bytes for each,
+                    in the order of the call's declaration
+           1 byte   number of input slices, then for each
+                    4 bytes length and that many bytes
+           4 bytes  size of the lent output in bytes (0: none, or an empty one)
+           1 byte   the byte that fills the output before the call
+           4 bytes  expected number
+           4 bytes  expected place
+           8 bytes  expected length
+           4 bytes  number of bytes written, then these bytes; every byte of
+                    the output beyond them must keep its fill
+
+Without --places every refusal's place is 0; with it the places are those of
+request [1]. A table of how often each number was met goes to standard error,
+and a number that was never met is a failure.
+"""
+
+import argparse
+import random
+import struct
+import sys
+from collections import Counter
+from itertools import islice
+
+from answers import CALLS
+from plan import Stock, streams
+
+OF_A_RECORD = set(range(1, 13))
+MUST_MEET = {
+    "read": {0, 20} | OF_A_RECORD,
+    "write": {0, 19, 20, 21, 22},
+    "trail": {0, 13, 15, 20} | OF_A_RECORD,
+    "segment": {0, 13, 23} | OF_A_RECORD,
+    "remove": {0, 13, 14, 15, 16, 19, 20} | OF_A_RECORD,
+    "join": {0, 13, 14, 15, 17, 18, 19, 20} | OF_A_RECORD,
+    "part": {0, 13, 14, 15, 17, 18, 19, 20} | OF_A_RECORD,
+    "holds": {0, 1},
+}
+
+
+def case_bytes(case, places):
+    """One case as it stands in the file."""
+    expected = case.expected
+    place = expected.place
+    if not places and expected.number != 0:
+        place = 0
+    pieces = [struct.pack(">BB", CALLS[case.call], len(case.numbers))]
+    pieces += [struct.pack(">Q", number) for number in case.numbers]
+    pieces.append(struct.pack(">B", len(case.slices)))
+    for lent_slice in case.slices:
+        pieces += [struct.pack(">I", len(lent_slice)), lent_slice]
+    pieces.append(struct.pack(">IB", case.out_size, case.fill))
+    pieces.append(struct.pack(">IIQ", expected.number, place, expected.length))
+    pieces += [struct.pack(">I", len(expected.written)), expected.written]
+    return b"".join(pieces)
+
+
+def all_cases(calls, seed, count):
+    """The cases of all calls in turn; each call has about the same share."""
+    stock = Stock(random.Random("%d stock" % seed))
+    share = -(-count // len(calls))
+    makers = streams(calls)
+    for place, call in enumerate(calls):
+        rng = random.Random("%d %s" % (seed, call))
+        wanted = min(share, count - place * share)
+        yield from islice(makers[call](rng, stock, share), max(0, wanted))
+
+
+def table(met, calls):
+    """How often each call gave each number, as text."""
+    lines = ["call     " + "".join("%6d" % number for number in range(24))]
+    for call in calls:
+        lines.append("%-9s" % call + "".join(
+            "%6s" % (met[call, number] or ".") for number in range(24)))
+    return "\n".join(lines)
+
+
+def arguments():
+    parser = argparse.ArgumentParser(description="writes a file of cases")
+    parser.add_argument("--calls", default=",".join(CALLS))
+    parser.add_argument("--seed", type=int, default=1)
+    parser.add_argument("--count", type=int, default=20000)
+    parser.add_argument("--places", action="store_true")
+    parser.add_argument("--out", required=True)
+    chosen = parser.parse_args()
+    chosen.calls = chosen.calls.split(",")
+    for call in chosen.calls:
+        if call not in CALLS:
+            parser.error("no call %s; there are %s" % (call, ", ".join(CALLS)))
+    return chosen
+
+
+def main():
+    chosen = arguments()
+    met = Counter()
+    written = 0
+    with open(chosen.out, "wb") as out:
+        out.write(b"FSKCASES" + struct.pack(">I", chosen.count))
+        for case in all_cases(chosen.calls, chosen.seed, chosen.count):
+            out.write(case_bytes(case, chosen.places))
+            met[case.call, case.expected.number] += 1
+            written += 1
+    print(table(met, chosen.calls), file=sys.stderr)
+    missing = [(call, number) for call in chosen.calls
+               for number in sorted(MUST_MEET[call]) if met[call, number] == 0]
+    for call, number in missing:
+        print("never met: %s gives %d" % (call, number), file=sys.stderr)
+    if written != chosen.count:
+        print("%d cases written, not %d" % (written, chosen.count), file=sys.stderr)
+    return 1 if missing or written != chosen.count else 0
+
+
+if __name__ == "__main__":
+    sys.exit(main())

@@ -1,0 +1,71 @@
+"""Turns a call and its arguments into a case: output lent, answer expected.
+
+Also the arguments that several calls share: view places, line numbers and
+counts that are mostly right and otherwise near a limit or a wrap-around.
+"""
+
+from dataclasses import dataclass
+
+from answers import Outcome, lent, outcome
+
+WITHOUT_OUTPUT = ("segment", "holds")
+
+
+@dataclass
+class Case:
+    """One case: what is passed and lent, and what must come back."""
+
+    call: str
+    numbers: list
+    slices: list
+    out_size: int
+    fill: int
+    expected: Outcome
+
+
+def out_size_for(rng, call, result):
+    """Exactly enough, one element too few, zero, more than needed, odd."""
+    if call in WITHOUT_OUTPUT:
+        return 0
+    if result.number != 0:
+        return rng.choice((0, 1, 2, 3, rng.randint(0, 100), rng.randint(0, 400)))
+    wanted = len(result.written)
+    element = result.size
+    sizes = [wanted, wanted, wanted, wanted + element, wanted - element, 0,
+             wanted + rng.randint(1, 40), wanted + rng.randint(1, 300),
+             rng.randint(0, wanted), wanted + 1, wanted - 1]
+    if rng.random() < 0.5:
+        sizes = sizes[:5]
+    return max(0, rng.choice(sizes))
+
+
+def lend(rng, call, numbers, slices, out_size=None):
+    """The case of a call; the size of its output is left to chance if not given."""
+    result = outcome(call, numbers, slices)
+    if out_size is None:
+        out_size = out_size_for(rng, call, result)
+    fill = rng.choice((0x00, 0xFF, 0xA5, rng.randrange(256)))
+    return Case(call, numbers, slices, out_size, fill, lent(result, out_size))
+
+
+def far_off(rng, right, count):
+    """A number that is not right: next to a limit, or right but for high bits."""
+    return rng.choice((count, count + 1, right + 256, right + 65536,
+                       right + (1 << 31), 255, 65535, (1 << 32) - 1,
+                       rng.randrange(1 << 32)))
+
+
+def place_in(rng, count, wrong=0.08):
+    """A number below `count` where there is one, and mostly right."""
+    right = rng.randrange(count) if count > 0 else 0
+    if rng.random() < wrong:
+        return far_off(rng, right, count)
+    return right
+
+
+def line_count(rng, count):
+    """The line count an order was made for, mostly right."""
+    if rng.random() < 0.06:
+        return rng.choice((count + 1, max(0, count - 1), 0, count + 256,
+                           count + 65536, (1 << 32) - 1))
+    return count

@@ -1,0 +1,141 @@
+"""Plans the cases of the three orders: single orders and whole sequences.
+
+In a sequence each accepted result is lent to the next order, as document 01
+means it; a refused order leaves the record that now holds.
+"""
+
+from answers import judged, outcome
+from build import build
+from lend import lend, line_count, place_in
+from make import about_to_grow, random_record
+from model import Record
+
+
+def numbers_as_bytes(numbers):
+    return b"".join(number.to_bytes(2, "big") for number in numbers)
+
+
+def right_list(rng, count):
+    """A strictly rising list of lines: one, some, or all."""
+    if count == 0:
+        return [0]
+    kind = rng.choice(("one", "some", "some", "few", "all", "ends"))
+    if kind == "one":
+        return [rng.randrange(count)]
+    if kind == "all":
+        return list(range(count))
+    if kind == "ends":
+        return sorted({0, count - 1})
+    most = count if kind == "some" else min(3, count)
+    return sorted(rng.sample(range(count), rng.randint(1, most)))
+
+
+def list_bytes(rng, count):
+    """A removal list as bytes: mostly right, else one of the ways to be 15."""
+    numbers = right_list(rng, count)
+    kind = rng.randrange(40)
+    if kind == 0:
+        return b""
+    if kind == 1:
+        return numbers_as_bytes(numbers) + bytes([rng.randrange(256)])
+    if kind == 2:
+        return numbers_as_bytes(numbers)[:-1]
+    if kind == 3:
+        return numbers_as_bytes(numbers + numbers[-1:])
+    if kind == 4:
+        return numbers_as_bytes(numbers + [0])
+    if kind == 5:
+        return numbers_as_bytes(numbers + [count])
+    if kind == 6:
+        return numbers_as_bytes(numbers + [65535])
+    if kind == 7:
+        return numbers_as_bytes([count, count + 1])
+    if kind == 8:
+        return numbers_as_bytes(numbers[::-1])
+    return numbers_as_bytes(numbers)
+
+
+def pair_for(rng, call, index, count):
+    """Two lines: mostly neighbours for a part and others for a join."""
+    first, second = place_in(rng, count, 0.04), place_in(rng, count, 0.04)
+    if index is not None and count > 0 and rng.random() < 0.8:
+        higher = rng.randrange(count)
+        listed = index.neighbours[higher]
+        if call == "part":
+            with_some = [line for line in range(count) if index.neighbours[line]]
+            if with_some:
+                higher = rng.choice(with_some)
+                first, second = higher, rng.choice(index.neighbours[higher])
+        else:
+            others = [line for line in range(higher + 1) if line not in listed]
+            if others:
+                first, second = higher, rng.choice(others)
+    return [first, second] if rng.random() < 0.5 else [second, first]
+
+
+def chosen_view(rng, call, record):
+    """A view's place: mostly one in which the order can be obeyed."""
+    fitting = [place for place, view in enumerate(record.views)
+               if (not view.segments and view.lines if call == "remove"
+                   else view.index is not None and view.lines)]
+    if fitting and rng.random() < 0.8:
+        return rng.choice(fitting)
+    return place_in(rng, len(record.views), 0.25)
+
+
+def order_case(rng, call, data, out_size=None):
+    """The case of one order on a record's bytes."""
+    record = judged(data)
+    view, count, index = 0, rng.randrange(3), None
+    if isinstance(record, Record):
+        view = chosen_view(rng, call, record)
+        count = 0
+        if view < len(record.views):
+            count = len(record.views[view].lines)
+            index = record.views[view].index
+    numbers = [view, line_count(rng, count)]
+    if call == "remove":
+        return lend(rng, call, numbers, [data, list_bytes(rng, count)], out_size)
+    numbers += pair_for(rng, call, index, count)
+    return lend(rng, call, numbers, [data], out_size)
+
+
+def sequence(rng, calls, length):
+    """Orders one after another; each accepted result is lent to the next."""
+    size = rng.choices(("small", "middle", "views"), (60, 37, 3))[0]
+    data = build(random_record(rng, size, 0.2))
+    for _ in range(length):
+        case = order_case(rng, rng.choice(calls), data)
+        yield case
+        if case.expected.number == 0:
+            data = case.expected.written
+
+
+def growing_case(rng, call):
+    """An order whose result is about as long as a record may be: 19 or not."""
+    record, middle = about_to_grow(rng, rng.choice((0, 1, 2, 4, 8, 16, 32, 64)))
+    data = build(record)
+    lines = 2 * middle + 1
+    if call == "remove":
+        gone = rng.choice(([middle], [middle], [0], [middle - 1, middle]))
+        numbers, slices = [0, lines], [data, numbers_as_bytes(gone)]
+    elif call == "part":
+        numbers = [0, lines, lines - 1, rng.choice((middle, middle, 0))]
+        slices = [data]
+    else:
+        numbers = [0, lines, rng.randint(middle + 1, lines - 2), 0]
+        slices = [data]
+    short = rng.choice((None, None, 0, len(data)))
+    return lend(rng, call, numbers, slices, short)
+
+
+def order_stream(rng, call, calls, source):
+    """An endless stream: single orders, sequences, and results that grow."""
+    turn = 0
+    while True:
+        turn += 1
+        yield order_case(rng, call, next(source))
+        if turn % 6 == 0:
+            yield from sequence(rng, calls, rng.randint(1, 8))
+        if turn % 25 == 0:
+            yield growing_case(rng, call)

@@ -1,0 +1,173 @@
+"""Plans the cases of each call: which records, which arguments, how often.
+
+A call's cases are an endless stream that mixes right and damaged records in
+turns, so that every refusal is met again and again; a share is kept for the
+records at the edges.
+"""
+
+from answers import judged, outcome
+from build import build, parts_of, put_together
+from damage import KINDS, LONG_KINDS, damaged
+from damage_sheet import KINDS as SHEET_KINDS
+from damage_sheet import damaged_sheet, long_sheets
+from edges import edge_records, small_records
+from lend import lend, line_count, place_in
+from make import long_records, random_record
+from model import Record
+from orders_plan import order_case, order_stream
+from sheet import to_sheet
+
+
+class Stock:
+    """Long records, damaged long records and edges, made once for all calls."""
+
+    def __init__(self, rng):
+        self.long = [build(record) for record in long_records(rng)]
+        self.long_damaged = [damaged(rng, random_record(rng, "small"), kind)
+                             for kind in LONG_KINDS for _ in range(8)]
+        self.first_edges, self.edges = edge_records()
+        self.sheets = long_sheets(rng)
+
+
+class Turns:
+    """Gives the members of a list one after another, again and again."""
+
+    def __init__(self, members):
+        self.members = list(members)
+        self.at = 0
+
+    def next(self):
+        self.at += 1
+        return self.members[(self.at - 1) % len(self.members)]
+
+
+def right_bytes(rng, stock, segments=0.5):
+    """The bytes of a right record of any kind."""
+    if rng.random() < 0.008:
+        return rng.choice(stock.long)
+    size = rng.choices(("tiny", "small", "middle", "views"), (30, 50, 17, 3))[0]
+    return build(random_record(rng, size, segments))
+
+
+def damaged_bytes(rng, stock, kinds):
+    """The bytes of a damaged record; `kinds` gives the damages in turn."""
+    if rng.random() < 0.02:
+        return rng.choice(stock.long_damaged)
+    size = rng.choices(("tiny", "small", "middle"), (45, 50, 5))[0]
+    return damaged(rng, random_record(rng, size), kinds.next())
+
+
+def records(rng, stock, right_share, budget, segments=0.5):
+    """An endless stream of record bytes; the edges come first."""
+    most = budget // 2
+    edges = stock.first_edges + stock.edges
+    if len(edges) > most:
+        few = max(0, most - len(stock.first_edges))
+        edges = stock.first_edges[:most] + rng.sample(stock.edges, few)
+    yield from edges
+    kinds = Turns(KINDS)
+    while True:
+        if rng.random() < right_share:
+            yield right_bytes(rng, stock, segments)
+        else:
+            yield damaged_bytes(rng, stock, kinds)
+
+
+def read_stream(rng, stock, budget):
+    for data in records(rng, stock, 0.4, budget):
+        yield lend(rng, "read", [], [data])
+        if rng.random() < 0.1:
+            yield lend(rng, "read", [], [data])
+
+
+def trail_stream(rng, stock, budget):
+    """Every line of a few records, otherwise some lines of many."""
+    for data in small_records():
+        for view in range(3):
+            for line in range(4):
+                yield lend(rng, "trail", [view, line], [data])
+    for data in records(rng, stock, 0.75, budget):
+        record = judged(data)
+        if not isinstance(record, Record):
+            yield lend(rng, "trail", [rng.randrange(3), rng.randrange(3)], [data])
+            continue
+        for _ in range(rng.randint(1, 3)):
+            view = place_in(rng, len(record.views))
+            lines = record.views[view].lines if view < len(record.views) else []
+            yield lend(rng, "trail", [view, place_in(rng, len(lines))], [data])
+
+
+def segment_stream(rng, stock, budget):
+    """Every segment of a few records, otherwise some segments of many."""
+    for data in small_records():
+        for view in range(3):
+            for segment in range(4):
+                yield lend(rng, "segment", [view, segment], [data])
+    for data in records(rng, stock, 0.75, budget, 0.9):
+        record = judged(data)
+        if not isinstance(record, Record):
+            yield lend(rng, "segment", [rng.randrange(3), 0], [data])
+            continue
+        for _ in range(rng.randint(1, 2)):
+            view = place_in(rng, len(record.views))
+            found = record.views[view].segments if view < len(record.views) else []
+            yield lend(rng, "segment", [view, place_in(rng, len(found))], [data])
+
+
+def write_stream(rng, stock, budget):
+    """Small sheets cut at every byte, long sheets, then right and damaged ones."""
+    yield lend(rng, "write", [], [b""])
+    for sheet in stock.sheets:
+        yield lend(rng, "write", [], [sheet])
+    small = [to_sheet(judged(data)) for data in small_records()]
+    cuts = [sheet[:size] for sheet in small for size in range(len(sheet))]
+    for sheet in cuts[:budget // 4]:
+        yield lend(rng, "write", [], [sheet])
+    kinds = Turns(SHEET_KINDS)
+    while True:
+        if rng.random() < 0.003:
+            yield lend(rng, "write", [], [rng.choice(stock.sheets)])
+        size = rng.choices(("tiny", "small", "middle", "views"), (30, 52, 17, 1))[0]
+        record = random_record(rng, size)
+        if rng.random() < 0.3:
+            yield lend(rng, "write", [], [to_sheet(record)])
+        else:
+            sheet = damaged_sheet(rng, record, kinds.next())
+            yield lend(rng, "write", [], [sheet])
+
+
+def holds_stream(rng, stock, _budget):
+    """After real orders, and with numbers and lengths of every sort."""
+    while True:
+        old = right_bytes(rng, stock) if rng.random() < 0.3 else rng.randbytes(
+            rng.randint(0, 60))
+        case = order_case(rng, rng.choice(("remove", "join", "part")), old)
+        expected = case.expected
+        second = expected.written + bytes([case.fill]) * (
+            case.out_size - len(expected.written))
+        yield lend(rng, "holds", [expected.number, expected.length], [old, second])
+        room = rng.choice((0, 1, 30, rng.randint(0, 90)))
+        length = rng.choice((0, room, room + 1, max(0, room - 1), 1 << 32,
+                             room + (1 << 32), (1 << 63), (1 << 64) - 1))
+        number = rng.choice((0, 0, 0, 1, 20, 256, 1 << 31, (1 << 32) - 1))
+        yield lend(rng, "holds", [number, length], [old, rng.randbytes(room)])
+
+
+def orders_streams(calls):
+    """The stream of each order call, with the sequences among them."""
+    def stream_for(call):
+        def stream(rng, stock, budget):
+            source = records(rng, stock, 0.75, budget // 2,
+                             0.15 if call == "remove" else 0.5)
+            return order_stream(rng, call, calls, source)
+        return stream
+    return stream_for
+
+
+def streams(calls):
+    """For each chosen call its stream of cases."""
+    single = {"read": read_stream, "trail": trail_stream,
+              "segment": segment_stream, "write": write_stream,
+              "holds": holds_stream}
+    of_order = orders_streams([call for call in calls if call not in single])
+    return {call: single.get(call) or of_order(call) for call in calls}
