@@ -76,6 +76,7 @@ static uint8_t *output_at;
 static sigjmp_buf after_fault;
 static volatile sig_atomic_t in_call;
 static const uint8_t *volatile fault_address;
+static volatile sig_atomic_t fault_signal;
 static uint32_t shown;
 
 static void stop(const char *why)
@@ -276,20 +277,24 @@ static void on_fault(int signal_number, siginfo_t *info, void *context)
         return;
     }
     in_call = 0;
+    fault_signal = signal_number;
     fault_address = info->si_addr;
     siglongjmp(after_fault, 1);
 }
 
 static void catch_faults(void)
 {
+    static const int faults[] = {SIGSEGV, SIGBUS, SIGILL, SIGFPE, SIGABRT};
     static uint8_t stack[1 << 16];
     stack_t other = {.ss_sp = stack, .ss_size = sizeof stack};
     struct sigaction action = {0};
     action.sa_sigaction = on_fault;
     action.sa_flags = SA_SIGINFO | SA_NODEFER | SA_ONSTACK;
-    if (sigaltstack(&other, NULL) || sigaction(SIGSEGV, &action, NULL)
-        || sigaction(SIGBUS, &action, NULL))
+    if (sigaltstack(&other, NULL))
         stop("faults cannot be caught");
+    for (size_t i = 0; i < sizeof faults / sizeof faults[0]; i++)
+        if (sigaction(faults[i], &action, NULL))
+            stop("faults cannot be caught");
 }
 
 static result guarded_call(const test_case *c, fsk_answer *answer)
@@ -326,6 +331,8 @@ static int wrong(uint32_t index, const test_case *c, placing run, const char *ho
 static int fault_is_wrong(uint32_t index, const test_case *c, placing run)
 {
     uintptr_t address = (uintptr_t)fault_address;
+    if (fault_signal != SIGSEGV && fault_signal != SIGBUS)
+        return wrong(index, c, run, "the call ended with signal %d", (int)fault_signal);
     for (unsigned k = 0; k <= c->inputs_lent; k++) {
         int out = k == c->inputs_lent;
         room r = out ? output_room : input_rooms[k];

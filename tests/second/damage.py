@@ -194,15 +194,15 @@ def noise(rng, parts):
 
 def too_many_lines(rng, _parts):
     """1,025 lines, or 1,024 and some bits more than padding."""
-    count = rng.choice((MOST_LINES - 1, MOST_LINES, MOST_LINES, MOST_LINES + 1))
+    count = rng.choice((MOST_LINES, MOST_LINES, MOST_LINES + 1))
     parts = parts_of(many_lines(rng, count))
-    if count <= MOST_LINES:
+    if count == MOST_LINES:
         parts.views[0].skeleton += rng.choice((b"\0", b"\xff", b"\0\0\0\0"))
     return put_together(parts)
 
 
 KINDS = (header_byte, stated_length, cut, too_short, bytes_after, view_count,
-         view_value, inner_length, skeleton_zero_byte, skeleton_cut,
+         bytes_after, view_value, inner_length, skeleton_zero_byte, skeleton_cut,
          skeleton_last_bits, index_width, index_leftover, index_cut,
          broken_index, segment_length, segment_bytes_over, turned_bits, noise)
 LONG_KINDS = (too_many_lines, too_long)

@@ -135,7 +135,7 @@ def line_edges():
 def size_edges():
     """32,767 to 32,769 bytes that a segment fills, and bytes with no header."""
     cases = [b"", bytes(23), bytes(24), bytes(LARGEST_RECORD),
-             bytes(LARGEST_RECORD + 1)]
+             bytes(LARGEST_RECORD + 1), build(empty_view_record()) + bytes(65536)]
     for size in (LARGEST_RECORD - 1, LARGEST_RECORD, LARGEST_RECORD + 1):
         record = empty_view_record()
         record.views[0].segments = [Segment(5, bytes(size - 38 - 4))]

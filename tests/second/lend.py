@@ -36,6 +36,8 @@ def out_size_for(rng, call, result):
              rng.randint(0, wanted), wanted + 1, wanted - 1]
     if rng.random() < 0.5:
         sizes = sizes[:5]
+    if rng.random() < 0.01:
+        sizes = [65535, 65536, 65537, 131072 + wanted]
     return max(0, rng.choice(sizes))
 
 

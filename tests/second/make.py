@@ -179,32 +179,45 @@ def many_lines(rng, count, w=None):
     return record
 
 
+def all_neighbours(rng, but):
+    """1,024 lines; the last is next to all, itself too, but for `but` of them.
+
+    A count of 1,024 needs w = 11, while 1,023 and every difference fit 10.
+    """
+    record = many_lines(rng, MOST_LINES, 1)
+    neighbours = record.views[0].index.neighbours
+    neighbours[-1] = list(range(MOST_LINES - 1, but - 1, -1))
+    record.views[0].index.w = least_width(neighbours)
+    return record
+
+
 def long_records(rng):
     """A few long right records; they are made once and lent many times."""
     return [many_lines(rng, MOST_LINES), many_lines(rng, MOST_LINES, 1),
             many_lines(rng, MOST_LINES, 16), many_lines(rng, MOST_LINES - 1, 3),
+            all_neighbours(rng, 0), all_neighbours(rng, 1),
             full_of_codes(rng), full_of_neighbours(rng),
             fill(random_record(rng, "small"), LARGEST_RECORD),
             fill(random_record(rng, "middle"), LARGEST_RECORD - 1),
             fill(random_record(rng, "views"), LARGEST_RECORD)]
 
 
-def about_to_grow(rng, room_left):
-    """A record in which least width grows with an order, and little room is left.
+def growing(rng, bits):
+    """A record in which the least width grows with an order, and the middle line.
 
-    View 0 has an index in which only the last line has neighbours, so that
-    removing or parting the middle one lengthens every field of the index;
-    another view's segment leaves `room_left` bytes below 32,768.
+    View 0 has an index in which only the last line has neighbours, the middle
+    line and line 0, so that removing or parting the middle one leaves a
+    difference one bit wider than `bits`.
     """
-    middle = (1 << rng.randint(5, 8)) - 1
+    middle = (1 << bits) - 1
     record = narrow_header(rng)
     view = add_view(rng, record, 3, 0, 0, "any", 0.0)
     lines = 2 * middle + 1
     view.lines = [random_line(rng, record, 0, "any") for _ in range(lines)]
     for line in view.lines:
         line.codes = []
-    view.index = Index(middle.bit_length(), [[] for _ in range(lines)])
+    view.index = Index(bits, [[] for _ in range(lines)])
     view.index.neighbours[lines - 1] = [middle, 0]
-    view.segments = []
+    view.index.w = least_width(view.index.neighbours)
     add_view(rng, record, 3, 1, 2, "any", 0.0)
-    return fill(record, LARGEST_RECORD - room_left), middle
+    return record, middle

@@ -4,11 +4,11 @@ In a sequence each accepted result is lent to the next order, as document 01
 means it; a refused order leaves the record that now holds.
 """
 
-from answers import judged, outcome
+from answers import judged
 from build import build
 from lend import lend, line_count, place_in
-from make import about_to_grow, random_record
-from model import Record
+from make import fill, growing, random_record
+from model import LARGEST_RECORD, Record
 
 
 def numbers_as_bytes(numbers):
@@ -34,6 +34,8 @@ def list_bytes(rng, count):
     """A removal list as bytes: mostly right, else one of the ways to be 15."""
     numbers = right_list(rng, count)
     kind = rng.randrange(40)
+    if rng.random() < 0.002:
+        return numbers_as_bytes(numbers[:1]) + bytes(131072)
     if kind == 0:
         return b""
     if kind == 1:
@@ -112,8 +114,11 @@ def sequence(rng, calls, length):
 
 
 def growing_case(rng, call):
-    """An order whose result is about as long as a record may be: 19 or not."""
-    record, middle = about_to_grow(rng, rng.choice((0, 1, 2, 4, 8, 16, 32, 64)))
+    """An order that makes w grow, at times up to or past 32,768 bytes: 19."""
+    record, middle = growing(rng, rng.randint(1, 9))
+    if rng.random() < 0.7:
+        record, middle = growing(rng, rng.randint(5, 9))
+        fill(record, LARGEST_RECORD - rng.choice((0, 1, 2, 4, 8, 16, 32, 64)))
     data = build(record)
     lines = 2 * middle + 1
     if call == "remove":
@@ -123,10 +128,10 @@ def growing_case(rng, call):
         numbers = [0, lines, lines - 1, rng.choice((middle, middle, 0))]
         slices = [data]
     else:
-        numbers = [0, lines, rng.randint(middle + 1, lines - 2), 0]
+        numbers = [0, lines, rng.randint(middle, lines - 2), 0]
         slices = [data]
-    short = rng.choice((None, None, 0, len(data)))
-    return lend(rng, call, numbers, slices, short)
+    out_size = rng.choice((None, None, None, 0, len(data), 40000))
+    return lend(rng, call, numbers, slices, out_size)
 
 
 def order_stream(rng, call, calls, source):
@@ -136,6 +141,6 @@ def order_stream(rng, call, calls, source):
         turn += 1
         yield order_case(rng, call, next(source))
         if turn % 6 == 0:
-            yield from sequence(rng, calls, rng.randint(1, 8))
-        if turn % 25 == 0:
+            yield from sequence(rng, calls, rng.choice((2, 4, 8, 25)))
+        if turn % 12 == 0:
             yield growing_case(rng, call)

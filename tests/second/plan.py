@@ -5,13 +5,14 @@ turns, so that every refusal is met again and again; a share is kept for the
 records at the edges.
 """
 
-from answers import judged, outcome
-from build import build, parts_of, put_together
+from answers import judged
+from bits import with_bit_turned
+from build import build
 from damage import KINDS, LONG_KINDS, damaged
 from damage_sheet import KINDS as SHEET_KINDS
 from damage_sheet import damaged_sheet, long_sheets
 from edges import edge_records, small_records
-from lend import lend, line_count, place_in
+from lend import lend, place_in
 from make import long_records, random_record
 from model import Record
 from orders_plan import order_case, order_stream
@@ -24,7 +25,7 @@ class Stock:
     def __init__(self, rng):
         self.long = [build(record) for record in long_records(rng)]
         self.long_damaged = [damaged(rng, random_record(rng, "small"), kind)
-                             for kind in LONG_KINDS for _ in range(8)]
+                             for kind in LONG_KINDS for _ in range(10)]
         self.first_edges, self.edges = edge_records()
         self.sheets = long_sheets(rng)
 
@@ -43,7 +44,7 @@ class Turns:
 
 def right_bytes(rng, stock, segments=0.5):
     """The bytes of a right record of any kind."""
-    if rng.random() < 0.008:
+    if rng.random() < 0.015:
         return rng.choice(stock.long)
     size = rng.choices(("tiny", "small", "middle", "views"), (30, 50, 17, 3))[0]
     return build(random_record(rng, size, segments))
@@ -51,7 +52,7 @@ def right_bytes(rng, stock, segments=0.5):
 
 def damaged_bytes(rng, stock, kinds):
     """The bytes of a damaged record; `kinds` gives the damages in turn."""
-    if rng.random() < 0.02:
+    if rng.random() < 0.06:
         return rng.choice(stock.long_damaged)
     size = rng.choices(("tiny", "small", "middle"), (45, 50, 5))[0]
     return damaged(rng, random_record(rng, size), kinds.next())
@@ -80,6 +81,18 @@ def read_stream(rng, stock, budget):
             yield lend(rng, "read", [], [data])
 
 
+def view_with(rng, record, name):
+    """A view's place, mostly of one with lines or segments, and these."""
+    places = [place for place, view in enumerate(record.views)
+              if getattr(view, name)]
+    place = place_in(rng, len(record.views))
+    if places and rng.random() < 0.7:
+        place = rng.choice(places)
+    if place >= len(record.views):
+        return place, []
+    return place, getattr(record.views[place], name)
+
+
 def trail_stream(rng, stock, budget):
     """Every line of a few records, otherwise some lines of many."""
     for data in small_records():
@@ -92,8 +105,7 @@ def trail_stream(rng, stock, budget):
             yield lend(rng, "trail", [rng.randrange(3), rng.randrange(3)], [data])
             continue
         for _ in range(rng.randint(1, 3)):
-            view = place_in(rng, len(record.views))
-            lines = record.views[view].lines if view < len(record.views) else []
+            view, lines = view_with(rng, record, "lines")
             yield lend(rng, "trail", [view, place_in(rng, len(lines))], [data])
 
 
@@ -109,23 +121,24 @@ def segment_stream(rng, stock, budget):
             yield lend(rng, "segment", [rng.randrange(3), 0], [data])
             continue
         for _ in range(rng.randint(1, 2)):
-            view = place_in(rng, len(record.views))
-            found = record.views[view].segments if view < len(record.views) else []
+            view, found = view_with(rng, record, "segments")
             yield lend(rng, "segment", [view, place_in(rng, len(found))], [data])
 
 
 def write_stream(rng, stock, budget):
-    """Small sheets cut at every byte, long sheets, then right and damaged ones."""
+    """Long sheets, small ones cut and turned everywhere, then all kinds in turn."""
     yield lend(rng, "write", [], [b""])
     for sheet in stock.sheets:
         yield lend(rng, "write", [], [sheet])
     small = [to_sheet(judged(data)) for data in small_records()]
-    cuts = [sheet[:size] for sheet in small for size in range(len(sheet))]
-    for sheet in cuts[:budget // 4]:
+    changed = [sheet[:size] for sheet in small for size in range(len(sheet))]
+    changed += [with_bit_turned(sheet, bit) for sheet in small
+                for bit in range(8 * len(sheet))]
+    for sheet in rng.sample(changed, min(len(changed), budget // 3)):
         yield lend(rng, "write", [], [sheet])
     kinds = Turns(SHEET_KINDS)
     while True:
-        if rng.random() < 0.003:
+        if rng.random() < 0.015:
             yield lend(rng, "write", [], [rng.choice(stock.sheets)])
         size = rng.choices(("tiny", "small", "middle", "views"), (30, 52, 17, 1))[0]
         record = random_record(rng, size)
@@ -139,8 +152,9 @@ def write_stream(rng, stock, budget):
 def holds_stream(rng, stock, _budget):
     """After real orders, and with numbers and lengths of every sort."""
     while True:
-        old = right_bytes(rng, stock) if rng.random() < 0.3 else rng.randbytes(
-            rng.randint(0, 60))
+        old = right_bytes(rng, stock, 0.2)
+        if rng.random() < 0.2:
+            old = rng.randbytes(rng.randint(0, 60))
         case = order_case(rng, rng.choice(("remove", "join", "part")), old)
         expected = case.expected
         second = expected.written + bytes([case.fill]) * (
@@ -149,7 +163,7 @@ def holds_stream(rng, stock, _budget):
         room = rng.choice((0, 1, 30, rng.randint(0, 90)))
         length = rng.choice((0, room, room + 1, max(0, room - 1), 1 << 32,
                              room + (1 << 32), (1 << 63), (1 << 64) - 1))
-        number = rng.choice((0, 0, 0, 1, 20, 256, 1 << 31, (1 << 32) - 1))
+        number = rng.choice((0, 0, 0, 0, 0, 1, 20, 256, 1 << 31, (1 << 32) - 1))
         yield lend(rng, "holds", [number, length], [old, rng.randbytes(room)])
 
 

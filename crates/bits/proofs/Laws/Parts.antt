@@ -11,7 +11,6 @@ use lib.ListN.{length, take, drop, length-drop, length-take, drop-of-length-le}
 use lib.Seq.{drop-drop, drop-at, take-at, take-add, take-all}
 use lib.Dec.{T, leb, le→leb}
 use mir.Facts.{no-leb}
-use Rattle.bits.specs.Choice.{within}
 use Rattle.bits.specs.ChoiceLaws.{pick-yes, pick-no}
 use Rattle.bits.specs.Bits.{Bits, numberOf, bitsOfNumber}
 use Rattle.bits.specs.BitsLaws.{length-bits}
@@ -21,7 +20,7 @@ use Rattle.bits.specs.Codec.{Read, got, refused, next, fieldDec, timesDe
 use Rattle.bits.specs.CodecLaws.{field}
 use Rattle.bits.specs.Block.{Block, maybeDec, sizedDec, inside}
 use Rattle.bits.specs.SizedLaws.{sized, prefixed}
-use Rattle.bits.specs.Reads.{found, fault, Reads, kept, after}
+use Rattle.bits.specs.Reads.{Found, found, fault, Reads, kept}
 use Rattle.bits.proofs.Laws.Reads.{length-rest, known, go-on, stop, made, keeps, field-past, kept-got, kept-refused}
 
 -- ---- a block of the bytes
@@ -124,30 +123,33 @@ pub maybe-more : {A : Type 0} (w : Block A) (s : Bits) → 0 < length s → mayb
 maybe-more w [] h = absurd (omega arith)
 maybe-more w (b ∷ s) h = refl
 
--- ---- a block behind its length, at byte a
+-- ---- a block behind its length, at byte a; f is what is kept of its value
 
-module _ {A : Type 0} (w : Block A) (s : List ℕ) (a : ℕ) where
-  pub behind-cut : a ≤ length s → length s - a < 2 → Reads (λ x. after (prefixed w 6 .dec x)) s (8 * a) (fault 6 (8 * a))
-  behind-cut i h = keeps _ (made _ _ (stop _ _ (field-past 6 s (8 * a) 16 (omega arith) (omega arith))))
+module _ {A B : Type 0} (w : Block A) (f : A → B) (s : List ℕ) (a : ℕ) where
+  abbrev Behind : Found B → Type 0
+  Behind r = Reads (λ x. kept f (prefixed w 6 .dec x)) s (8 * a) r
+
+  pub behind-cut : a ≤ length s → length s - a < 2 → Behind (fault 6 (8 * a))
+  behind-cut i h = keeps f (made _ _ (stop _ _ (field-past 6 s (8 * a) 16 (omega arith) (omega arith))))
 
   module _ (n q : ℕ) (K : Reads (fieldDec 6 16) s (8 * a) (found n q)) (e : q ≡ 8 * a + 16) where
     there : Reads (field 6 16 .dec) s (8 * a) (found n (8 * (a + 2)))
     there = known (ap (found n) (omega arith)) K
 
-    pub behind-past : a + 2 ≤ length s → length s - (a + 2) < n → Reads (λ x. after (prefixed w 6 .dec x)) s (8 * a) (fault 6 (8 * (a + 2)))
-    behind-past i h = keeps _ (made _ _ (go-on _ (λ n. sized w 6 n) there (sized-past w 6 n (a + 2) s i h)))
+    pub behind-past : a + 2 ≤ length s → length s - (a + 2) < n → Behind (fault 6 (8 * (a + 2)))
+    behind-past i h = keeps f (made _ _ (go-on _ (λ n. sized w 6 n) there (sized-past w 6 n (a + 2) s i h)))
 
-    module _ {B : Type 0} (f : A → B) (blk : List ℕ) (d : blk ≡ part s (a + 2) n) (i : a + 2 + n ≤ length s) where
+    module _ (blk : List ℕ) (d : blk ≡ part s (a + 2) n) (i : a + 2 + n ≤ length s) where
       long : length blk ≡ n
       long = ap length d ∙ part-length s (a + 2) n i
 
-      pub behind-bad : {x y : ℕ} → Reads (λ z. kept f (w .dec z)) blk 0 (fault x y) → Reads (λ z. after (prefixed w 6 .dec z)) s (8 * a) (fault x (8 * (a + 2) + y))
+      pub behind-bad : {x y : ℕ} → Reads (λ z. kept f (w .dec z)) blk 0 (fault x y) → Behind (fault x (8 * (a + 2) + y))
       behind-bad {x} {y} h =
           let z : w .dec (bitsOf (part s (a + 2) n)) ≡ refused x (8 * n - y) = ap (λ (l : List ℕ). w .dec (bitsOf l)) (sym d) ∙ kept-refused f _ (h .is) ∙ ap (λ (l : ℕ). refused x (8 * l - y)) long in
-          keeps _ (made _ _ (go-on _ (λ n. sized w 6 n) there (sized-bad w 6 n (a + 2) s i (omega (arith, h .within, long)) z)))
+          keeps f (made _ _ (go-on _ (λ n. sized w 6 n) there (sized-bad w 6 n (a + 2) s i (omega (arith, h .within, long)) z)))
 
-      pub behind-good : {b : B} {y : ℕ} → Reads (λ z. kept f (w .dec z)) blk 0 (found b y)
-          → Reads (λ z. after (prefixed w 6 .dec z)) s (8 * a) (found tt (8 * (a + 2 + n)))
+      pub behind-good : {b : B} {y : ℕ} → Reads (λ z. kept f (w .dec z)) blk 0 (found b y) → Behind (found b (8 * (a + 2 + n)))
       behind-good h =
-          kept-got f _ (h .is) λ v z _.
-          keeps _ (made _ _ (go-on _ (λ n. sized w 6 n) there (sized-good w 6 n (a + 2) s i (ap (λ (l : List ℕ). w .dec (bitsOf l)) (sym d) ∙ z))))
+          kept-got f _ (h .is) λ v z e.
+          known (ap (λ (b : B). found b (8 * (a + 2 + n))) e)
+          (keeps f (made _ _ (go-on _ (λ n. sized w 6 n) there (sized-good w 6 n (a + 2) s i (ap (λ (l : List ℕ). w .dec (bitsOf l)) (sym d) ∙ z)))))
