@@ -4,9 +4,9 @@ use mathlib.Core.Logic.{_≢_}
 use Prim.Native.Nat.{ℕ, _≤_, _<_}
 use native.Mathlib.Decide.{decLe, ℕ-discrete}
 use native.Mathlib.Nat.{lt-of-not-le}
-use mathlib.Core.Bool.{Bool, true, false, not}
+use mathlib.Core.Bool.{Bool, true, false, not, _&&_}
 use lib.Dec.{T, leb, eqb, leb→le, le→leb}
-use mir.Facts.{yes-eqb, no-eqb, and-yes, yes-and}
+use mir.Facts.{yes-eqb, no-eqb, no-leb, and-yes, yes-and}
 use Rattle.bits.specs.Choice.{pick, within}
 
 -- ---- pick
@@ -53,6 +53,20 @@ within-high low high n t = leb→le n high (and-yes (leb low n) (leb n high) t .
 
 pub within-yes : (low high n : ℕ) → low ≤ n → n ≤ high → T (within low high n)
 within-yes low high n l h = yes-and (leb low n) (leb n high) (le→leb low n l) (le→leb n high h)
+
+pub within-not-low : (low high n : ℕ) → n < low → T (not (within low high n))
+within-not-low low high n h = go (leb low n) (leb n high) (no-leb h)
+  where
+    go : (a b : Bool) → T (not a) → T (not (a && b))
+    go true b t = absurd t
+    go false b t = tt
+
+pub within-not-high : (low high n : ℕ) → high < n → T (not (within low high n))
+within-not-high low high n h = go (leb low n) (leb n high) (no-leb h)
+  where
+    go : (a b : Bool) → T (not b) → T (not (a && b))
+    go true b t = t
+    go false b t = tt
 
 -- ---- numbers
 

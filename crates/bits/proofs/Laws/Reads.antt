@@ -12,7 +12,7 @@ use lib.Dec.{T, leb, eqb, le→leb}
 use mir.Facts.{no-leb}
 use borrow.Author.Tests.{lt-leb, eq-eqb, ne-eqb}
 use Rattle.bits.specs.Choice.{pick, within}
-use Rattle.bits.specs.ChoiceLaws.{pick-yes, pick-no, within-yes}
+use Rattle.bits.specs.ChoiceLaws.{pick-yes, pick-no, within-yes, within-not-low, within-not-high}
 use Rattle.bits.specs.Bits.{Bits, numberOf}
 use Rattle.bits.specs.Bytes.{bitsOf}
 use Rattle.bits.specs.BytesLaws.{length-bitsOf}
@@ -182,16 +182,6 @@ unkept f h k = kept-got f _ (h .is) λ a e z. k a z (record { is = e; within = h
 
 -- ---- numbers with a rule
 
-too-low : (m l d : ℕ) → d < m → T (not (within m l d))
-too-low m l d h = rw (lt-leb m d h) tt
-
-too-high : (m l d : ℕ) → l < d → T (not (within m l d))
-too-high m l d h = rw (lt-leb d l h) (go (leb m d))
-  where
-    go : (b : Bool) → T (not (b && false))
-    go true = tt
-    go false = tt
-
 module _ (e w : ℕ) {s : List ℕ} {p x q : ℕ} (h : Reads (fieldDec e w) s p (found x q)) where
   pub fixed-ok : (v : ℕ) → x ≡ v → Reads (fixed e w v .dec) s p (found tt q)
   fixed-ok v z = made _ _ (pass (field e w) e (eqb v) h (rw (eq-eqb v x (sym z)) tt))
@@ -203,7 +193,7 @@ module _ (e w : ℕ) {s : List ℕ} {p x q : ℕ} (h : Reads (fieldDec e w) s p 
   ranged-ok low high a b = pass (field e w) e (within low high) h (within-yes low high x a b)
 
   pub ranged-low : (low high : ℕ) → p ≤ 8 * length s → x < low → Reads (ranged e w low high .dec) s p (fault e p)
-  ranged-low low high i a = fail (field e w) e (within low high) i h (too-low low high x a)
+  ranged-low low high i a = fail (field e w) e (within low high) i h (within-not-low low high x a)
 
   pub ranged-high : (low high : ℕ) → p ≤ 8 * length s → high < x → Reads (ranged e w low high .dec) s p (fault e p)
-  ranged-high low high i a = fail (field e w) e (within low high) i h (too-high low high x a)
+  ranged-high low high i a = fail (field e w) e (within low high) i h (within-not-high low high x a)
