@@ -1,0 +1,5 @@
+-- The laws of the parts, by topic.
+pub mod Header
+pub mod Index
+pub mod Segments
+pub mod View

@@ -1,0 +1,87 @@
+// The reader of a view's header.
+ghost use mathlib.Core.Path.{_≡_};
+ghost use Prim.Native.Nat.{ℕ, _*_, _≤_};
+ghost use mathlib.Core.Bool.{not};
+ghost use lib.ListN.{length};
+ghost use Rattle.bits.specs.Reads.{Reads};
+ghost use Rattle.format.specs.View.{impressionOk};
+ghost use Rattle.parts.specs.Answers.{earlierOf, headAt, headDec};
+use bits::Cursor;
+use format::ViewHeader;
+
+// A view's header with its skeleton's length, or a refusal.
+pub enum Headed {
+    At(ViewHeader, usize),
+    Refused(u32, usize),
+}
+
+fn wide(x: u8) -> usize
+    ensures { λ r. ⌜ (r ≡ x) × (r ≤ 255) ⌝ }
+{
+    x as usize
+}
+
+// How many earlier views have the finger position.
+fn earlier(seen: &[u8; 11], position: usize) -> usize
+    ensures { λ r. ⌜ r ≡ earlierOf (now (seen .entry)) position ⌝ }
+{
+    if position <= 10 {
+        return wide(seen[position]);
+    }
+    0
+}
+
+fn impression_bad(impression: usize) -> bool
+    ensures { λ r. ⌜ r ≡ not (impressionOk impression) ⌝ }
+{
+    if impression <= 3 {
+        return false;
+    }
+    if impression == 8 {
+        return false;
+    }
+    impression != 9
+}
+
+// The header at byte a; seen counts the earlier views of each position.
+pub fn head_at(s: &[u8], a: usize, seen: &[u8; 11]) -> Headed
+    requires { ⌜ (length (now s) ≤ 32768) × (a ≤ length (now s)) ⌝ }
+    ensures { λ r. ⌜ Reads (headDec (now (seen .entry))) (now (s .entry)) (8 * a) (headAt a r) ⌝ }
+{
+    let at = 8 * a;
+    if s.len() - a < 10 {
+        return Headed::Refused(6, at);
+    }
+    let number = Cursor { at }.sure(s, 8);
+    let position = number.next.sure(s, 8);
+    let impression = position.next.sure(s, 8);
+    let quality = impression.next.sure(s, 8);
+    let width = quality.next.sure(s, 16);
+    let height = width.next.sure(s, 16);
+    let len = height.next.sure(s, 16);
+    let finger = position.value;
+    if number.value != earlier(seen, finger) {
+        return Headed::Refused(7, at);
+    }
+    if 10 < finger {
+        return Headed::Refused(7, at + 8);
+    }
+    let kind = impression.value;
+    if impression_bad(kind) {
+        return Headed::Refused(7, at + 16);
+    }
+    if 100 < quality.value {
+        return Headed::Refused(7, at + 24);
+    }
+    Headed::At(
+        ViewHeader {
+            number: number.value,
+            position: finger,
+            impression: kind,
+            quality: quality.value,
+            width: width.value,
+            height: height.value,
+        },
+        len.value,
+    )
+}
