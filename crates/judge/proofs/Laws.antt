@@ -1,0 +1,6 @@
+-- The laws of the judge, by topic.
+pub mod Bounds
+pub mod Line
+pub mod Seen
+pub mod View
+pub mod Whole

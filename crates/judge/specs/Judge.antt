@@ -1,0 +1,49 @@
+-- What the judge answers: of an accepted record its header, how many views it has and the bytes of its sheet; else the number and
+-- the place of its refusal.
+use mathlib.Core.Path.{_≡_}
+use Prim.Native.Nat.{ℕ, _*_, _≤_}
+use mathlib.Core.Bool.{Bool}
+use mathlib.Core.List.{List}
+use lib.ListN.{length}
+use Rattle.bits.specs.Bits.{Bits}
+use Rattle.bits.specs.Codec.{Read}
+use Rattle.bits.specs.Reads.{Found, found, fault, placed, placeOf, kept, total}
+use Rattle.format.specs.Record.{Record, views, read}
+use Rattle.format.specs.SheetSize.{viewSize, sheetSize}
+use Rattle.format.specs.declared.Widths.{Widths}
+use Rattle.format.specs.declared.Header.{Header}
+use Rattle.parts.specs.declared.Reached.{Reached}
+use Rattle.parts.specs.declared.Reached.the-variants as r
+use Rattle.parts.specs.declared.view.Headed.{Headed}
+use Rattle.parts.specs.declared.view.Headed.the-variants as h
+use Rattle.judge.specs.declared.Verdict.{Verdict}
+use Rattle.judge.specs.declared.Verdict.the-variants as v
+
+-- the views keep their bytes in the sheet
+unfoldable pub viewsDec : Widths → ℕ → Bits → Read Bool ℕ
+viewsDec w n s = kept (total viewSize) (views w n .dec s)
+
+-- the bytes in the sheet, which no sum of them can pass
+abbrev pub shown : Reached → ℕ
+shown (r.At a z) = z
+shown (r.Refused e p) = 0
+
+abbrev pub headRefusal : Headed → Reached
+headRefusal (h.At x n) = r.At 0 0
+headRefusal (h.Refused e p) = r.Refused e p
+
+-- what is kept of a record
+abbrev pub Summary : Type 0
+Summary = Header × (ℕ × ℕ)
+
+abbrev pub summary : Record → Summary
+summary r = (r .head, (length (r .views), sheetSize r))
+
+abbrev pub verdictOf : List ℕ → Verdict → Found Summary
+verdictOf s (v.Accepted h n z) = found (h, (n, z)) (8 * length s)
+verdictOf s (v.Refused e p) = fault e p
+
+-- reading the bytes s, and keeping that of the record, gives the verdict
+pub record Judges (s : List ℕ) (r : Verdict) : Type 0 where
+  pub is : kept summary (read s) ≡ placed s (verdictOf s r)
+  pub within : placeOf (verdictOf s r) ≤ 8 * length s

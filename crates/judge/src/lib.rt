@@ -1,0 +1,43 @@
+// The judge of a record: refused, by its number and place; or accepted, with what every call needs of it.
+ghost use mathlib.Core.Path.{_≡_};
+ghost use Rattle.judge.specs.Judge.{Judges};
+use format::Header;
+use parts::Reached;
+use parts::header::HeaderAt;
+use parts::header::header_at;
+
+pub mod views; // the nest over views, lines and codes
+
+// An accepted record's header, how many views it has, and the bytes of its sheet.
+pub enum Verdict {
+    Accepted(Header, usize, usize),
+    Refused(u32, usize),
+}
+
+pub fn judge(s: &[u8]) -> Verdict
+    ensures { λ r. ⌜ Judges (now (s .entry)) r ⌝ }
+{
+    if s.len() < 24 {
+        return Verdict::Refused(1, 0);
+    }
+    if 32768 < s.len() {
+        return Verdict::Refused(1, 0);
+    }
+    match header_at(s) {
+        HeaderAt::Refused(e, p) => Verdict::Refused(e, p),
+        HeaderAt::At(h, count) => {
+            let scale = h.scale;
+            let widths = scale.widths;
+            match views::judge_views(s, widths, count) {
+                Reached::Refused(e, p) => Verdict::Refused(e, p),
+                Reached::At(a, size) => {
+                    if a < s.len() {
+                        Verdict::Refused(12, 8 * a)
+                    } else {
+                        Verdict::Accepted(h, count, 12 + size)
+                    }
+                }
+            }
+        }
+    }
+}
