@@ -36,13 +36,12 @@
 #include <stdlib.h>
 #include <string.h>
 #include <sys/mman.h>
-#include <unistd.h>
 
 #include "fsk.h"
 
 enum { READ = 1, WRITE, TRAIL, SEGMENT, REMOVE, JOIN, PART, HOLDS, CALLS };
 enum { MOST_NUMBERS = 4, MOST_INPUTS = 2, MOST_SHOWN = 20 };
-enum { GUARD = 1 << 20 };
+enum { PAGES = 1 << 16, GUARD = 1 << 20 }; /* whole pages of any usual size */
 typedef enum { AT_END, AT_START, EMPTY_AS_NULL } placing;
 typedef enum { CAME_BACK, FAULT, NOT_LINKED } result;
 
@@ -155,8 +154,7 @@ static slice whole_file(const char *path)
 
 static room make_room(size_t longest)
 {
-    size_t page = (size_t)sysconf(_SC_PAGESIZE);
-    size_t size = (longest + page) / page * page;
+    size_t size = (longest / PAGES + 1) * PAGES;
     uint8_t *all = mmap(NULL, size + 2 * GUARD, PROT_NONE,
                         MAP_PRIVATE | MAP_ANONYMOUS, -1, 0);
     if (all == MAP_FAILED || mprotect(all + GUARD, size, PROT_READ | PROT_WRITE))

@@ -162,6 +162,18 @@ def broken_index(rng, record):
     return put_together(parts)
 
 
+def ends_in_block(rng, parts):
+    """The record ends where its last view's skeleton or index block does."""
+    view = parts.views[-1]
+    view.extended = b""
+    if rng.random() < 0.5:
+        view.index = b""
+        view.skeleton = view.skeleton[:rng.randint(0, len(view.skeleton))]
+        return with_length(put_together(parts)[:-4])
+    view.index = view.index[:rng.randint(0, len(view.index))]
+    return with_length(put_together(parts)[:-2])
+
+
 def segment_length(rng, parts):
     """A segment length of 0, 3 or 4, or one past its block."""
     view = any_view(rng, parts)
@@ -204,7 +216,8 @@ def too_many_lines(rng, _parts):
 KINDS = (header_byte, stated_length, cut, too_short, bytes_after, view_count,
          bytes_after, view_value, inner_length, skeleton_zero_byte, skeleton_cut,
          skeleton_last_bits, index_width, index_leftover, index_cut,
-         broken_index, segment_length, segment_bytes_over, turned_bits, noise)
+         broken_index, ends_in_block, segment_length, segment_bytes_over,
+         turned_bits, noise)
 LONG_KINDS = (too_many_lines, too_long)
 
 

@@ -104,6 +104,33 @@ def index_blocks():
     return cases
 
 
+def ends_in_skeleton():
+    """A line cut at every byte, at every c and b, where the record ends too."""
+    cases = []
+    for c in range(1, 17):
+        for b in range(4, 9):
+            record = Record(0, 1, c, b, 3, 1, 0, 9, [View(0, 1, 0, 0, 0, 0)])
+            record.views[0].lines = [Line(3, 1, 0, 1, [1, -1], 2, 3, 0, 1)]
+            parts = parts_of(record)
+            block = parts.views[0].skeleton
+            for size in range(1, len(block)):
+                parts.views[0].skeleton = block[:size]
+                cases.append(with_length(put_together(parts)[:-4]))
+    return cases
+
+
+def ends_in_index():
+    """An index over two lines cut at every byte, where the record ends too."""
+    cases = []
+    for w in range(1, 17):
+        for filler in (0x00, 0x01, 0x55, 0xFF):
+            for size in range(0, 7):
+                parts = parts_of(two_line_record())
+                parts.views[0].index = bytes([w] + [filler] * size)
+                cases.append(with_length(put_together(parts)[:-2]))
+    return cases
+
+
 def extended_blocks():
     """Short extended blocks: lengths 0 to 6 in blocks of 0 to 9 bytes."""
     cases = []
@@ -147,4 +174,5 @@ def edge_records():
     """All of them; those that no shorter list may leave out come first."""
     first = (small_records() + size_edges() + line_edges() + view_header_values())
     return first, (cut_everywhere() + turned_everywhere() + header_values()
-                   + index_blocks() + extended_blocks())
+                   + index_blocks() + extended_blocks() + ends_in_skeleton()
+                   + ends_in_index())

@@ -4,7 +4,7 @@ In a sequence each accepted result is lent to the next order, as document 01
 means it; a refused order leaves the record that now holds.
 """
 
-from answers import judged
+from answers import judged, outcome
 from build import build
 from lend import lend, line_count, place_in
 from make import fill, growing, random_record
@@ -113,25 +113,28 @@ def sequence(rng, calls, length):
             data = case.expected.written
 
 
-def growing_case(rng, call):
-    """An order that makes w grow, at times up to or past 32,768 bytes: 19."""
-    record, middle = growing(rng, rng.randint(1, 9))
-    if rng.random() < 0.7:
-        record, middle = growing(rng, rng.randint(5, 9))
-        fill(record, LARGEST_RECORD - rng.choice((0, 1, 2, 4, 8, 16, 32, 64)))
-    data = build(record)
+def growing_order(rng, call, middle):
+    """The arguments of an order that makes w grow in a record of make.growing."""
     lines = 2 * middle + 1
     if call == "remove":
-        gone = rng.choice(([middle], [middle], [0], [middle - 1, middle]))
-        numbers, slices = [0, lines], [data, numbers_as_bytes(gone)]
-    elif call == "part":
-        numbers = [0, lines, lines - 1, rng.choice((middle, middle, 0))]
-        slices = [data]
-    else:
-        numbers = [0, lines, rng.randint(middle, lines - 2), 0]
-        slices = [data]
-    out_size = rng.choice((None, None, None, 0, len(data), 40000))
-    return lend(rng, call, numbers, slices, out_size)
+        gone = rng.choice(([middle], [middle], [middle - 1, middle]))
+        return [0, lines], [numbers_as_bytes(gone)]
+    if call == "part":
+        return [0, lines, lines - 1, middle], []
+    return [0, lines, rng.randint(middle + 1, lines - 1), 1], []
+
+
+def growing_case(rng, call):
+    """An order that makes w grow, mostly up to 32,768 bytes or just past it: 19."""
+    record, middle = growing(rng, rng.randint(2, 9))
+    numbers, more = growing_order(rng, call, middle)
+    data = build(record)
+    if rng.random() < 0.8:
+        growth = outcome(call, numbers, [data] + more).length - len(data)
+        past = min(growth, rng.choice((-1, 0, 0, 1, 1, 2, 9)))
+        data = build(fill(record, LARGEST_RECORD + past - growth))
+    out_size = rng.choice((None, None, 0, 32767, 32768, 32769, 40000))
+    return lend(rng, call, numbers, [data] + more, out_size)
 
 
 def order_stream(rng, call, calls, source):

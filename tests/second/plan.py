@@ -5,13 +5,15 @@ turns, so that every refusal is met again and again; a share is kept for the
 records at the edges.
 """
 
+from functools import partial
+
 from answers import judged
-from bits import with_bit_turned
 from build import build
 from damage import KINDS, LONG_KINDS, damaged
 from damage_sheet import KINDS as SHEET_KINDS
 from damage_sheet import damaged_sheet, long_sheets
 from edges import edge_records, small_records
+from edges_sheet import some_edge_sheets
 from lend import lend, place_in
 from make import long_records, random_record
 from model import Record
@@ -58,14 +60,17 @@ def damaged_bytes(rng, stock, kinds):
     return damaged(rng, random_record(rng, size), kinds.next())
 
 
-def records(rng, stock, right_share, budget, segments=0.5):
+def some_edges(rng, stock, most):
+    """All records at the edges, or `most` of them, the first ones among these."""
+    if len(stock.first_edges) + len(stock.edges) <= most:
+        return stock.first_edges + stock.edges
+    others = max(0, most - len(stock.first_edges))
+    return stock.first_edges[:most] + rng.sample(stock.edges, others)
+
+
+def records(rng, stock, most_edges, right_share, segments=0.5):
     """An endless stream of record bytes; the edges come first."""
-    most = budget // 2
-    edges = stock.first_edges + stock.edges
-    if len(edges) > most:
-        few = max(0, most - len(stock.first_edges))
-        edges = stock.first_edges[:most] + rng.sample(stock.edges, few)
-    yield from edges
+    yield from some_edges(rng, stock, most_edges)
     kinds = Turns(KINDS)
     while True:
         if rng.random() < right_share:
@@ -75,7 +80,7 @@ def records(rng, stock, right_share, budget, segments=0.5):
 
 
 def read_stream(rng, stock, budget):
-    for data in records(rng, stock, 0.4, budget):
+    for data in records(rng, stock, budget * 3 // 5, 0.4):
         yield lend(rng, "read", [], [data])
         if rng.random() < 0.1:
             yield lend(rng, "read", [], [data])
@@ -99,7 +104,7 @@ def trail_stream(rng, stock, budget):
         for view in range(3):
             for line in range(4):
                 yield lend(rng, "trail", [view, line], [data])
-    for data in records(rng, stock, 0.75, budget):
+    for data in records(rng, stock, budget // 3, 0.75):
         record = judged(data)
         if not isinstance(record, Record):
             yield lend(rng, "trail", [rng.randrange(3), rng.randrange(3)], [data])
@@ -115,7 +120,7 @@ def segment_stream(rng, stock, budget):
         for view in range(3):
             for segment in range(4):
                 yield lend(rng, "segment", [view, segment], [data])
-    for data in records(rng, stock, 0.75, budget, 0.9):
+    for data in records(rng, stock, budget // 3, 0.75, 0.9):
         record = judged(data)
         if not isinstance(record, Record):
             yield lend(rng, "segment", [rng.randrange(3), 0], [data])
@@ -126,15 +131,8 @@ def segment_stream(rng, stock, budget):
 
 
 def write_stream(rng, stock, budget):
-    """Long sheets, small ones cut and turned everywhere, then all kinds in turn."""
-    yield lend(rng, "write", [], [b""])
-    for sheet in stock.sheets:
-        yield lend(rng, "write", [], [sheet])
-    small = [to_sheet(judged(data)) for data in small_records()]
-    changed = [sheet[:size] for sheet in small for size in range(len(sheet))]
-    changed += [with_bit_turned(sheet, bit) for sheet in small
-                for bit in range(8 * len(sheet))]
-    for sheet in rng.sample(changed, min(len(changed), budget // 3)):
+    """Long sheets, sheets at the edges, then right ones and all damages in turn."""
+    for sheet in stock.sheets + some_edge_sheets(rng, budget // 2):
         yield lend(rng, "write", [], [sheet])
     kinds = Turns(SHEET_KINDS)
     while True:
@@ -167,21 +165,19 @@ def holds_stream(rng, stock, _budget):
         yield lend(rng, "holds", [number, length], [old, rng.randbytes(room)])
 
 
-def orders_streams(calls):
-    """The stream of each order call, with the sequences among them."""
-    def stream_for(call):
-        def stream(rng, stock, budget):
-            source = records(rng, stock, 0.75, budget // 2,
-                             0.15 if call == "remove" else 0.5)
-            return order_stream(rng, call, calls, source)
-        return stream
-    return stream_for
+def order_call_stream(call, orders, rng, stock, budget):
+    """One order's cases; the sequences among them use all chosen orders."""
+    segments = 0.15 if call == "remove" else 0.5
+    source = records(rng, stock, budget // 4, 0.75, segments)
+    return order_stream(rng, call, orders, source)
 
 
 def streams(calls):
-    """For each chosen call its stream of cases."""
-    single = {"read": read_stream, "trail": trail_stream,
+    """For each chosen call the maker of its stream of cases."""
+    makers = {"read": read_stream, "trail": trail_stream,
               "segment": segment_stream, "write": write_stream,
               "holds": holds_stream}
-    of_order = orders_streams([call for call in calls if call not in single])
-    return {call: single.get(call) or of_order(call) for call in calls}
+    orders = [call for call in calls if call not in makers]
+    for call in orders:
+        makers[call] = partial(order_call_stream, call, orders)
+    return makers
