@@ -100,7 +100,7 @@ module _ {A B : Type 0} (w : Block A) (f : A → B) (g : B → A) (F : B → Typ
 
 -- ---- sized: a block of n bytes
 
-inside-got : {A : Type 0} {P : Type 0} {a : A} {q r : Bits} (o : Read Bool A) → inside q o ≡ got a r → ((u : Bits) → o ≡ got a u → q ≡ r → P) → P
+pub inside-got : {A : Type 0} {P : Type 0} {a : A} {q r : Bits} (o : Read Bool A) → inside q o ≡ got a r → ((u : Bits) → o ≡ got a u → q ≡ r → P) → P
 inside-got (got b u) p k = k u (cc) (cc)
 inside-got (refused e l) p k = not-got p
 

@@ -4,3 +4,4 @@ pub mod Line
 pub mod Seen
 pub mod View
 pub mod Whole
+pub mod Calls

@@ -46,17 +46,22 @@ read-there r a =
     (pick-yes (within leastBytes mostBytes n) _ _ (within-yes leastBytes mostBytes n low (a .small))
     ∙ rw (record-there n r (omega (arith, a .small)) (a .fits)))
 
-pub read-back : (bytes : List ℕ) (r : Record) (rest : Bits) → All Byte bytes → read bytes ≡ got r rest → Allowed r × (bytes ≡ write r) × (rest ≡ [])
-unfolding read write
-read-back bytes r q h p =
+-- what is read is allowed, and has the bits that were read
+pub read-is : (bytes : List ℕ) (r : Record) (rest : Bits) → read bytes ≡ got r rest
+    → Allowed r × (length bytes ≡ size r) × (bitsOf bytes ≡ recordOf (length bytes) .enc r) × (rest ≡ [])
+unfolding read
+read-is bytes r q p =
     let n : ℕ = length bytes in
     pick-split (within leastBytes mostBytes n) _ _ p
     (λ t k. next-got (recordOf n .dec (bitsOf bytes)) _ k λ a rest e m.
     let (b, z, y) = all-of rest m in
     let (f, g) = record-back n (bitsOf bytes) r (e ∙ ap₂ got b z) in
-    let s : n ≡ size r = omega (arith, size-is n r, ap length g, length-bitsOf bytes) in (
-      record { fits = f; small = rw (← s) (within-high leastBytes mostBytes n t) },
-      rw (← s, ← g) (sym (bytes-bits bytes h)),
-      y,
-    ))
+    let s : n ≡ size r = omega (arith, size-is n r, ap length g, length-bitsOf bytes) in
+    (record { fits = f; small = rw (← s) (within-high leastBytes mostBytes n t) }, s, g, y))
     (λ t k. not-got k)
+
+pub read-back : (bytes : List ℕ) (r : Record) (rest : Bits) → All Byte bytes → read bytes ≡ got r rest → Allowed r × (bytes ≡ write r) × (rest ≡ [])
+unfolding write
+read-back bytes r q h p =
+    let (a, s, g, y) = read-is bytes r q p in
+    (a, rw (← s, ← g) (sym (bytes-bits bytes h)), y)

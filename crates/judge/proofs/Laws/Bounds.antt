@@ -1,6 +1,6 @@
 -- How many bytes of the sheet the parts of a view can take at most, so that no sum of them wraps.
-use mathlib.Core.Path.{_≡_, refl, sym, ap, _∙_}
-use Prim.Native.Nat.{ℕ, suc, _+_, _*_, _^_, _≤_, _<_}
+use mathlib.Core.Path.{_≡_, ap}
+use Prim.Native.Nat.{ℕ, suc, _+_, _*_, _^_, _≤_}
 use native.Mathlib.Omega.{arith}
 use mathlib.Core.Option.{Option, none, some}
 use mathlib.Core.List.{List, [], _∷_}
@@ -11,7 +11,7 @@ use Rattle.bits.specs.Bytes.{bitsOf}
 use Rattle.bits.specs.BytesLaws.{length-bitsOf}
 use Rattle.bits.specs.CodecLaws.{encAll}
 use Rattle.bits.specs.SizedLaws.{prefixed}
-use Rattle.bits.specs.Reads.{found, Reads, kept, total}
+use Rattle.bits.specs.Reads.{found, Reads, total}
 use Rattle.bits.proofs.Laws.Reads.{unkept}
 use Rattle.outcome.specs.Refusals.{past}
 use Rattle.format.specs.Index.{Index, FitsList, up, index, indexBlock}

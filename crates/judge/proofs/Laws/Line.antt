@@ -1,10 +1,10 @@
 -- A line, and the lines of a skeleton block, as the judge's loops read them: what each early way out says of the line, and what a
 -- turn of the loop keeps.
-use mathlib.Core.Path.{_≡_, refl, sym, ap, _∙_}
-use Prim.Native.Nat.{ℕ, suc, _+_, _-_, _*_, _≤_, _<_}
+use mathlib.Core.Path.{_≡_, sym, ap, _∙_}
+use Prim.Native.Nat.{ℕ, _+_, _-_, _*_, _≤_, _<_}
 use native.Mathlib.Omega.{arith}
 use mathlib.Core.Bool.{Bool}
-use mathlib.Core.List.{List, [], _∷_}
+use mathlib.Core.List.{List, []}
 use lib.ListN.{length, drop}
 use Rattle.bits.specs.Bits.{Bits}
 use Rattle.bits.specs.Bytes.{bitsOf}
@@ -16,7 +16,7 @@ use Rattle.bits.proofs.Laws.Reads.{length-rest, gives, refuses, go-on, stop, ma
 use Rattle.bits.proofs.Laws.Loops.{kept-same, tally-more, times-stop, times-done, many-turn, many-stop, many-full, many-last}
 use Rattle.outcome.specs.Refusals.{badLine, tooManyLines}
 use Rattle.format.specs.Limits.{mostLines}
-use Rattle.format.specs.Line.{Line, end, line, skeleton}
+use Rattle.format.specs.Line.{Line, line, skeleton}
 use Rattle.format.specs.SheetSize.{lineSize}
 use Rattle.format.specs.declared.Widths.{Widths}
 use Rattle.format.specs.declared.End.{End}

@@ -1,7 +1,7 @@
 -- A view at byte a, and the views of a record, as the judge's loop reads them: what each early way out says of the view, and what a
 -- turn of the loop keeps.
 use mathlib.Core.Path.{_≡_, refl, sym, ap, _∙_, subst}
-use Prim.Native.Nat.{ℕ, suc, _+_, _-_, _*_, _≤_, _<_}
+use Prim.Native.Nat.{ℕ, _+_, _-_, _*_, _≤_, _<_}
 use native.Mathlib.Omega.{arith}
 use mathlib.Core.Bool.{Bool}
 use mathlib.Core.Option.{Option}
@@ -9,11 +9,11 @@ use mathlib.Core.List.{List, [], _∷_}
 use lib.ListN.{length, drop}
 use Rattle.bits.specs.Bits.{Bits}
 use Rattle.bits.specs.Bytes.{bitsOf}
-use Rattle.bits.specs.Codec.{Codec, Read, got, refused, alongDec}
+use Rattle.bits.specs.Codec.{Codec, got, refused, alongDec}
 use Rattle.bits.specs.CodecLaws.{then}
 use Rattle.bits.specs.SizedLaws.{sized, headed, prefixed}
 use Rattle.bits.specs.Reads.{Found, found, fault, Reads, kept, total, summed}
-use Rattle.bits.proofs.Laws.Reads.{gives, go-on, stop, made, keeps, unkept, unkept-bad, up-to, kept-refused}
+use Rattle.bits.proofs.Laws.Reads.{go-on, stop, made, unkept, unkept-bad, up-to}
 use Rattle.bits.proofs.Laws.Loops.{sum-more, sum-start, along-turn, along-stop, along-done}
 use Rattle.bits.proofs.Laws.Parts.{part, sized-good, sized-bad, sized-past}
 use Rattle.outcome.specs.Refusals.{past}
@@ -22,7 +22,7 @@ use Rattle.format.specs.Index.{Index, indexBlock}
 use Rattle.format.specs.Segments.{Segment, segments}
 use Rattle.format.specs.View.{View, view, viewHeader, occurs}
 use Rattle.format.specs.Record.{views, tellSeen}
-use Rattle.format.specs.SheetSize.{lineSize, indexSize, segmentSize, viewSize}
+use Rattle.format.specs.SheetSize.{lineSize, indexSize, viewSize}
 use Rattle.format.specs.declared.Widths.{Widths}
 use Rattle.format.specs.declared.ViewHeader.{ViewHeader}
 use Rattle.parts.specs.declared.Reached.{Reached}

@@ -1,5 +1,5 @@
 -- The whole record, from its header and its views to the judge's verdict.
-use mathlib.Core.Path.{_≡_, refl, sym, ap, ap₂, _∙_}
+use mathlib.Core.Path.{_≡_, sym, ap, ap₂, _∙_}
 use Prim.Native.Nat.{ℕ, _+_, _-_, _*_, _≤_, _<_}
 use native.Mathlib.Omega.{arith}
 use native.Mathlib.Nat.{sub-zero}
@@ -18,7 +18,7 @@ use Rattle.bits.proofs.Laws.Parts.{drop-end}
 use Rattle.outcome.specs.Refusals.{badSize, bytesOver}
 use Rattle.format.specs.Limits.{leastBytes, mostBytes}
 use Rattle.format.specs.View.{View}
-use Rattle.format.specs.Record.{Record, FitsHeader, header, views, recordOf, allOf, read}
+use Rattle.format.specs.Record.{Record, header, views, recordOf, allOf, read}
 use Rattle.format.specs.SheetSize.{viewSize, sheetSize}
 use Rattle.format.specs.declared.Header.{Header}
 use Rattle.parts.specs.Answers.{headerDec}

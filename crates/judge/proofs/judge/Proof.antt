@@ -1,10 +1,9 @@
 -- The header, then the views, and what may be left behind them.
 use native.Mathlib.Omega.{arith}
-use Prim.Native.Nat.{ℕ, _*_, _≤_}
-use mathlib.Core.Path.{_≡_, ap}
+use Prim.Native.Nat.{_≤_}
+use mathlib.Core.Path.{ap}
 use lib.ListN.{length}
 use lib.Dec.{T}
-use Rattle.bits.specs.ChoiceLaws.{within-high}
 use Rattle.bits.specs.Reads.{Reads, found}
 use Rattle.bits.proofs.Laws.Reads.{known}
 use Rattle.parts.specs.Answers.{reached, headerAt, headerDec}
@@ -15,10 +14,6 @@ use Rattle.judge.proofs.Laws.Whole.{sizeOk, too-short, too-long, size-o
 use borrow.Author.Needs.{needs}
 use Rattle.judge.proofs.judge.Statement.{statement}
 use Rattle.judge.proofs.judge.Tie as tie
-use Rattle.judge.proofs.judge.Reads as reads
-use Rattle.judge.proofs.judge.Lts as lts
-use Rattle.judge.proofs.views.judge_views.Reads as judge-views-reads
-use Rattle.parts.proofs.header.header_at.Reads as header-at-reads
 
 fits : (c : tie.Else2) → T (sizeOk (c .before .before .before .args .s .now))
 fits c = size-ok (c .before .before .before .args .s .now) (omega (arith, c .before .if1 .left)) (omega (arith, c .if2 .left))

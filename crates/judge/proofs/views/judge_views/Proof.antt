@@ -2,11 +2,11 @@
 use native.Mathlib.Omega.{arith}
 use native.Mathlib.Numerals.{add-one}
 use native.Mathlib.Nat.{sub-zero}
-use Prim.Native.Nat.{ℕ, suc, _-_, _+_, _*_, _≤_, _<_}
+use Prim.Native.Nat.{ℕ, suc, _-_, _+_, _*_, _≤_}
 use mathlib.Core.Path.{_≡_, refl, ap, sym, _∙_, subst}
 use mathlib.Core.List.{List, [], _∷_}
 use mathlib.Core.Logic.{⊎-elim}
-use lib.ListN.{length, take, drop, getD}
+use lib.ListN.{length, take, drop}
 use Rattle.bits.specs.Bits.{Bits}
 use Rattle.bits.specs.Bytes.{bitsOf}
 use Rattle.bits.specs.Codec.{got, refused, timesDec, fieldDec}
@@ -17,10 +17,10 @@ use Rattle.bits.proofs.Laws.Loops.{times-turn}
 use Rattle.bits.proofs.Laws.Parts.{part, part-length}
 use Rattle.outcome.specs.Refusals.{badLine}
 use Rattle.format.specs.Line.{Line, line, skeleton}
-use Rattle.format.specs.View.{view, viewHeader, occurs}
+use Rattle.format.specs.View.{viewHeader, occurs}
 use Rattle.format.specs.SheetSize.{lineSize}
 use Rattle.format.specs.declared.ViewHeader.{ViewHeader}
-use Rattle.parts.specs.declared.Reached.the-variants.{At, Refused}
+use Rattle.parts.specs.declared.Reached.the-variants.{At}
 use Rattle.parts.specs.Answers.{ended, cleared, headAt, reached, endDec, indexAtDec, segmentsAtDec}
 use Rattle.judge.specs.Judge.{viewsDec, headRefusal}
 use Rattle.judge.proofs.Laws.Bounds.{index-small, segments-small}
@@ -30,16 +30,6 @@ use Rattle.judge.proofs.Laws.View.{no-head, skeleton-past, skeleton-bad
 use borrow.Author.Needs.{needs}
 use Rattle.judge.proofs.views.judge_views.Statement.{statement}
 use Rattle.judge.proofs.views.judge_views.Tie as tie
-use Rattle.judge.proofs.views.judge_views.Reads as reads
-use Rattle.judge.proofs.views.judge_views.Lts as lts
-use Rattle.bits.proofs.Cursor.field.Reads as field-reads
-use Rattle.bits.proofs.Cursor.start.Reads as start-reads
-use Rattle.judge.proofs.views.refused_head.Reads as refused-head-reads
-use Rattle.parts.proofs.index.index_at.Reads as index-at-reads
-use Rattle.parts.proofs.line.end_at.Reads as end-at-reads
-use Rattle.parts.proofs.line.zeros_at.Reads as zeros-at-reads
-use Rattle.parts.proofs.segments.segments_at.Reads as segments-at-reads
-use Rattle.parts.proofs.view.head_at.Reads as head-at-reads
 
 abbrev Inv-loop2 : tie.InvT-loop2
 Inv-loop2 s w count answer₀ seen a size v h len b e block end p₀ lines n line codes i₀ answer p i =

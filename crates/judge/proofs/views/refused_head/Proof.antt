@@ -4,8 +4,6 @@ use Rattle.judge.specs.Judge.{headRefusal}
 use borrow.Author.Needs.{needs}
 use Rattle.judge.proofs.views.refused_head.Statement.{statement}
 use Rattle.judge.proofs.views.refused_head.Tie as tie
-use Rattle.judge.proofs.views.refused_head.Reads as reads
-use Rattle.judge.proofs.views.refused_head.Lts as lts
 
 enum-told : tie.Need-enum-told
 enum-told c = search needs

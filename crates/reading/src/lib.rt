@@ -1,0 +1,36 @@
+// A record's sheet: judged first, with the bytes that its sheet takes; then written, where there is room.
+ghost use Rattle.outcome.specs.Outcome.{Answers};
+ghost use Rattle.sheet.specs.Sheet.{reading};
+use judge::Verdict;
+use judge::judge;
+use outcome::Answer;
+use to_sheet::record::sheet_out;
+
+pub fn read(bytes: &[u8], sheet: &mut [u8]) -> Answer
+    ensures { λ r. ⌜ Answers (reading (now (bytes .entry))) (now (sheet .entry)) (now (sheet .exit)) r ⌝ }
+{
+    match judge(bytes) {
+        Verdict::Refused(number, _) => Answer {
+            number,
+            place: 0,
+            length: 0,
+        },
+        Verdict::Accepted(header, views, size) => {
+            if sheet.len() < size {
+                Answer {
+                    number: 20,
+                    place: 0,
+                    length: 0,
+                }
+            } else {
+                let scale = header.scale;
+                let length = sheet_out(sheet, bytes, scale.widths, views);
+                Answer {
+                    number: 0,
+                    place: 0,
+                    length,
+                }
+            }
+        }
+    }
+}

@@ -1,0 +1,59 @@
+-- A record's sheet, byte by byte: what the writers lay down. That it is the sheet of the definitions is a law (Rendered).
+use Prim.Native.Nat.{ℕ, _+_, _*_, _/_, _%_}
+use mathlib.Core.Option.{Option, none, some}
+use mathlib.Core.List.{List, [], _∷_, _++_, map}
+use lib.ListN.{length}
+use Rattle.format.specs.Line.{Line}
+use Rattle.format.specs.Index.{Index}
+use Rattle.format.specs.Segments.{Segment}
+use Rattle.format.specs.View.{View}
+use Rattle.format.specs.Record.{Record}
+use Rattle.format.specs.declared.End.{End}
+use Rattle.format.specs.declared.Scale.{Scale}
+use Rattle.format.specs.declared.Header.{Header}
+use Rattle.format.specs.declared.ViewHeader.{ViewHeader}
+use Rattle.sheet.specs.Code.{extended}
+
+abbrev pub two : ℕ → List ℕ
+two n = n / 256 ∷ n % 256 ∷ []
+
+-- how a field with tag t and n bytes starts
+abbrev pub start : ℕ → ℕ → List ℕ
+start t n = t ∷ n / 256 ∷ n % 256 ∷ []
+
+abbrev pub joined : {A : Type 0} → (A → List ℕ) → List A → List ℕ
+joined f [] = []
+joined f (x ∷ xs) = f x ++ joined f xs
+
+abbrev pub endBytes : End → List ℕ
+endBytes p = p .kind ∷ p .direction ∷ (two (p .x) ++ two (p .y))
+
+-- k: bits of a code
+abbrev pub lineBytes : ℕ → Line → List ℕ
+lineBytes k l = start 3 (12 + length (l .codes)) ++ (endBytes (l .start) ++ (endBytes (l .finish) ++ map (extended k) (l .codes)))
+
+abbrev pub listBytes : List ℕ → List ℕ
+listBytes ns = start 5 (2 * length ns) ++ joined two ns
+
+abbrev pub indexBytes : Option Index → List ℕ
+indexBytes none = []
+indexBytes (some i) = start 4 1 ++ (i .width ∷ joined listBytes (i .lists))
+
+abbrev pub segmentBytes : Segment → List ℕ
+segmentBytes g = start 6 (2 + length (g .payload)) ++ (two (g .kind) ++ g .payload)
+
+abbrev pub headBytes : ViewHeader → List ℕ
+headBytes h = h .number ∷ h .position ∷ h .impression ∷ h .quality ∷ (two (h .width) ++ two (h .height))
+
+abbrev pub viewBytes : ℕ → View → List ℕ
+viewBytes k v =
+    start 2 8 ++ (headBytes (v .head) ++ (joined (lineBytes k) (v .lines) ++ (indexBytes (v .index) ++ joined segmentBytes (v .segments))))
+
+abbrev pub scaleBytes : Scale → List ℕ
+scaleBytes s = s .points ∷ s .widths .c ∷ s .widths .b ∷ s .widths .k ∷ s .step ∷ s .ratio ∷ s .half ∷ []
+
+abbrev pub headerBytes : Header → List ℕ
+headerBytes h = two (h .device) ++ scaleBytes (h .scale)
+
+unfoldable pub recordBytes : Record → List ℕ
+recordBytes r = start 1 9 ++ (headerBytes (r .head) ++ joined (viewBytes (r .head .scale .widths .k)) (r .views))

@@ -1,0 +1,93 @@
+/*
+ * fsk.h - finger skeletal records (ISO/IEC 19794-8:2006) for a host written in C or C++.
+ *
+ * A RECORD is a run of 24 to 32,768 bytes: a header, then one or more VIEWS of a finger. A view has a header, a block of
+ * LINES (a ridge each: where it starts, how it runs, where it ends), an INDEX that says which lines are neighbours (or none),
+ * and SEGMENTS of extended data, which the library carries as they are. Views, lines and segments are counted from 0.
+ *
+ * Every call takes numbers and byte slices (a pointer and a length; an empty slice may have a null pointer) and gives an
+ * fsk_answer back. Nothing is asked of the caller: whatever the bytes are, the call answers. It keeps no pointer, allocates
+ * nothing, and never reads or writes outside the slices it is lent. An output must not overlap an input.
+ *
+ * Link with the archive libhost.a. It holds code for x86-64.
+ */
+#ifndef FSK_H
+#define FSK_H
+
+#include <stddef.h>
+#include <stdint.h>
+
+#ifdef __cplusplus
+extern "C" {
+#endif
+
+/*
+ * What a call answers.
+ *   number  0: accepted. Anything else: refused, for the reason that the number names (below).
+ *   place   0.
+ *   length  accepted: how many elements were written to the output (what an element is, each call says). Refused: 0.
+ * A refused call leaves the output as it was, to the byte. An accepted one leaves what lies beyond the written elements.
+ */
+typedef struct {
+    uint32_t number;
+    uint32_t place;
+    size_t length;
+} fsk_answer;
+
+/*
+ * Why a call refuses. The numbers are fixed.
+ *
+ * The record, in the order in which it is judged; the first fault found is the answer:
+ *    1  it has under 24 or over 32,768 bytes
+ *    2  it does not start with the identifier 46 53 4B 00 ("FSK")
+ *    3  its version is not 30 31 30 00 ("010")
+ *    4  the length it states is not the length lent
+ *    5  another field of its header is outside its range
+ *    6  a view header, a length field or a block passes the end of the record
+ *    7  a value in a view header is not allowed: view number, finger position (0-10), impression (0-3, 8, 9), quality (0-100)
+ *    8  a line does not fit its block, or the bits that fill the block up are not zero
+ *    9  a view has more than 1,024 lines
+ *   10  a neighbour index breaks a rule
+ *   11  a segment's length is under 4 or passes its block, or 1 to 3 bytes are left over
+ *   12  there are bytes after the last view
+ * The output:
+ *   20  it is too short for what would be written
+ */
+enum {
+    FSK_ACCEPTED = 0,
+    FSK_BAD_SIZE = 1,
+    FSK_BAD_IDENTIFIER = 2,
+    FSK_BAD_VERSION = 3,
+    FSK_BAD_LENGTH = 4,
+    FSK_BAD_HEADER = 5,
+    FSK_PAST_END = 6,
+    FSK_BAD_VIEW = 7,
+    FSK_BAD_LINE = 8,
+    FSK_TOO_MANY_LINES = 9,
+    FSK_BAD_INDEX = 10,
+    FSK_BAD_SEGMENT = 11,
+    FSK_BYTES_OVER = 12,
+    FSK_NO_ROOM = 20
+};
+
+/*
+ * The record as a SHEET: its fields one after another, each a tag (1 byte), a length (2 bytes) and a value. Numbers of more than
+ * one byte are high byte first.
+ *   01  certificates and device (2 bytes), points per cm, bits of a coordinate (c), of a direction (b), of a code (k), straight
+ *       step, 256 times perpendicular over straight step, directions in a half turn (N): 9 bytes
+ *   02  a view: number, finger position, impression, quality, width (2), height (2): 8 bytes
+ *   03  a line: start type, direction, x (2), y (2), end type, direction, x (2), y (2), then a byte for each code, two's
+ *       complement. Types: 0 imaginary end, 1 ridge end, 2 bifurcation, 3 imaginary continuation
+ *   04  the index's width in bits, where the view has an index
+ *   05  a line's neighbours by number, 2 bytes each, highest first; one such field for each line, behind 04
+ *   06  a segment: type (2), payload
+ * One 01; then for each view one 02, its 03s, nothing or 04 and its 05s, and its 06s.
+ * Writes bytes. Refuses: 1 to 12, 20.
+ */
+fsk_answer fsk_read(const uint8_t *record, size_t record_length, uint8_t *sheet, size_t sheet_length);
+
+#ifdef __cplusplus
+}
+#endif
+
+#endif
