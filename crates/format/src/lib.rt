@@ -23,6 +23,13 @@ pub struct Header {
     pub scale: Scale,
 }
 
+// The bytes of a record.
+impl Header {
+    pub const LEAST_BYTES: usize = 24;
+
+    pub const MOST_BYTES: usize = 32768;
+}
+
 // A view's header, without the length of its skeleton.
 pub struct ViewHeader {
     pub number: usize,
@@ -31,6 +38,11 @@ pub struct ViewHeader {
     pub quality: usize,
     pub width: usize,
     pub height: usize,
+}
+
+// The lines of a view.
+impl ViewHeader {
+    pub const MOST_LINES: usize = 1024;
 }
 
 // Where a line starts or ends. Kinds: 0 imaginary end, 1 ridge end, 2 bifurcation, 3 imaginary continuation.

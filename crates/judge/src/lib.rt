@@ -17,10 +17,10 @@ pub enum Verdict {
 pub fn judge(s: &[u8]) -> Verdict
     ensures { λ r. ⌜ Judges (now (s .entry)) r ⌝ }
 {
-    if s.len() < 24 {
+    if s.len() < Header::LEAST_BYTES {
         return Verdict::Refused(1, 0);
     }
-    if 32768 < s.len() {
+    if Header::MOST_BYTES < s.len() {
         return Verdict::Refused(1, 0);
     }
     match header_at(s) {

@@ -7,6 +7,7 @@ ghost use Rattle.parts.specs.Answers.{reached};
 ghost use Rattle.judge.specs.Judge.{viewsDec, headRefusal, shown};
 use bits::Cursor;
 use bits::Taken;
+use format::ViewHeader;
 use format::Widths;
 use parts::Reached;
 use parts::index::index_at;
@@ -57,7 +58,7 @@ pub fn judge_views(s: &[u8], w: Widths, count: usize) -> Reached
         let mut n: usize = 0;
         while 8 <= end - p.at {
             let line = p.at;
-            if n == 1024 {
+            if n == ViewHeader::MOST_LINES {
                 answer = Reached::Refused(9, 8 * b + line);
                 break 'views;
             }

@@ -1,4 +1,4 @@
--- Bytes that bits lay down: `Spells xs s` says that the bits s are the bytes xs. It goes along with the ways in which the formats
+-- Bytes that bits spell: `Spells xs s` says that the bits s are the bytes xs. It goes along with the ways in which the formats
 -- write, so that what a format writes is read off byte by byte.
 use mathlib.Core.Path.{_≡_, refl, sym, ap, ap₂, _∙_}
 use Prim.Native.Nat.{ℕ, zero, suc, _+_, _*_, _/_, _%_, _^_, _<_}

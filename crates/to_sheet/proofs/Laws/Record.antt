@@ -119,12 +119,17 @@ narrow {h} f =
 
 -- ---- its sheet, where the views' fields are laid behind the header's
 
-pub field-long : (s : List ℕ) → 24 ≤ length s → length (headerField s) ≡ 12
+field-long : (s : List ℕ) → 24 ≤ length s → length (headerField s) ≡ 12
 field-long s h = simp (length-append, length-take, length-drop) (omega arith)
 
-pub sheet-room : {w : Widths} {count : ℕ} {s : List ℕ} {n : ℕ} (h : SheetThere w count s n) → 12 + total viewSize (h .value .views) ≤ n
-unfolding sheetSize
-sheet-room h = h .room
+module _ {w : Widths} {count : ℕ} {s : List ℕ} {n : ℕ} (h : SheetThere w count s n) where
+  pub header-room : (22 ≤ length s) × (12 ≤ n)
+  unfolding sheetSize
+  header-room = (omega (arith, record-apart s (h .reads) .low), omega (arith, h .room))
+
+  pub views-room : {o o1 : List ℕ} {x : ℕ} → Laid (headerField s) o o1 x → x + total viewSize (h .value .views) ≤ n
+  unfolding sheetSize
+  views-room l = omega (arith, h .room, l .count, field-long s (record-apart s (h .reads) .low))
 
 pub views-wide : {s o o1 : List ℕ} {x : ℕ} {r : Record} → ViewsOut s o o1 x → read s ≡ got r [] → x ≡ total viewSize (r .views)
 views-wide {r = r} l d = let k : ℕ = r .head .scale .widths .k in l .is r d .count ∙ joined-size (viewBytes k) viewSize (view-size k) (r .views)

@@ -3,51 +3,41 @@ use borrow.Author.Needs.{needs}
 use native.Mathlib.Omega.{arith}
 use lib.ListN.{length-take, length-drop}
 use Rattle.bits.proofs.Laws.Place.{all-bytes}
-use Rattle.to_sheet.proofs.Laws.Record.{record-apart, field-long, sheet-room, views-wide, sheet-laid}
+use Rattle.to_sheet.proofs.Laws.Record.{header-room, views-room, views-wide, sheet-laid}
 use Rattle.to_sheet.proofs.record.sheet_out.Statement.{statement}
 use Rattle.to_sheet.proofs.record.sheet_out.Tie as tie
 
 header-out-requires : tie.Need-header-out-requires
 header-out-requires c κs =
-    let s = c .before .before .before in
-    let low = record-apart (s .args .s .now) (s .pre .reads) .low in
-    (omega arith, omega (arith, sheet-room (s .pre)))
+    header-room (c .before .before .before .pre)
 
 sub-views-out : tie.Need-sub-views-out
 sub-views-out c =
-    let s = c .before .before .before .before .before .before in
-    let long = field-long (s .args .s .now) (record-apart (s .args .s .now) (s .pre .reads) .low) in
-    omega (arith, sheet-room (s .pre), c .before .before .header-out .ensures .count)
+    omega (arith, views-room (c .before .before .before .before .before .before .pre) (c .before .before .header-out .ensures))
 
 part-views-out-start : tie.Need-part-views-out-start
 part-views-out-start c =
-    let s = c .before .before .before .before .before .before in
-    let long = field-long (s .args .s .now) (record-apart (s .args .s .now) (s .pre .reads) .low) in
-    omega (arith, sheet-room (s .pre), c .before .before .header-out .ensures .count)
+    omega (arith, views-room (c .before .before .before .before .before .before .pre) (c .before .before .header-out .ensures))
 
 part-views-out-end : tie.Need-part-views-out-end
 part-views-out-end c =
-    let s = c .before .before .before .before .before .before in
-    let long = field-long (s .args .s .now) (record-apart (s .args .s .now) (s .pre .reads) .low) in
-    omega (arith, sheet-room (s .pre), c .before .before .header-out .ensures .count)
+    omega (arith, views-room (c .before .before .before .before .before .before .pre) (c .before .before .header-out .ensures))
 
 views-out-requires : tie.Need-views-out-requires
 views-out-requires c κs =
-    let s = c .before .before .before .before .before .before .before in
-    let long = field-long (s .args .s .now) (record-apart (s .args .s .now) (s .pre .reads) .low) in
+    let s = c .before .before .before .before .before .before .before .pre in
     record {
-      value = s .pre .value;
-      reads = s .pre .reads;
-      widths = s .pre .widths;
-      views = s .pre .views;
-      room = simp (length-take, length-drop) (omega (arith, sheet-room (s .pre), c .before .before .before .header-out .ensures .count));
+      value = s .value;
+      reads = s .reads;
+      widths = s .widths;
+      views = s .views;
+      room = simp (length-take, length-drop) (omega (arith, views-room s (c .before .before .before .header-out .ensures)));
     }
 
 add-at : tie.Need-add-at
 add-at c =
-    let s = c .before .before .before .before .before .before .before .before .before .before in
-    let long = field-long (s .args .s .now) (record-apart (s .args .s .now) (s .pre .reads) .low) in
-    omega (arith, sheet-room (s .pre), c .before .before .before .before .before .before .header-out .ensures .count, views-wide (c .before .before .views-out .ensures) (s .pre .reads))
+    let s = c .before .before .before .before .before .before .before .before .before .before .pre in
+    omega (arith, views-room s (c .before .before .before .before .before .before .header-out .ensures), views-wide (c .before .before .views-out .ensures) (s .reads))
 
 same-length : tie.Need-same-length
 same-length c = search needs
