@@ -1,13 +1,13 @@
 -- The laws of Bits: bits to number and back, over every width.
 use mathlib.Core.Path.{_≡_, refl, sym, ap, ap₂, _∙_}
-use Prim.Native.Nat.{ℕ, zero, suc, _+_, _-_, _*_, _/_, _%_, _^_, _<_}
+use Prim.Native.Nat.{ℕ, zero, suc, _+_, _*_, _/_, _%_, _^_, _<_}
 use native.Mathlib.Nat.{mod-eq-of-lt, pow-suc, mod-one}
 use native.Mathlib.Numerals.{one-add}
 use native.Mathlib.Omega.{arith}
 use mathlib.Core.Bool.{Bool, true, false}
-use mathlib.Core.List.{[], _∷_}
+use mathlib.Core.List.{[], _∷_, _++_}
 use lib.ListN.{length, length-append, length-replicate}
-use lib.Pow.{high, low, field, mod-mod-pow, mod-pow-add}
+use lib.Pow.{high, low, field, mod-mod-pow, mod-pow-add, shr-shr}
 use Rattle.bits.specs.Bits.{Bits, val, bit, numberOf, bitsOfNumber, pad, filled}
 
 pub length-bits : (w n : ℕ) → length (bitsOfNumber w n) ≡ w
@@ -43,6 +43,16 @@ number-mod (suc w) n = simp (length-bits w n, number-mod w n, val-bit (n / 2 ^ w
 
 pub number-bits : (w n : ℕ) → n < 2 ^ w → numberOf (bitsOfNumber w n) ≡ n
 number-bits w n h = number-mod w n ∙ mod-eq-of-lt h
+
+-- a number's lowest a + b bits: a of them, then the lowest b
+pub bits-split : (a b n : ℕ) → bitsOfNumber (a + b) n ≡ bitsOfNumber a (n / 2 ^ b) ++ bitsOfNumber b n
+unfolding bitsOfNumber
+bits-split zero b n = let e : 0 + b ≡ b = omega arith in rw e
+bits-split (suc a) b n =
+    let e : suc a + b ≡ suc (a + b) = omega arith in
+    let z : a + b ≡ b + a = omega arith in
+    ap (λ (w : ℕ). bitsOfNumber w n) e
+    ∙ ap₂ (λ (x : ℕ) (y : Bits). bit (x % 2) ∷ y) (ap (λ (w : ℕ). n / 2 ^ w) z ∙ sym (shr-shr n b a)) (bits-split a b n)
 
 pub bits-number : (bs : Bits) → bitsOfNumber (length bs) (numberOf bs) ≡ bs
 unfolding numberOf bitsOfNumber

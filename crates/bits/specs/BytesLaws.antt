@@ -1,6 +1,6 @@
 -- The laws of Bytes: bits to bytes and back.
 use mathlib.Core.Path.{_≡_, refl, ap, ap₂, _∙_}
-use Prim.Native.Nat.{ℕ, zero, suc, _+_, _-_, _*_, _/_, _%_}
+use Prim.Native.Nat.{ℕ, zero, suc, _*_, _/_, _%_}
 use native.Mathlib.Omega.{arith}
 use mathlib.Core.List.{List, [], _∷_, _++_, append-assoc, append-nil}
 use lib.ListN.{length, take, drop, length-append, length-drop, take-append-drop}
@@ -9,6 +9,11 @@ use Rattle.bits.specs.Lists.{All}
 use Rattle.bits.specs.Bits.{Bits, numberOf, bitsOfNumber}
 use Rattle.bits.specs.BitsLaws.{length-bits, number-bits, bits-number, number-lt}
 use Rattle.bits.specs.Bytes.{Byte, bitsOf, bytesOf, inBytes}
+
+pub bits-append : (xs ys : List ℕ) → bitsOf (xs ++ ys) ≡ bitsOf xs ++ bitsOf ys
+unfolding bitsOf
+bits-append [] ys = refl
+bits-append (x ∷ xs) ys = rw (append-assoc, bits-append xs ys)
 
 pub length-bitsOf : (xs : List ℕ) → length (bitsOf xs) ≡ 8 * length xs
 unfolding bitsOf

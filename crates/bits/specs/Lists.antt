@@ -1,4 +1,5 @@
--- What holds of every element of a list, alone (`All`) or by what the elements before it say (`Along`); and tests over a list.
+-- What holds of every element of a list, alone (`All`) or by what the elements before it say (`Along`); tests over a list, and sums.
+use Prim.Native.Nat.{ℕ, _+_}
 use mathlib.Core.Bool.{Bool, true, false, _&&_}
 use mathlib.Core.List.{List, [], _∷_}
 
@@ -22,3 +23,7 @@ allTrue ts = every (λ t. t) ts
 abbrev pub empty? : {A : Type 0} → List A → Bool
 empty? [] = true
 empty? (x ∷ xs) = false
+
+abbrev pub total : {A : Type 0} → (A → ℕ) → List A → ℕ
+total f [] = 0
+total f (x ∷ xs) = f x + total f xs

@@ -3,8 +3,9 @@
 use mathlib.Core.Path.{_≡_}
 use Prim.Native.Nat.{ℕ, _+_, _-_, _*_, _≤_}
 use mathlib.Core.Bool.{Bool}
-use mathlib.Core.List.{List, [], _∷_}
+use mathlib.Core.List.{List}
 use lib.ListN.{length, drop}
+use Rattle.bits.specs.Lists.{total}
 use Rattle.bits.specs.Bits.{Bits}
 use Rattle.bits.specs.Bytes.{bitsOf}
 use Rattle.bits.specs.Codec.{Read, got, refused}
@@ -45,10 +46,6 @@ abbrev pub after : {S A : Type 0} → Read S A → Read S (Unit {0})
 after o = kept (λ a. tt) o
 
 -- of values, a sum; z is the sum of those before
-abbrev pub total : {A : Type 0} → (A → ℕ) → List A → ℕ
-total f [] = 0
-total f (x ∷ xs) = f x + total f xs
-
 abbrev pub summed : {S A : Type 0} → (A → ℕ) → ℕ → Read S (List A) → Read S ℕ
 summed f z o = kept (λ xs. z + total f xs) o
 

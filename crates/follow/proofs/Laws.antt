@@ -8,7 +8,7 @@ use native.Mathlib.Nat.{zero-add, mod-lt, pow-succ'}
 use native.Mathlib.Numerals.{add-one}
 use mathlib.Core.Bool.{Bool, not, true, false}
 use mathlib.Core.List.{List, [], _∷_, _++_, append-assoc, append-nil}
-use lib.ListN.{length, take, drop, set, length-append, length-drop}
+use lib.ListN.{length, take, drop, set, length-append}
 use lib.Seq.{take-at, drop-at, drop-drop, set-split}
 use lib.Dec.{leb, leb→le}
 use borrow.Author.Tests.{le-ltb}
@@ -24,7 +24,7 @@ use Rattle.lay.specs.Laid.{Laid}
 use Rattle.lay.proofs.Laws.{laid-none}
 use Rattle.trail.specs.Trail.{turnsLevel, turned, follow}
 use Rattle.trail.proofs.Laws.{trail-small}
-use Rattle.follow.specs.Walk.{penOf, drawnBy, elementAt, Steps, CodesThere, OfCodes, drawn, CanDraw, highFirst}
+use Rattle.follow.specs.Walk.{penOf, drawnBy, elementAt, Steps, CodesThere, OfCodes, drawn, CanDraw}
 use Rattle.follow.specs.declared.Pen.{Pen}
 use Rattle.follow.specs.declared.Stepped.{Stepped}
 use Rattle.follow.specs.declared.Stepped.the-variants as s
@@ -144,18 +144,6 @@ laid-one {d} {done} {xs} {a} x h l =
       count = simp length-append (omega (arith, h .count));
       is = set-split xs a x l ∙ rw (e1, e2) (simp (append-assoc, length-append));
     }
-
--- a buffer keeps its length
-pub laid-same : {new d xs : List ℕ} {a : ℕ} → Laid new d xs a → a ≤ length d → length xs ≡ length d
-laid-same h l = ap length (h .is) ∙ simp (length-append, length-drop) (omega (arith, h .count))
-
-pub bytes-length : (xs : List ℕ) → length (highFirst xs) ≡ 2 * length xs
-bytes-length [] = refl
-bytes-length (x ∷ xs) = omega (arith, bytes-length xs)
-
-pub bytes-append : (xs ys : List ℕ) → highFirst (xs ++ ys) ≡ highFirst xs ++ highFirst ys
-bytes-append [] ys = refl
-bytes-append (x ∷ xs) ys = rw (bytes-append xs ys)
 
 -- ---- a loop that draws
 

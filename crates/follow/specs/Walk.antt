@@ -1,7 +1,6 @@
--- What the walk along codes asks and leaves. "The trail is one 16-bit number for each drawn element", as numbers or "as bytes, high
--- byte first".
+-- What the walk along codes asks and leaves. "The trail is one 16-bit number for each drawn element."
 use mathlib.Core.Path.{_≡_}
-use Prim.Native.Nat.{ℕ, _+_, _*_, _/_, _%_, _≤_, _<_}
+use Prim.Native.Nat.{ℕ, _+_, _*_, _≤_, _<_}
 use mathlib.Core.Bool.{Bool}
 use mathlib.Core.List.{List, [], _∷_, _++_}
 use lib.ListN.{length}
@@ -9,7 +8,8 @@ use Rattle.bits.specs.Choice.{pick}
 use Rattle.bits.specs.Bits.{val}
 use Rattle.bits.specs.Codec.{timesDec}
 use Rattle.bits.specs.CodecLaws.{field}
-use Rattle.bits.specs.Reads.{found, Reads, total}
+use Rattle.bits.specs.Lists.{total}
+use Rattle.bits.specs.Reads.{found, Reads}
 use Rattle.outcome.specs.Refusals.{badLine}
 use Rattle.trail.specs.Trail.{turnsLevel, follow}
 use Rattle.follow.specs.declared.Pen.{Pen}
@@ -62,8 +62,3 @@ pub record CanDraw (each k n half heading : ℕ) (s : List ℕ) (p room : ℕ) :
   pub few : half ≤ 255
   pub below : heading < 2 * half
   pub enough : each * drawn k (there .value) ≤ room
-
--- 16-bit numbers as bytes, high byte first
-abbrev pub highFirst : List ℕ → List ℕ
-highFirst [] = []
-highFirst (x ∷ xs) = x / 256 ∷ x % 256 ∷ highFirst xs

@@ -5,8 +5,9 @@ ghost use Prim.Native.Nat.{_-_, _*_, _^_, _≤_, _<_};
 ghost use mathlib.Core.Bool.{false};
 ghost use lib.ListN.{length};
 ghost use Rattle.lay.specs.Laid.{Laid};
+ghost use Rattle.lay.specs.HighFirst.{two, joined};
 ghost use Rattle.trail.specs.Trail.{turned, follow};
-ghost use Rattle.follow.specs.Walk.{elementAt, drawn, highFirst, CodesThere, CanDraw, OfCodes, Steps};
+ghost use Rattle.follow.specs.Walk.{elementAt, drawn, CodesThere, CanDraw, OfCodes, Steps};
 use bits::Cursor;
 
 // Where the walk stands: its heading, and whether the level is high.
@@ -135,7 +136,7 @@ pub fn trail_bytes(
     heading: usize,
 ) -> usize
     requires { ⌜ CanDraw 2 k n half heading (now s) (p .at) (length (now out)) ⌝ }
-    ensures { λ r. ⌜ OfCodes k n (now (s .entry)) (p .at) (λ codes. Laid (highFirst (follow half k false heading codes)) (now (out .entry)) (now (out .exit)) (2 * r)) ⌝ }
+    ensures { λ r. ⌜ OfCodes k n (now (s .entry)) (p .at) (λ codes. Laid (joined two (follow half k false heading codes)) (now (out .entry)) (now (out .exit)) (2 * r)) ⌝ }
 {
     let mut q = p;
     let mut pen = Pen {

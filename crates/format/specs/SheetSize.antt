@@ -4,7 +4,7 @@ use Prim.Native.Nat.{ℕ, _+_, _*_}
 use mathlib.Core.Option.{Option, none, some}
 use mathlib.Core.List.{List}
 use lib.ListN.{length}
-use Rattle.bits.specs.Reads.{total}
+use Rattle.bits.specs.Lists.{total}
 use Rattle.format.specs.Line.{Line}
 use Rattle.format.specs.Index.{Index}
 use Rattle.format.specs.Segments.{Segment}

@@ -7,7 +7,8 @@ use mathlib.Core.List.{List}
 use lib.ListN.{length}
 use Rattle.bits.specs.Bits.{Bits}
 use Rattle.bits.specs.Codec.{Read}
-use Rattle.bits.specs.Reads.{Found, found, fault, placed, placeOf, kept, total}
+use Rattle.bits.specs.Lists.{total}
+use Rattle.bits.specs.Reads.{Found, found, fault, placed, placeOf, kept}
 use Rattle.format.specs.Record.{Record, views, read}
 use Rattle.format.specs.SheetSize.{viewSize, sheetSize}
 use Rattle.format.specs.declared.Widths.{Widths}
@@ -19,14 +20,14 @@ use Rattle.parts.specs.declared.view.Headed.the-variants as h
 use Rattle.judge.specs.declared.Verdict.{Verdict}
 use Rattle.judge.specs.declared.Verdict.the-variants as v
 
--- the views keep their bytes in the sheet
+-- of the views, their bytes in the sheet are kept
 unfoldable pub viewsDec : Widths → ℕ → Bits → Read Bool ℕ
 viewsDec w n s = kept (total viewSize) (views w n .dec s)
 
--- the bytes in the sheet, which no sum of them can pass
-abbrev pub shown : Reached → ℕ
-shown (r.At a z) = z
-shown (r.Refused e p) = 0
+-- the bytes that the views take in the sheet
+abbrev pub sheetBytes : Reached → ℕ
+sheetBytes (r.At a z) = z
+sheetBytes (r.Refused e p) = 0
 
 abbrev pub headRefusal : Headed → Reached
 headRefusal (h.At x n) = r.At 0 0

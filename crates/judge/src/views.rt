@@ -4,7 +4,7 @@ ghost use Prim.Native.Nat.{ℕ, _*_, _≤_};
 ghost use lib.ListN.{length};
 ghost use Rattle.bits.specs.Reads.{Reads};
 ghost use Rattle.parts.specs.Answers.{reached};
-ghost use Rattle.judge.specs.Judge.{viewsDec, headRefusal, shown};
+ghost use Rattle.judge.specs.Judge.{viewsDec, headRefusal, sheetBytes};
 use bits::Cursor;
 use bits::Taken;
 use format::ViewHeader;
@@ -32,7 +32,7 @@ fn refused_head(h: Headed) -> Reached
 // The views, from byte 24 on; seen counts those of each position, size the bytes in the sheet.
 pub fn judge_views(s: &[u8], w: Widths, count: usize) -> Reached
     requires { ⌜ (24 ≤ length (now s)) × (length (now s) ≤ 32768) × (count ≤ 255) × (w .b ≤ 8) × (w .c ≤ 16) × (w .k ≤ 8) ⌝ }
-    ensures { λ r. ⌜ Reads (viewsDec w count) (now (s .entry)) 192 (reached r) × (shown r ≤ 137438953472) ⌝ }
+    ensures { λ r. ⌜ Reads (viewsDec w count) (now (s .entry)) 192 (reached r) × (sheetBytes r ≤ 137438953472) ⌝ }
 {
     let mut answer = Reached::At(0, 0);
     let mut seen = [0u8; 11];

@@ -1,13 +1,14 @@
 -- The laws of what is laid: bytes one by one, and blocks one behind the other.
 use mathlib.Core.Path.{_≡_, refl, sym, ap, _∙_}
 use mathlib.Core.List.{List, [], _∷_, _++_, append-assoc, append-nil}
-use Prim.Native.Nat.{ℕ, zero, suc, _+_, _-_, _≤_, _<_}
+use Prim.Native.Nat.{ℕ, _+_, _-_, _*_, _≤_, _<_}
 use native.Mathlib.Nat.{zero-add}
 use native.Mathlib.Numerals.{add-one}
 use native.Mathlib.Omega.{arith}
 use lib.ListN.{length, take, drop, getD, set, length-append, length-drop, drop-of-length-le}
 use lib.Seq.{paste-suc, sets, sets-eq, take-at, drop-at, drop-drop, take-all}
 use Rattle.lay.specs.Laid.{Laid}
+use Rattle.lay.specs.HighFirst.{two, joined}
 
 -- one more byte of a copy
 pub copied-more : (d s : List ℕ) (i : ℕ) → i < length d → i < length s
@@ -24,6 +25,10 @@ stored d us vs h e = sets-eq vs d 0 (omega arith) ∙ rw e (ap (λ (n : ℕ). us
 pub laid-none : (d : List ℕ) → Laid [] d d 0
 laid-none d = record { count = refl; is = refl }
 
+-- a buffer keeps its length
+pub laid-same : {new d xs : List ℕ} {a : ℕ} → Laid new d xs a → a ≤ length d → length xs ≡ length d
+laid-same h l = ap length (h .is) ∙ simp (length-append, length-drop) (omega (arith, h .count))
+
 -- The rest of the buffer is lent from a on, where done ends, and comes back with new at its start: then both are laid. xs is the
 -- buffer when it is lent, ys its lent part afterwards.
 pub laid-next : {d done new xs ys : List ℕ} {a n : ℕ} → Laid done d xs a → Laid new (take (length xs - a) (drop a xs)) ys n
@@ -38,3 +43,16 @@ laid-next {d} {done} {new} {xs} {ys} {a} {n} h k =
       count = simp length-append (omega (arith, h .count, k .count));
       is = rw (e3, k .is, e4, e1, e2) (simp (append-nil, append-assoc, length-append, drop-drop));
     }
+
+-- ---- lists, one element behind the other
+
+pub joined-append : {A : Type 0} (f : A → List ℕ) (xs ys : List A) → joined f (xs ++ ys) ≡ joined f xs ++ joined f ys
+joined-append f [] ys = refl
+joined-append f (x ∷ xs) ys = rw (append-assoc, joined-append f xs ys)
+
+pub joined-snoc : {A : Type 0} (f : A → List ℕ) (xs : List A) (x : A) → joined f (xs ++ x ∷ []) ≡ joined f xs ++ f x
+joined-snoc f xs x = joined-append f xs (x ∷ []) ∙ ap (λ (r : List ℕ). joined f xs ++ r) (append-nil (f x))
+
+pub twos-length : (ns : List ℕ) → length (joined two ns) ≡ 2 * length ns
+twos-length [] = refl
+twos-length (n ∷ ns) = omega (arith, twos-length ns)

@@ -9,7 +9,8 @@ use Rattle.bits.specs.Choice.{pick}
 use Rattle.bits.specs.Bits.{Bits}
 use Rattle.bits.specs.Codec.{Read}
 use Rattle.bits.specs.SizedLaws.{prefixed}
-use Rattle.bits.specs.Reads.{Found, found, fault, kept, total}
+use Rattle.bits.specs.Lists.{total}
+use Rattle.bits.specs.Reads.{Found, found, fault, kept}
 use Rattle.outcome.specs.Refusals.{past, badLine}
 use Rattle.format.specs.Line.{end}
 use Rattle.format.specs.Index.{indexBlock}

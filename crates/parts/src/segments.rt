@@ -16,7 +16,6 @@ pub fn judge_segments(s: &[u8]) -> Judged
     let end = 8 * s.len();
     let mut p = Cursor::start();
     let mut size: usize = 0;
-    let mut n: usize = 0;
     while p.at < end {
         if end - p.at < 32 {
             return Judged::Refused(11, p.at);
@@ -34,7 +33,6 @@ pub fn judge_segments(s: &[u8]) -> Judged
             at: len.next.at + payload,
         };
         size = size + len.value + 1;
-        n = n + 1;
     }
     Judged::Fine(size)
 }

@@ -7,18 +7,13 @@ ghost use Rattle.bits.specs.Reads.{Reads};
 ghost use Rattle.format.specs.View.{impressionOk};
 ghost use Rattle.parts.specs.Answers.{earlierOf, headAt, headDec};
 use bits::Cursor;
+use bits::wide;
 use format::ViewHeader;
 
 // A view's header with its skeleton's length, or a refusal.
 pub enum Headed {
     At(ViewHeader, usize),
     Refused(u32, usize),
-}
-
-fn wide(x: u8) -> usize
-    ensures { λ r. ⌜ (r ≡ x) × (r ≤ 255) ⌝ }
-{
-    x as usize
 }
 
 // How many earlier views have the finger position.

@@ -7,12 +7,13 @@ use lib.ListN.{length}
 use Rattle.bits.specs.Bits.{Bits}
 use Rattle.bits.specs.Bytes.{bitsOf}
 use Rattle.bits.specs.Codec.{got}
-use Rattle.bits.specs.Reads.{total}
+use Rattle.bits.specs.Lists.{total}
 use Rattle.lay.specs.Laid.{Laid}
 use Rattle.format.specs.Index.{Index, indexBlock}
 use Rattle.format.specs.Segments.{Segment, segments}
 use Rattle.format.specs.SheetSize.{indexSize, segmentSize}
-use Rattle.to_sheet.specs.Bytes.{joined, indexBytes, segmentBytes}
+use Rattle.lay.specs.HighFirst.{joined}
+use Rattle.to_sheet.specs.Bytes.{indexBytes, segmentBytes}
 
 -- ---- the index block s of a view with that many lines
 

@@ -1,8 +1,9 @@
 -- A record's sheet, byte by byte: what the writers lay down. That it is the sheet of the definitions is a law (Rendered).
-use Prim.Native.Nat.{ℕ, _+_, _*_, _/_, _%_}
+use Prim.Native.Nat.{ℕ, _+_, _*_}
 use mathlib.Core.Option.{Option, none, some}
 use mathlib.Core.List.{List, [], _∷_, _++_, map}
 use lib.ListN.{length}
+use Rattle.lay.specs.HighFirst.{two, start, joined}
 use Rattle.format.specs.Line.{Line}
 use Rattle.format.specs.Index.{Index}
 use Rattle.format.specs.Segments.{Segment}
@@ -13,17 +14,6 @@ use Rattle.format.specs.declared.Scale.{Scale}
 use Rattle.format.specs.declared.Header.{Header}
 use Rattle.format.specs.declared.ViewHeader.{ViewHeader}
 use Rattle.sheet.specs.Code.{extended}
-
-abbrev pub two : ℕ → List ℕ
-two n = n / 256 ∷ n % 256 ∷ []
-
--- how a field with tag t and n bytes starts
-abbrev pub start : ℕ → ℕ → List ℕ
-start t n = t ∷ n / 256 ∷ n % 256 ∷ []
-
-abbrev pub joined : {A : Type 0} → (A → List ℕ) → List A → List ℕ
-joined f [] = []
-joined f (x ∷ xs) = f x ++ joined f xs
 
 abbrev pub endBytes : End → List ℕ
 endBytes p = p .kind ∷ p .direction ∷ (two (p .x) ++ two (p .y))

@@ -8,12 +8,14 @@ use lib.ListN.{length}
 use Rattle.bits.specs.Bits.{Bits}
 use Rattle.bits.specs.Bytes.{bitsOf}
 use Rattle.bits.specs.Codec.{got}
-use Rattle.bits.specs.Reads.{found, Reads, total}
+use Rattle.bits.specs.Lists.{total}
+use Rattle.bits.specs.Reads.{found, Reads}
 use Rattle.lay.specs.Laid.{Laid}
 use Rattle.format.specs.Line.{Line, line, skeleton}
 use Rattle.format.specs.SheetSize.{lineSize}
 use Rattle.format.specs.declared.Widths.{Widths}
-use Rattle.to_sheet.specs.Bytes.{lineBytes, joined}
+use Rattle.lay.specs.HighFirst.{joined}
+use Rattle.to_sheet.specs.Bytes.{lineBytes}
 use Rattle.to_sheet.specs.declared.line.Lined.{Lined}
 use Rattle.to_sheet.specs.declared.line.Lines.{Lines}
 

@@ -5,12 +5,13 @@ use Prim.Native.Nat.{ℕ, _≤_}
 use mathlib.Core.List.{List, [], _++_}
 use lib.ListN.{length, take, drop}
 use Rattle.bits.specs.Codec.{got}
-use Rattle.bits.specs.Reads.{total}
+use Rattle.bits.specs.Lists.{total}
 use Rattle.lay.specs.Laid.{Laid}
 use Rattle.format.specs.Record.{Record, read}
 use Rattle.format.specs.SheetSize.{viewSize, sheetSize}
 use Rattle.format.specs.declared.Widths.{Widths}
-use Rattle.to_sheet.specs.Bytes.{start, joined, viewBytes, recordBytes}
+use Rattle.lay.specs.HighFirst.{start, joined}
+use Rattle.to_sheet.specs.Bytes.{viewBytes, recordBytes}
 
 -- the 01 field: "record bytes 12-13, then 15 to 21"
 abbrev pub headerField : List ℕ → List ℕ

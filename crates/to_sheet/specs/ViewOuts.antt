@@ -7,7 +7,8 @@ use lib.ListN.{length, take, drop}
 use Rattle.bits.specs.Bytes.{bitsOf}
 use Rattle.bits.specs.Codec.{got, fieldDec}
 use Rattle.bits.specs.Block.{Block}
-use Rattle.bits.specs.Reads.{found, Reads, total}
+use Rattle.bits.specs.Lists.{total}
+use Rattle.bits.specs.Reads.{found, Reads}
 use Rattle.outcome.specs.Refusals.{past}
 use Rattle.lay.specs.Laid.{Laid}
 use Rattle.format.specs.Line.{skeleton}
@@ -16,7 +17,8 @@ use Rattle.format.specs.Segments.{segments}
 use Rattle.format.specs.View.{View, view}
 use Rattle.format.specs.SheetSize.{lineSize, indexSize, segmentSize, viewSize}
 use Rattle.format.specs.declared.Widths.{Widths}
-use Rattle.to_sheet.specs.Bytes.{joined, lineBytes, indexBytes, segmentBytes, viewBytes}
+use Rattle.lay.specs.HighFirst.{joined}
+use Rattle.to_sheet.specs.Bytes.{lineBytes, indexBytes, segmentBytes, viewBytes}
 use Rattle.to_sheet.specs.LineOuts.{Narrow}
 use Rattle.to_sheet.specs.declared.view.ViewOut.{ViewOut}
 

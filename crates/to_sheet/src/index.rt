@@ -3,10 +3,11 @@
 ghost use Prim.Native.Nat.{ℕ, _*_, _≤_, _<_};
 ghost use lib.ListN.{length};
 ghost use Rattle.bits.specs.Codec.{alongDec};
-ghost use Rattle.bits.specs.Reads.{total};
+ghost use Rattle.bits.specs.Lists.{total};
 ghost use Rattle.format.specs.Index.{neighbours, up};
 ghost use Rattle.format.specs.SheetSize.{listSize};
-ghost use Rattle.to_sheet.specs.Bytes.{two, joined, listBytes};
+ghost use Rattle.lay.specs.HighFirst.{two, joined};
+ghost use Rattle.to_sheet.specs.Bytes.{listBytes};
 ghost use Rattle.to_sheet.specs.BlockOuts.{IndexThere, IndexOut};
 ghost use Rattle.to_sheet.specs.ListOuts.{ValueThere, ValueOut, numbersDec};
 use bits::Cursor;

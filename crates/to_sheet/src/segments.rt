@@ -4,7 +4,7 @@ ghost use mathlib.Core.List.{_++_};
 ghost use Prim.Native.Nat.{_+_, _-_, _≤_};
 ghost use lib.ListN.{length, take, drop};
 ghost use Rattle.lay.specs.Laid.{Laid};
-ghost use Rattle.to_sheet.specs.Bytes.{start};
+ghost use Rattle.lay.specs.HighFirst.{start};
 ghost use Rattle.to_sheet.specs.BlockOuts.{SegmentsThere, SegmentsOut};
 use bits::Cursor;
 use lay::copy;

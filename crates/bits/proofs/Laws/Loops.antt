@@ -13,7 +13,8 @@ use Rattle.bits.specs.Codec.{Read, got, refused, next, Codec, fieldDec, 
 use Rattle.bits.specs.CodecLaws.{pick-got}
 use Rattle.bits.specs.Block.{few, zerosDec, manyDec, fillDec}
 use Rattle.bits.specs.BlockLaws.{few-yes, few-no, many-over, fill-more}
-use Rattle.bits.specs.Reads.{kept, total, summed, tallied}
+use Rattle.bits.specs.Lists.{total}
+use Rattle.bits.specs.Reads.{kept, summed, tallied}
 
 -- ---- what is kept of values, of which the first is read
 

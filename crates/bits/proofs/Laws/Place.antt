@@ -8,7 +8,7 @@ use mathlib.Core.Bool.{Bool, true, false}
 use mathlib.Core.List.{List, [], _∷_, _++_}
 use lib.ListN.{length, getD, take, drop, length-append, length-take, length-drop, List·getD-append}
 use lib.Seq.{take-suc, getD-append-add, getD-drop}
-use lib.Pow.{pow-mono, mod-mod-pow}
+use lib.Pow.{pow-mono}
 use Rattle.bits.specs.ChoiceLaws.{split}
 use Rattle.bits.specs.Lists.{All}
 use Rattle.bits.specs.Bits.{Bits, val, numberOf, bitsOfNumber}
@@ -30,9 +30,6 @@ number-snoc (false ∷ s) b = omega (arith, number-snoc s b)
 -- the loop of a reader: j bits read, one more
 pub number-step : (s : Bits) (j : ℕ) → j < length s → numberOf (take (suc j) s) ≡ 2 * numberOf (take j s) + val (getD s j false)
 number-step s j h = ap numberOf (take-suc s j false h) ∙ number-snoc (take j s) (getD s j false)
-
-low-bit : (y j : ℕ) → y % 2 ^ suc j % 2 ≡ y % 2
-low-bit y j = rw add-one at (mod-mod-pow y j 1)
 
 shift : (x : ℕ) (xs : List ℕ) (q : ℕ) → getD (bitsOfNumber 8 x ++ bitsOf xs) (8 + q) false ≡ getD (bitsOf xs) q false
 shift x xs q = rw (length-bits 8 x) at (getD-append-add (bitsOfNumber 8 x) (bitsOf xs) q false)

@@ -7,15 +7,15 @@ use native.Mathlib.Omega.{arith}
 use lib.ListN.{length, length-take, length-drop}
 use Rattle.bits.proofs.Laws.Reads.{below}
 use Rattle.outcome.specs.Refusals.{badLine}
-use Rattle.lay.proofs.Laws.{laid-next}
-use Rattle.follow.specs.Walk.{highFirst}
-use Rattle.follow.proofs.Laws.{element-small, code-there, laid-same, bytes-length, bytes-append, Drawing, drawing-start, room-left, drawing-next, drawing-end}
+use Rattle.lay.proofs.Laws.{laid-next, laid-same, joined-append, twos-length}
+use Rattle.lay.specs.HighFirst.{two, joined}
+use Rattle.follow.proofs.Laws.{element-small, code-there, Drawing, drawing-start, room-left, drawing-next, drawing-end}
 use borrow.Author.Needs.{needs}
 use Rattle.follow.proofs.trail_bytes.Statement.{statement}
 use Rattle.follow.proofs.trail_bytes.Tie as tie
 
 abbrev Inv-loop : tie.InvT-loop
-Inv-loop out₀ s k n half heading q₀ pen₀ at₀ i₀ out q pen at i = Drawing highFirst half k n heading s (q₀ .at) out₀ i (q .at) pen out at
+Inv-loop out₀ s k n half heading q₀ pen₀ at₀ i₀ out q pen at i = Drawing (joined two) half k n heading s (q₀ .at) out₀ i (q .at) pen out at
 
 abbrev μ-loop : tie.MeasureT-loop
 μ-loop out₀ s k n half heading q₀ pen₀ at₀ i₀ out q pen at i = n - i
@@ -43,7 +43,7 @@ room c =
     let pre = c .before .before .before .before .before .before .before .before .pre in
     let st = rw (c .stepped .given .1) at (c .before .before .step .ensures) in
     let l = room-left o (c .before .before .before .before .loop-test .taken) (c .before .before .before .sure .ensures .0 badLine) st (pre .there) in
-    omega (arith, pre .enough, o .same, o .laid .count, bytes-length (o .new))
+    omega (arith, pre .enough, o .same, o .laid .count, twos-length (o .new))
 
 sub-put-two : tie.Need-sub-put-two Inv-loop μ-loop
 sub-put-two c = omega (arith, room (c .before))
@@ -82,7 +82,7 @@ loop-again c =
     (λ w. let st = rw (w .1 .given .1) at (c .before .before .step .ensures) in
     let m = room (record { before = record { before = c .before .before; match = w .0 }; stepped = w .1 }) in
     let h = laid-next (o .laid) (w .4 .ensures) in
-    rw (w .7, w .8, w .9) (drawing-next o l r st (laid-same h (omega (arith, m, o .same, w .4 .ensures .count))) (rw bytes-append h)))
+    rw (w .7, w .8, w .9) (drawing-next o l r st (laid-same h (omega (arith, m, o .same, w .4 .ensures .count))) (rw (joined-append two) h)))
     (λ w. let st = rw (w .1 .given .1) at (c .before .before .step .ensures) in
     rw (w .3, w .4, w .5) (drawing-next o l r st (o .same) (rw append-nil (o .laid))))
     (c .before .match .came)
@@ -93,7 +93,7 @@ same-length c = search needs
 returns : tie.Need-returns Inv-loop μ-loop
 returns c =
     let o = c .before .loop .inv in
-    let e : 2 * (c .before .loop .at / 2) ≡ c .before .loop .at = omega (arith, o .laid .count, bytes-length (o .new)) in
+    let e : 2 * (c .before .loop .at / 2) ≡ c .before .loop .at = omega (arith, o .laid .count, twos-length (o .new)) in
     record { is = λ codes q r. rw e (drawing-end o (omega arith) .is codes q r) }
 
 pub trail-bytes-spec : {M : Type 1} → statement M

@@ -10,20 +10,12 @@ use Rattle.bits.specs.ChoiceLaws.{pick-yes, pick-split, within-high, within-yes
 use Rattle.bits.specs.Lists.{All}
 use Rattle.bits.specs.Bits.{Bits}
 use Rattle.bits.specs.Bytes.{Byte, bitsOf}
-use Rattle.bits.specs.BytesLaws.{length-bitsOf, length-bytesOf, bits-bytes, bytes-bits, bytes-are}
+use Rattle.bits.specs.BytesLaws.{length-bitsOf, length-bytesOf, bits-bytes, bytes-bits}
 use Rattle.bits.specs.Codec.{got}
 use Rattle.bits.specs.CodecLaws.{not-got, next-got}
 use Rattle.format.specs.Limits.{leastBytes, mostBytes}
 use Rattle.format.specs.Record.{Record, FitsRecord, recordOf, read, allOf, size, write, Allowed}
 use Rattle.format.proofs.Laws.Size.{size-is, views-length}
-
-pub length-write : (r : Record) → length (write r) ≡ size r
-unfolding write
-length-write r = length-bytesOf (size r) (recordOf (size r) .enc r)
-
-pub write-bytes : (r : Record) → All Byte (write r)
-unfolding write
-write-bytes r = bytes-are (size r) (recordOf (size r) .enc r) (size-is (size r) r)
 
 record-there : (n : ℕ) (r : Record) → n < 2 ^ 32 → FitsRecord r → recordOf n .dec (recordOf n .enc r) ≡ got r []
 unfolding recordOf

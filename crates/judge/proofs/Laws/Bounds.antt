@@ -6,12 +6,12 @@ use mathlib.Core.Option.{Option, none, some}
 use mathlib.Core.List.{List, [], _∷_}
 use lib.ListN.{length, drop, length-append, length-drop}
 use lib.Pow.{pow-mono}
-use Rattle.bits.specs.Lists.{Along}
+use Rattle.bits.specs.Lists.{Along, total}
 use Rattle.bits.specs.Bytes.{bitsOf}
 use Rattle.bits.specs.BytesLaws.{length-bitsOf}
 use Rattle.bits.specs.CodecLaws.{encAll}
 use Rattle.bits.specs.SizedLaws.{prefixed}
-use Rattle.bits.specs.Reads.{found, Reads, total}
+use Rattle.bits.specs.Reads.{found, Reads}
 use Rattle.bits.proofs.Laws.Reads.{unkept}
 use Rattle.outcome.specs.Refusals.{past}
 use Rattle.format.specs.Index.{Index, FitsList, up, index, indexBlock}

@@ -11,7 +11,8 @@ use Rattle.bits.specs.Bytes.{bitsOf}
 use Rattle.bits.specs.Codec.{Read, got, refused, next, fieldDec, timesDec}
 use Rattle.bits.specs.CodecLaws.{field, times, times-back, counted}
 use Rattle.bits.specs.Block.{zerosDec, manyDec}
-use Rattle.bits.specs.Reads.{found, fault, Reads, kept, after, total, tallied}
+use Rattle.bits.specs.Lists.{total}
+use Rattle.bits.specs.Reads.{found, fault, Reads, kept, after, tallied}
 use Rattle.bits.proofs.Laws.Reads.{length-rest, gives, refuses, go-on, stop, made, all-of, none-of, kept-got, kept-refused}
 use Rattle.bits.proofs.Laws.Loops.{kept-same, tally-more, times-stop, times-done, many-turn, many-stop, many-full, many-last}
 use Rattle.outcome.specs.Refusals.{badLine, tooManyLines}

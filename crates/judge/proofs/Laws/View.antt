@@ -12,7 +12,8 @@ use Rattle.bits.specs.Bytes.{bitsOf}
 use Rattle.bits.specs.Codec.{Codec, got, refused, alongDec}
 use Rattle.bits.specs.CodecLaws.{then}
 use Rattle.bits.specs.SizedLaws.{sized, headed, prefixed}
-use Rattle.bits.specs.Reads.{Found, found, fault, Reads, kept, total, summed}
+use Rattle.bits.specs.Lists.{total}
+use Rattle.bits.specs.Reads.{Found, found, fault, Reads, kept, summed}
 use Rattle.bits.proofs.Laws.Reads.{go-on, stop, made, unkept, unkept-bad, up-to}
 use Rattle.bits.proofs.Laws.Loops.{sum-more, sum-start, along-turn, along-stop, along-done}
 use Rattle.bits.proofs.Laws.Parts.{part, sized-good, sized-bad, sized-past}

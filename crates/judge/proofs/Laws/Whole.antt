@@ -12,7 +12,8 @@ use Rattle.bits.specs.ChoiceLaws.{pick-yes, pick-no, within-high, within-yes, w
 use Rattle.bits.specs.Bits.{Bits}
 use Rattle.bits.specs.Bytes.{bitsOf}
 use Rattle.bits.specs.Codec.{Codec, got, refused, next}
-use Rattle.bits.specs.Reads.{found, fault, Reads, kept, total}
+use Rattle.bits.specs.Lists.{total}
+use Rattle.bits.specs.Reads.{found, fault, Reads, kept}
 use Rattle.bits.proofs.Laws.Reads.{length-rest, go-on, stop, made, unkept, unkept-bad}
 use Rattle.bits.proofs.Laws.Parts.{drop-end}
 use Rattle.outcome.specs.Refusals.{badSize, bytesOver}

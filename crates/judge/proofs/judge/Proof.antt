@@ -1,15 +1,14 @@
 -- The header, then the views, and what may be left behind them.
 use native.Mathlib.Omega.{arith}
 use Prim.Native.Nat.{_≤_}
-use mathlib.Core.Path.{ap}
+use mathlib.Core.Path.{ap, subst}
 use lib.ListN.{length}
 use lib.Dec.{T}
 use Rattle.bits.specs.Reads.{Reads, found}
 use Rattle.bits.proofs.Laws.Reads.{known}
 use Rattle.parts.specs.Answers.{reached, headerAt, headerDec}
-use mathlib.Core.Path.{subst}
 use Rattle.parts.specs.declared.Reached.{Reached}
-use Rattle.judge.specs.Judge.{shown}
+use Rattle.judge.specs.Judge.{sheetBytes}
 use Rattle.judge.proofs.Laws.Whole.{sizeOk, too-short, too-long, size-ok, header-bad, views-bad, left-over, all-read, header-fits}
 use borrow.Author.Needs.{needs}
 use Rattle.judge.proofs.judge.Statement.{statement}
@@ -54,7 +53,7 @@ mul-t21 c = search needs
 
 add-t22 : tie.Need-add-t22
 add-t22 c =
-    let y = subst (λ (r : Reached). shown r ≤ 137438953472) (c .before .before .a .given .1) (c .before .before .before .before .judge-views .ensures .1) in
+    let y = subst (λ (r : Reached). sheetBytes r ≤ 137438953472) (c .before .before .a .given .1) (c .before .before .before .before .judge-views .ensures .1) in
     omega (arith, y)
 
 returns-3 : tie.Need-returns-3

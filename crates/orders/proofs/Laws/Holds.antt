@@ -38,9 +38,6 @@ outcome-told : (c : Call) (bytes : List ℕ) → Told (outcome c bytes)
 unfolding outcome order onRecord
 outcome-told c bytes = room-told (c .lent) (order (c .order) bytes) (read-told (c .order) _ (read bytes) (λ e left p. within-low 1 12 e (read-refuses bytes e left p .0)))
 
-pub refused-number : (c : Call) (bytes : List ℕ) (e p : ℕ) → outcome c bytes ≡ refused e p → e ≢ 0
-refused-number c bytes e p h = rw h at (outcome-told c bytes)
-
 -- ---- the record that now holds
 
 -- second: what the second buffer held before the call

@@ -18,7 +18,8 @@ use Rattle.bits.specs.Codec.{Read, got, refused, next, fieldDec, alongDec}
 use Rattle.bits.specs.CodecLaws.{along, along-back, ranged}
 use Rattle.bits.specs.Block.{few, zerosDec, endedDec}
 use Rattle.bits.specs.BlockLaws.{few-yes, few-no, ended}
-use Rattle.bits.specs.Reads.{found, fault, Reads, kept, after, total, summed}
+use Rattle.bits.specs.Lists.{total}
+use Rattle.bits.specs.Reads.{found, fault, Reads, kept, after, summed}
 use Rattle.bits.proofs.Laws.Reads.{length-rest, gives, refuses, go-on, stop, made, kept-got, kept-refused, below}
 use Rattle.bits.proofs.Laws.Loops.{sum-more, along-turn, along-stop, along-done}
 use Rattle.bits.proofs.Laws.Parts.{drop-end, maybe-more}

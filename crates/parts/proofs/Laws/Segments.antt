@@ -15,7 +15,8 @@ use Rattle.bits.specs.BytesLaws.{length-bitsOf}
 use Rattle.bits.specs.Codec.{got, Codec, fieldDec, thenDec}
 use Rattle.bits.specs.CodecLaws.{field, then, only, times, times-back}
 use Rattle.bits.specs.Block.{fillDec}
-use Rattle.bits.specs.Reads.{found, fault, Reads, kept, total, summed}
+use Rattle.bits.specs.Lists.{total}
+use Rattle.bits.specs.Reads.{found, fault, Reads, kept, summed}
 use Rattle.bits.proofs.Laws.Reads.{length-rest, gives, refuses, go-on, stop, made, pass, fail, room-there, room-past, all-of, none-of, none-of-it}
 use Rattle.bits.proofs.Laws.Loops.{sum-more, sum-start, fill-turn, fill-stop, fill-done}
 use Rattle.bits.proofs.Laws.Parts.{bytes-there, bytes-cut, drop-end}

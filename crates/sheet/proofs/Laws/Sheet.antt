@@ -19,14 +19,9 @@ use Rattle.sheet.specs.Fields.{Field, FitsField, tagged, fields}
 use Rattle.sheet.specs.Grammar.{sheetFields, sheetIn, grammar}
 use Rattle.sheet.specs.Sheet.{rawOf, sheetOf, recordFrom, readSheet}
 use Rattle.sheet.proofs.Laws.Each.{value-there, value-back}
-use Rattle.sheet.proofs.Laws.Lengths.{value-bytes}
 use Rattle.sheet.proofs.Laws.Grammar.{sheet-there, grammar-there, grammar-back}
 use Rattle.sheet.proofs.Laws.Values.{values-there, values-back}
 use Rattle.sheet.proofs.Laws.Allowed.{record-right, record-shape, record-fields, record-allowed}
-
-pub sheet-bytes : (r : Record) → All Byte (sheetOf r)
-unfolding sheetOf
-sheet-bytes r = value-bytes fields (sheetFields (rawOf r))
 
 fields-fit : (fs : List Field) → All FitsField fs → fields .Fits fs
 unfolding fields tagged

@@ -8,7 +8,7 @@ use lib.ListN.{length, take, drop}
 use Rattle.bits.specs.Bytes.{bitsOf}
 use Rattle.bits.specs.BytesLaws.{length-bitsOf}
 use Rattle.bits.specs.Codec.{got}
-use Rattle.bits.specs.Reads.{total}
+use Rattle.bits.specs.Lists.{total}
 use Rattle.bits.proofs.Laws.Parts.{part}
 use Rattle.lay.specs.Laid.{Laid}
 use Rattle.lay.proofs.Laws.{laid-next}
@@ -19,7 +19,8 @@ use Rattle.format.specs.Segments.{segments}
 use Rattle.format.specs.View.{View}
 use Rattle.format.specs.SheetSize.{lineSize, indexSize, segmentSize}
 use Rattle.format.specs.declared.Widths.{Widths}
-use Rattle.to_sheet.specs.Bytes.{joined, lineBytes, indexBytes, segmentBytes}
+use Rattle.lay.specs.HighFirst.{joined}
+use Rattle.to_sheet.specs.Bytes.{lineBytes, indexBytes, segmentBytes}
 use Rattle.to_sheet.specs.LineOuts.{LinesOut}
 use Rattle.to_sheet.specs.BlockOuts.{IndexOut, SegmentsOut}
 use Rattle.to_sheet.specs.ViewOuts.{BlockAt, BlockEnd, BlocksAt}

@@ -1,21 +1,20 @@
 -- Bytes that bits spell: `Spells xs s` says that the bits s are the bytes xs. It goes along with the ways in which the formats
 -- write, so that what a format writes is read off byte by byte.
-use mathlib.Core.Path.{_≡_, refl, sym, ap, ap₂, _∙_}
-use Prim.Native.Nat.{ℕ, zero, suc, _+_, _*_, _/_, _%_, _^_, _<_}
+use mathlib.Core.Path.{_≡_, refl, sym, ap, _∙_}
+use Prim.Native.Nat.{ℕ, _*_, _/_, _%_, _^_, _<_}
 use native.Mathlib.Omega.{arith}
 use mathlib.Core.Bool.{Bool}
-use mathlib.Core.List.{List, [], _∷_, _++_, append-assoc, append-nil, map}
+use mathlib.Core.List.{List, [], _∷_, _++_, append-nil, map}
 use lib.ListN.{length}
-use lib.Pow.{shr-shr}
 use Rattle.bits.specs.Lists.{All}
 use Rattle.bits.specs.ListsLaws.{all-append}
-use Rattle.bits.specs.Bits.{Bits, bit, bitsOfNumber, zeros, pad, filled}
-use Rattle.bits.specs.BitsLaws.{bits-mod}
+use Rattle.bits.specs.Bits.{Bits, bitsOfNumber, zeros, pad, filled}
+use Rattle.bits.specs.BitsLaws.{bits-mod, bits-split}
 use Rattle.bits.specs.Bytes.{Byte, bitsOf, inBytes}
-use Rattle.bits.specs.BytesLaws.{length-bitsOf, in-bits}
+use Rattle.bits.specs.BytesLaws.{bits-append, length-bitsOf, in-bits}
 use Rattle.bits.specs.Codec.{Codec}
 use Rattle.bits.specs.CodecLaws.{encAll, field}
-use Rattle.to_sheet.specs.Bytes.{two, joined}
+use Rattle.lay.specs.HighFirst.{two, joined}
 
 pub record Spells (xs : List ℕ) (s : Bits) : Type 0 where
   pub bytes : All Byte xs
@@ -25,11 +24,6 @@ pub in-spelled : {xs : List ℕ} {s : Bits} → Spells xs s → inBytes s ≡ xs
 in-spelled {xs} h = ap inBytes (h .bits) ∙ in-bits xs (h .bytes)
 
 -- ---- one after the other
-
-bits-append : (xs ys : List ℕ) → bitsOf (xs ++ ys) ≡ bitsOf xs ++ bitsOf ys
-unfolding bitsOf
-bits-append [] ys = refl
-bits-append (x ∷ xs) ys = rw (append-assoc, bits-append xs ys)
 
 infixr 60 _⊕_
 pub _⊕_ : {xs ys : List ℕ} {s t : Bits} → Spells xs s → Spells ys t → Spells (xs ++ ys) (s ++ t)
@@ -44,25 +38,18 @@ spells-filled {xs} {s} h =
 
 -- ---- numbers
 
--- a number's lowest a + b bits: a of them, then the lowest b
-bits-split : (a b n : ℕ) → bitsOfNumber (a + b) n ≡ bitsOfNumber a (n / 2 ^ b) ++ bitsOfNumber b n
-unfolding bitsOfNumber
-bits-split zero b n = let e : 0 + b ≡ b = omega arith in rw e
-bits-split (suc a) b n =
-    let e : suc a + b ≡ suc (a + b) = omega arith in
-    let z : a + b ≡ b + a = omega arith in
-    ap (λ (w : ℕ). bitsOfNumber w n) e
-    ∙ ap₂ (λ (x : ℕ) (y : Bits). bit (x % 2) ∷ y) (ap (λ (w : ℕ). n / 2 ^ w) z ∙ sym (shr-shr n b a)) (bits-split a b n)
-
 pub spells-byte : {n : ℕ} → n < 2 ^ 8 → Spells (n ∷ []) (bitsOfNumber 8 n)
 unfolding bitsOf
 spells-byte {n} h = record { bytes = (h, tt); bits = sym (append-nil (bitsOfNumber 8 n)) }
 
+pub bits-two : (n : ℕ) → bitsOf (two n) ≡ bitsOfNumber 16 n
+unfolding bitsOf
+bits-two n =
+    ap (λ (s : Bits). bitsOfNumber 8 (n / 256) ++ s) (append-nil (bitsOfNumber 8 (n % 256)) ∙ bits-mod 8 (n % 256) n (omega arith))
+    ∙ sym (bits-split 8 8 n)
+
 pub spells-two : {n : ℕ} → n < 2 ^ 16 → Spells (two n) (bitsOfNumber 16 n)
-spells-two {n} h =
-    let low : bitsOfNumber 8 n ≡ bitsOfNumber 8 (n % 256) = bits-mod 8 n (n % 256) (omega arith) in
-    let e : bitsOfNumber 16 n ≡ bitsOfNumber 8 (n / 256) ++ bitsOfNumber 8 (n % 256) = bits-split 8 8 n ∙ rw low in
-    rw e (spells-byte (omega arith) ⊕ spells-byte (omega arith))
+spells-two {n} h = record { bytes = (omega arith, (omega arith, tt)); bits = sym (bits-two n) }
 
 -- ---- many
 

@@ -7,12 +7,12 @@ use native.Mathlib.Numerals.{add-one}
 use mathlib.Core.Bool.{Bool}
 use mathlib.Core.Option.{Option, none, some}
 use mathlib.Core.List.{List, [], _∷_, _++_, append-nil}
-use lib.ListN.{length, take, drop, length-append}
+use lib.ListN.{length, take, drop}
 use lib.Dec.{leb, leb→le}
 use lib.Seq.{drop-drop}
 use Rattle.bits.specs.Choice.{within}
 use Rattle.bits.specs.ChoiceLaws.{within-high}
-use Rattle.bits.specs.Lists.{All}
+use Rattle.bits.specs.Lists.{All, total}
 use Rattle.bits.specs.Bits.{Bits, bitsOfNumber}
 use Rattle.bits.specs.Bytes.{Byte, bitsOf}
 use Rattle.bits.specs.BytesLaws.{length-bitsOf}
@@ -20,15 +20,13 @@ use Rattle.bits.specs.Codec.{Read, got, Codec, fieldDec, thenDec, alongDec, via
 use Rattle.bits.specs.CodecLaws.{pick-got, next-got, field, field-there, along, along-back, ranged}
 use Rattle.bits.specs.Block.{few, endedDec, zerosDec}
 use Rattle.bits.specs.BlockLaws.{ended}
-use Rattle.bits.specs.Reads.{Reads, found, total, kept}
+use Rattle.bits.specs.Reads.{Reads, found, kept}
 use Rattle.bits.proofs.Laws.Reads.{length-rest, known, go-on, made, kept-got, unkept}
 use Rattle.bits.proofs.Laws.Parts.{maybe-more}
 use Rattle.outcome.specs.Refusals.{badIndex}
 use Rattle.format.specs.Differences.{undiffs, diff, tell}
 use Rattle.format.specs.DifferencesLaws.{length-undiffs, falls-count}
 use Rattle.format.specs.Index.{Index, neighbours, up, index, indexBlock}
-use Rattle.format.specs.SheetSize.{listSize}
-use Rattle.to_sheet.specs.Bytes.{two, joined, listBytes}
 use Rattle.to_sheet.specs.ListOuts.{numbersDec}
 use Rattle.to_sheet.proofs.Laws.Front.{front}
 
@@ -97,17 +95,6 @@ numbers-length w n m l s e =
 pub twos : (ns : List ℕ) → total (λ n. 2) ns ≡ 2 * length ns
 twos [] = refl
 twos (n ∷ ns) = omega (arith, twos ns)
-
-pub two-each : (ns : List ℕ) → length (joined two ns) ≡ 2 * length ns
-two-each [] = refl
-two-each (n ∷ ns) = omega (arith, two-each ns)
-
-pub list-length : (ns : List ℕ) → length (listBytes ns) ≡ listSize ns
-list-length ns = omega (arith, two-each ns)
-
-pub lists-length : (nss : List (List ℕ)) → length (joined listBytes nss) ≡ total listSize nss
-lists-length [] = refl
-lists-length (ns ∷ nss) = length-append (listBytes ns) (joined listBytes nss) ∙ omega (arith, list-length ns, lists-length nss)
 
 -- ---- a list
 

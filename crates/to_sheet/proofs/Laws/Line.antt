@@ -27,7 +27,8 @@ use Rattle.format.specs.SheetSize.{lineSize}
 use Rattle.format.specs.declared.End.{End}
 use Rattle.format.specs.declared.Widths.{Widths}
 use Rattle.sheet.specs.Code.{extended}
-use Rattle.to_sheet.specs.Bytes.{start, endBytes, lineBytes}
+use Rattle.lay.specs.HighFirst.{start}
+use Rattle.to_sheet.specs.Bytes.{endBytes, lineBytes}
 use Rattle.to_sheet.specs.LineParts.{endBits, SmallEnd, PartsThere, PartsOut}
 use Rattle.to_sheet.specs.LineOuts.{Narrow, LineOut}
 use Rattle.to_sheet.specs.declared.line.Parts.{Parts}

@@ -2,7 +2,7 @@
 use mathlib.Core.Path.{_≡_, refl, sym, ap, _∙_}
 use Prim.Native.Nat.{ℕ, suc, _+_, _-_, _*_, _≤_, _<_}
 use native.Mathlib.Omega.{arith}
-use mathlib.Core.List.{List, [], _∷_, _++_, append-assoc, append-nil}
+use mathlib.Core.List.{List, [], _∷_, _++_, append-nil}
 use lib.ListN.{length, take, drop, length-append}
 use lib.Seq.{append-snoc}
 use Rattle.bits.specs.ChoiceLaws.{pick-no, split}
@@ -12,32 +12,28 @@ use Rattle.bits.specs.Codec.{got}
 use Rattle.bits.specs.CodecLaws.{not-got, next-got}
 use Rattle.bits.specs.Block.{few, zerosDec, manyDec}
 use Rattle.bits.specs.BlockLaws.{few-no}
-use Rattle.bits.specs.Reads.{found, Reads, total}
+use Rattle.bits.specs.Lists.{total}
+use Rattle.bits.specs.Reads.{found, Reads}
 use Rattle.bits.proofs.Laws.Reads.{length-rest}
 use Rattle.bits.proofs.Laws.Loops.{many-full, many-last}
 use Rattle.outcome.specs.Refusals.{badLine, tooManyLines}
 use Rattle.lay.specs.Laid.{Laid}
-use Rattle.lay.proofs.Laws.{laid-none, laid-next}
+use Rattle.lay.proofs.Laws.{joined-snoc, laid-none, laid-next}
 use Rattle.format.specs.Limits.{mostLines}
 use Rattle.format.specs.Line.{Line, line, line-long, skeleton}
 use Rattle.format.specs.SheetSize.{lineSize}
 use Rattle.format.specs.declared.Widths.{Widths}
-use Rattle.to_sheet.specs.Bytes.{joined, lineBytes}
+use Rattle.lay.specs.HighFirst.{joined}
+use Rattle.to_sheet.specs.Bytes.{lineBytes}
 use Rattle.to_sheet.specs.LineOuts.{LineOut, LinesOut}
 use Rattle.to_sheet.specs.declared.line.Lined.{Lined}
 use Rattle.to_sheet.specs.declared.line.Lines.{Lines}
 use Rattle.to_sheet.proofs.Laws.Apart.{moved}
 use Rattle.to_sheet.proofs.Laws.Sizes.{line-size, joined-size}
 
--- ---- lists, and their bytes
-
 pub total-append : {A : Type 0} (f : A → ℕ) (xs ys : List A) → total f (xs ++ ys) ≡ total f xs + total f ys
 total-append f [] ys = omega arith
 total-append f (x ∷ xs) ys = omega (arith, total-append f xs ys)
-
-pub joined-snoc : {A : Type 0} (f : A → List ℕ) (xs : List A) (x : A) → joined f (xs ++ x ∷ []) ≡ joined f xs ++ f x
-joined-snoc f [] x = append-nil (f x)
-joined-snoc f (y ∷ xs) x = ap (λ (r : List ℕ). f y ++ r) (joined-snoc f xs x) ∙ sym (append-assoc (f y) (joined f xs) (f x))
 
 -- ---- the lines of the skeleton block s, of which n are laid; the next starts at place p
 

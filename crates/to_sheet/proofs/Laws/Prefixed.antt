@@ -1,43 +1,25 @@
--- A block behind its length, taken apart: what was read of it is the block at its place, and what follows starts behind it. And
--- bytes of the record that bits spell are those bytes.
+-- A block behind its length, taken apart: what was read of it is the block at its place, and what follows starts behind it.
 use mathlib.Core.Path.{_≡_, sym, ap, _∙_, subst}
 use Prim.Native.Nat.{ℕ, _+_, _-_, _*_, _≤_}
 use native.Mathlib.Omega.{arith}
 use mathlib.Core.Bool.{Bool}
-use mathlib.Core.List.{List, _++_}
-use lib.ListN.{length, take, drop, take-append-drop}
-use lib.Seq.{take-at, drop-drop}
+use mathlib.Core.List.{List}
+use lib.ListN.{length, take, drop}
+use lib.Seq.{drop-drop}
 use lib.Dec.{leb, leb→le}
 use Rattle.bits.specs.ChoiceLaws.{pick-split}
-use Rattle.bits.specs.Lists.{All}
-use Rattle.bits.specs.ListsLaws.{all-front, all-rest}
 use Rattle.bits.specs.Bits.{Bits}
 use Rattle.bits.specs.BitsLaws.{length-bits}
-use Rattle.bits.specs.Bytes.{Byte, bitsOf, inBytes}
-use Rattle.bits.specs.BytesLaws.{length-bitsOf, in-bits}
+use Rattle.bits.specs.Bytes.{bitsOf}
 use Rattle.bits.specs.Codec.{got, Codec, fieldDec}
 use Rattle.bits.specs.CodecLaws.{not-got, field}
 use Rattle.bits.specs.Block.{Block, sizedDec}
 use Rattle.bits.specs.SizedLaws.{inside-got, headed, prefixed}
 use Rattle.bits.proofs.Laws.Reads.{length-rest, up-to}
-use Rattle.bits.proofs.Laws.Parts.{part, part-bits}
+use Rattle.bits.proofs.Laws.Parts.{part-bits}
 use Rattle.outcome.specs.Refusals.{past}
 use Rattle.to_sheet.specs.ViewOuts.{BlockAt, BlockEnd}
 use Rattle.to_sheet.proofs.Laws.Apart.{then-got, via-got, moved}
-use Rattle.to_sheet.proofs.Laws.InBytes.{Spells}
-
--- ---- bytes that are spelled
-
-part-all : (s : List ℕ) (a n : ℕ) → All Byte s → All Byte (part s a n)
-part-all s a n h =
-    all-front Byte (part s a n) (drop n (drop a s)) (rw (take-append-drop n (drop a s)) (all-rest Byte (take a s) (drop a s) (rw (take-append-drop a s) h)))
-
-pub spelled-part : (s : List ℕ) (a : ℕ) {xs : List ℕ} {t : Bits} (r : Bits) → All Byte s → Spells xs t → drop (8 * a) (bitsOf s) ≡ t ++ r → part s a (length xs) ≡ xs
-spelled-part s a {xs} {t} r h p e =
-    let n : ℕ = length xs in
-    let l : length t ≡ 8 * n = ap length (p .bits) ∙ length-bitsOf xs in
-    let z : bitsOf (part s a n) ≡ bitsOf xs = part-bits s a n ∙ ap (take (8 * n)) e ∙ take-at t r (8 * n) l ∙ p .bits in
-    sym (in-bits (part s a n) (part-all s a n h)) ∙ ap inBytes z ∙ in-bits xs (p .bytes)
 
 -- ---- a block behind its length, at byte b of s; rest is what follows
 

@@ -8,13 +8,12 @@ use lib.ListN.{length, take, drop, length-append, length-take, length-drop}
 use lib.Seq.{drop-at}
 use Rattle.bits.specs.Choice.{within}
 use Rattle.bits.specs.ChoiceLaws.{pick-split, within-low, within-high}
-use Rattle.bits.specs.Lists.{All}
+use Rattle.bits.specs.Lists.{All, total}
 use Rattle.bits.specs.Bits.{Bits, bitsOfNumber}
 use Rattle.bits.specs.BitsLaws.{length-bits}
 use Rattle.bits.specs.Bytes.{Byte, bitsOf}
 use Rattle.bits.specs.Codec.{got, alongDec}
 use Rattle.bits.specs.CodecLaws.{not-got, next-got, along-back}
-use Rattle.bits.specs.Reads.{total}
 use Rattle.outcome.specs.Refusals.{badHeader}
 use Rattle.lay.specs.Laid.{Laid}
 use Rattle.lay.proofs.Laws.{laid-next}
@@ -24,14 +23,15 @@ use Rattle.format.specs.Record.{Record, FitsHeader, scale, header, tellSeen, vi
 use Rattle.format.specs.SheetSize.{viewSize, sheetSize}
 use Rattle.format.specs.declared.Widths.{Widths}
 use Rattle.format.specs.declared.Header.{Header}
-use Rattle.to_sheet.specs.Bytes.{start, two, scaleBytes, headerBytes, viewBytes, recordBytes}
+use Rattle.lay.specs.HighFirst.{start, two}
+use Rattle.to_sheet.specs.Bytes.{scaleBytes, headerBytes, viewBytes, recordBytes}
 use Rattle.to_sheet.specs.LineOuts.{Narrow}
 use Rattle.to_sheet.specs.SheetOuts.{headerField, ViewsOut, SheetThere, SheetOut}
 use Rattle.to_sheet.proofs.Laws.Apart.{then-got, via-got}
 use Rattle.to_sheet.proofs.Laws.InBytes.{spells-two}
 use Rattle.to_sheet.proofs.Laws.Values.{scale-spells}
 use Rattle.to_sheet.proofs.Laws.Sizes.{joined-size, view-size}
-use Rattle.to_sheet.proofs.Laws.Prefixed.{spelled-part}
+use Rattle.to_sheet.proofs.Laws.Front.{spelled-part}
 use Rattle.to_sheet.proofs.Laws.Blocks.{lent, back}
 
 -- ---- the header

@@ -3,7 +3,7 @@
 use mathlib.Core.Path.{_≡_, refl, ap₂, _∙_}
 use Prim.Native.Nat.{ℕ}
 use mathlib.Core.Option.{Option, none, some, Option·map}
-use mathlib.Core.List.{List, [], _∷_, _++_, append-assoc, map}
+use mathlib.Core.List.{List, [], _∷_, _++_, map}
 use lib.ListN.{length}
 use Rattle.bits.specs.Lists.{All, Along}
 use Rattle.bits.specs.Bytes.{inBytes}
@@ -20,13 +20,11 @@ use Rattle.sheet.specs.Sheet.{alike, eachEnc, rawIndex, rawView, rawViews, rawO
 use Rattle.sheet.proofs.Laws.Lengths.{length-header, length-viewHead, length-line, length-width, length-list, length-segment}
 use Rattle.sheet.proofs.Laws.Values.{RightIndex, RightView, RightValues}
 use Rattle.sheet.proofs.Laws.Allowed.{record-right, record-fields}
-use Rattle.to_sheet.specs.Bytes.{start, joined, lineBytes, listBytes, indexBytes, segmentBytes, viewBytes, recordBytes}
+use Rattle.lay.specs.HighFirst.{start, joined}
+use Rattle.lay.proofs.Laws.{joined-append}
+use Rattle.to_sheet.specs.Bytes.{lineBytes, listBytes, indexBytes, segmentBytes, viewBytes, recordBytes}
 use Rattle.to_sheet.proofs.Laws.InBytes.{Spells, in-spelled, _⊕_, spells-byte, spells-two, spells-all, spells-bytes}
 use Rattle.to_sheet.proofs.Laws.Values.{header-bytes, head-bytes, line-bytes, width-bytes, list-bytes, segment-bytes}
-
-pub joined-append : {A : Type 0} (f : A → List ℕ) (xs ys : List A) → joined f (xs ++ ys) ≡ joined f xs ++ joined f ys
-joined-append f [] ys = refl
-joined-append f (x ∷ xs) ys = rw (append-assoc, joined-append f xs ys)
 
 both : {a b c d : List ℕ} → a ≡ b → c ≡ d → a ++ c ≡ b ++ d
 both p q = ap₂ (λ (x y : List ℕ). x ++ y) p q

@@ -17,10 +17,13 @@ use Rattle.bits.specs.BlockLaws.{fill-more}
 use Rattle.bits.specs.Reads.{Reads, found}
 use Rattle.bits.proofs.Laws.Reads.{length-rest}
 use Rattle.bits.proofs.Laws.Parts.{bits-drop}
+use Rattle.bits.specs.BytesLaws.{bits-append}
 use Rattle.outcome.specs.Refusals.{badSegment}
 use Rattle.format.specs.Segments.{Segment, FitsSegment, segment}
-use Rattle.to_sheet.specs.Bytes.{two, start, segmentBytes}
-use Rattle.to_sheet.proofs.Laws.Front.{bits-append, bits-two, Front, front}
+use Rattle.lay.specs.HighFirst.{two, start}
+use Rattle.to_sheet.specs.Bytes.{segmentBytes}
+use Rattle.to_sheet.proofs.Laws.Front.{Front, front}
+use Rattle.to_sheet.proofs.Laws.InBytes.{bits-two}
 
 -- a segment's bytes in the record
 abbrev pub stored : Segment → List ℕ

@@ -1,12 +1,12 @@
 -- How long the parts of a record's sheet are, byte by byte. Each is as long as SheetSize says, so that a judge's count is the
 -- room that the sheet takes.
 use mathlib.Core.Path.{_≡_, refl, ap₂, _∙_}
-use Prim.Native.Nat.{ℕ, _+_, _*_}
+use Prim.Native.Nat.{ℕ, _+_}
 use native.Mathlib.Omega.{arith}
 use mathlib.Core.Option.{Option, none, some}
 use mathlib.Core.List.{List, [], _∷_}
 use lib.ListN.{length, length-append, length-map}
-use Rattle.bits.specs.Reads.{total}
+use Rattle.bits.specs.Lists.{total}
 use Rattle.format.specs.Line.{Line}
 use Rattle.format.specs.Index.{Index}
 use Rattle.format.specs.Segments.{Segment}
@@ -14,21 +14,19 @@ use Rattle.format.specs.View.{View}
 use Rattle.format.specs.Record.{Record}
 use Rattle.format.specs.SheetSize.{lineSize, listSize, indexSize, segmentSize, viewSize, sheetSize}
 use Rattle.sheet.specs.Code.{extended}
-use Rattle.to_sheet.specs.Bytes.{two, joined, lineBytes, listBytes, indexBytes, segmentBytes, viewBytes, recordBytes}
+use Rattle.lay.proofs.Laws.{twos-length}
+use Rattle.lay.specs.HighFirst.{joined}
+use Rattle.to_sheet.specs.Bytes.{lineBytes, listBytes, indexBytes, segmentBytes, viewBytes, recordBytes}
 
 pub joined-size : {A : Type 0} (f : A → List ℕ) (g : A → ℕ) → ((x : A) → length (f x) ≡ g x) → (xs : List A) → length (joined f xs) ≡ total g xs
 joined-size f g h [] = refl
 joined-size f g h (x ∷ xs) = length-append (f x) (joined f xs) ∙ ap₂ (λ (m n : ℕ). m + n) (h x) (joined-size f g h xs)
 
-pub twos-size : (ns : List ℕ) → length (joined two ns) ≡ 2 * length ns
-twos-size [] = refl
-twos-size (n ∷ ns) = omega (arith, twos-size ns)
-
 pub line-size : (k : ℕ) (l : Line) → length (lineBytes k l) ≡ lineSize l
 line-size k l = omega (arith, length-map (l .codes) (extended k))
 
 pub list-size : (ns : List ℕ) → length (listBytes ns) ≡ listSize ns
-list-size ns = omega (arith, twos-size ns)
+list-size ns = omega (arith, twos-length ns)
 
 pub index-size : (o : Option Index) → length (indexBytes o) ≡ indexSize o
 index-size none = refl

@@ -5,17 +5,13 @@ use Prim.Native.Nat.{ℕ, _+_, _-_, _≤_}
 use native.Mathlib.Omega.{arith}
 use mathlib.Core.Bool.{Bool}
 use mathlib.Core.List.{List, [], _∷_, _++_, append-assoc, append-nil}
-use lib.ListN.{length, take, drop, length-append, length-drop}
+use lib.ListN.{length, take, drop}
 use Rattle.bits.specs.Bits.{Bits}
 use Rattle.bits.specs.Codec.{Read, got}
-use Rattle.bits.specs.Reads.{total}
+use Rattle.bits.specs.Lists.{total}
 use Rattle.lay.specs.Laid.{Laid}
-use Rattle.lay.proofs.Laws.{laid-none, laid-next}
-use Rattle.to_sheet.specs.Bytes.{joined}
-
-joined-more : {A : Type 0} (f : A → List ℕ) (xs : List A) (x : A) → joined f (xs ++ x ∷ []) ≡ joined f xs ++ f x
-joined-more f [] x = append-nil (f x)
-joined-more f (y ∷ ys) x = rw (joined-more f ys x) (sym (append-assoc (f y) (joined f ys) (f x)))
+use Rattle.lay.proofs.Laws.{laid-none, laid-next, laid-same, joined-snoc}
+use Rattle.lay.specs.HighFirst.{joined}
 
 module _ {A : Type 0} (f : A → List ℕ) (size : A → ℕ) where
   -- the values laid, those still to be read, and room for them
@@ -34,9 +30,7 @@ module _ {A : Type 0} (f : A → List ℕ) (size : A → ℕ) where
 
     module _ {still : Read Bool (List A)} {now : List ℕ} {at : ℕ} (U : Underway whole still before now at) where
       pub same-room : length now ≡ length before
-      same-room =
-          let l = U .laid .count in
-          ap length (U .laid .is) ∙ simp (length-append, length-drop) (omega (arith, l, U .room))
+      same-room = laid-same (U .laid) (omega (arith, U .room))
 
       -- one value more: x is read, and its bytes are laid in the rest of the buffer
       pub one-more : {still′ : Read Bool (List A)} {x : A} {xs : List A} {ys : List ℕ} {n : ℕ}
@@ -49,7 +43,7 @@ module _ {A : Type 0} (f : A → List ℕ) (size : A → ℕ) where
             left = U .left;
             all = U .all ∙ ap (λ (vs : List A). got vs (U .left)) (rw e (sym (append-assoc (U .done) (x ∷ []) xs)));
             next = k;
-            laid = rw (joined-more f (U .done) x) (laid-next (U .laid) h);
+            laid = rw (joined-snoc f (U .done) x) (laid-next (U .laid) h);
             room = omega (arith, U .room, h .count, z, ap (total size) e);
           }
 

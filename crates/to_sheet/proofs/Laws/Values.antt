@@ -17,7 +17,8 @@ use Rattle.format.specs.declared.Header.{Header}
 use Rattle.format.specs.declared.ViewHeader.{ViewHeader}
 use Rattle.sheet.specs.Code.{extended}
 use Rattle.sheet.specs.Values.{headerValue, viewHeadValue, endValue, EndValue, codeValue, lineValue, widthValue, listValue, segmentValue}
-use Rattle.to_sheet.specs.Bytes.{two, joined, endBytes, headBytes, scaleBytes, headerBytes}
+use Rattle.lay.specs.HighFirst.{two, joined}
+use Rattle.to_sheet.specs.Bytes.{endBytes, headBytes, scaleBytes, headerBytes}
 use Rattle.to_sheet.proofs.Laws.InBytes.{Spells, in-spelled, _⊕_, spells-filled, spells-byte, spells-two, spells-all, spells-map, spells-bytes}
 
 -- the same seven bytes in a record, where the refusal e is another

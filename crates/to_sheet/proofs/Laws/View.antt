@@ -25,13 +25,15 @@ use Rattle.format.specs.View.{View, occurs, headFields, viewHeader, view}
 use Rattle.format.specs.SheetSize.{viewSize}
 use Rattle.format.specs.declared.Widths.{Widths}
 use Rattle.format.specs.declared.ViewHeader.{ViewHeader}
-use Rattle.to_sheet.specs.Bytes.{start, headBytes, viewBytes}
+use Rattle.lay.specs.HighFirst.{start}
+use Rattle.to_sheet.specs.Bytes.{headBytes, viewBytes}
 use Rattle.to_sheet.specs.ViewOuts.{BlocksAt, BlocksOut}
 use Rattle.to_sheet.specs.declared.view.ViewOut.{ViewOut}
 use Rattle.to_sheet.proofs.Laws.Apart.{then-got, via-got, room-got, place-is, moved}
 use Rattle.to_sheet.proofs.Laws.Values.{head-spells}
 use Rattle.to_sheet.proofs.Laws.Sizes.{view-size}
-use Rattle.to_sheet.proofs.Laws.Prefixed.{spelled-part, BlockGot, length-got, prefixed-got, headed-got}
+use Rattle.to_sheet.proofs.Laws.Front.{spelled-part}
+use Rattle.to_sheet.proofs.Laws.Prefixed.{BlockGot, length-got, prefixed-got, headed-got}
 use Rattle.to_sheet.proofs.Laws.Blocks.{lent, back}
 
 -- ---- the header and the skeleton

@@ -9,23 +9,25 @@ use Rattle.bits.specs.Choice.{within}
 use Rattle.bits.specs.Bytes.{bitsOf}
 use Rattle.bits.specs.Codec.{got, alongDec}
 use Rattle.bits.specs.CodecLaws.{next-got}
-use Rattle.bits.specs.Reads.{found, Reads, total}
+use Rattle.bits.specs.Lists.{total}
+use Rattle.bits.specs.Reads.{found, Reads}
 use Rattle.bits.proofs.Laws.Reads.{up-to}
 use Rattle.lay.specs.Laid.{Laid}
-use Rattle.lay.proofs.Laws.{laid-none, laid-next}
+use Rattle.lay.proofs.Laws.{joined-snoc, laid-none, laid-next}
 use Rattle.format.specs.View.{View, view}
 use Rattle.format.specs.Record.{Record, tellSeen, views, read}
 use Rattle.format.specs.SheetSize.{viewSize}
 use Rattle.format.specs.declared.Widths.{Widths}
 use Rattle.format.specs.declared.Header.{Header}
 use Rattle.format.proofs.Laws.Size.{view-bytes}
-use Rattle.to_sheet.specs.Bytes.{joined, viewBytes}
+use Rattle.lay.specs.HighFirst.{joined}
+use Rattle.to_sheet.specs.Bytes.{viewBytes}
 use Rattle.to_sheet.specs.ViewOuts.{ViewWritten}
 use Rattle.to_sheet.specs.SheetOuts.{ViewsThere, ViewsOut}
 use Rattle.to_sheet.specs.declared.view.ViewOut.{ViewOut}
 use Rattle.to_sheet.proofs.Laws.Apart.{moved}
 use Rattle.to_sheet.proofs.Laws.Sizes.{joined-size, view-size}
-use Rattle.to_sheet.proofs.Laws.Lines.{total-append, joined-snoc}
+use Rattle.to_sheet.proofs.Laws.Lines.{total-append}
 use Rattle.to_sheet.proofs.Laws.Blocks.{lent, back}
 use Rattle.to_sheet.proofs.Laws.Record.{record-apart}
 

@@ -11,7 +11,8 @@ use Rattle.bits.specs.Bits.{Bits}
 use Rattle.bits.specs.Bytes.{bitsOf}
 use Rattle.bits.specs.Codec.{got, refused, timesDec, fieldDec}
 use Rattle.bits.specs.CodecLaws.{field}
-use Rattle.bits.specs.Reads.{Reads, found, fault, taken, after, total}
+use Rattle.bits.specs.Lists.{total}
+use Rattle.bits.specs.Reads.{Reads, found, fault, taken, after}
 use Rattle.bits.proofs.Laws.Reads.{known, below}
 use Rattle.bits.proofs.Laws.Loops.{times-turn}
 use Rattle.bits.proofs.Laws.Parts.{part, part-length}

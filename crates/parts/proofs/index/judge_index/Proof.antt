@@ -8,7 +8,8 @@ use mathlib.Core.Path.{_≡_, ap}
 use lib.ListN.{length}
 use Rattle.bits.specs.Codec.{fieldDec}
 use Rattle.bits.specs.CodecLaws.{ranged}
-use Rattle.bits.specs.Reads.{Reads, found, fault, taken, total}
+use Rattle.bits.specs.Lists.{total}
+use Rattle.bits.specs.Reads.{Reads, found, fault, taken}
 use Rattle.bits.proofs.Laws.Reads.{made, stop, known, own, stays, at-place, ranged-ok, ranged-low, ranged-high}
 use Rattle.outcome.specs.Refusals.{badIndex}
 use Rattle.format.specs.Differences.{diff}

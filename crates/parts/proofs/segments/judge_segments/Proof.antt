@@ -16,11 +16,11 @@ use Rattle.parts.proofs.segments.judge_segments.Statement.{statement}
 use Rattle.parts.proofs.segments.judge_segments.Tie as tie
 
 abbrev Inv-loop : tie.InvT-loop
-Inv-loop s end p₀ size₀ n₀ p size n =
-    (p .at ≤ 8 * length s) × (n ≤ p .at) × (size ≤ p .at) × Filled s size n (p .at)
+Inv-loop s end p₀ size₀ p size =
+    (p .at ≤ 8 * length s) × (size ≤ p .at) × ((n : ℕ) × ((n ≤ p .at) × Filled s size n (p .at)))
 
 abbrev μ-loop : tie.MeasureT-loop
-μ-loop s end p₀ size₀ n₀ p size n =
+μ-loop s end p₀ size₀ p size =
     8 * length s - p .at
 
 -- the block, and the place of the segment
@@ -33,7 +33,7 @@ place c = c .loop .p .at
 -- a refused segment refuses the block
 refuse : (c : tie.At-loop Inv-loop μ-loop) → place c < 8 * length (block c) → {e q : ℕ} → Reads (segment .dec) (block c) (place c) (fault e q)
     → Reads segmentsDec (block c) 0 (fault e q)
-refuse c l h = fill-bad (block c) (c .loop .size) (c .loop .n) (place c) (c .loop .inv .3) (c .loop .inv .1) l h
+refuse c l h = fill-bad (block c) (c .loop .size) (c .loop .inv .2 .0) (place c) (c .loop .inv .2 .1 .1) (c .loop .inv .2 .1 .0) l h
 
 -- the turn of a segment whose two numbers are read
 abbrev turn : tie.After-sure2 Inv-loop μ-loop → tie.At-loop Inv-loop μ-loop
@@ -64,7 +64,7 @@ start-requires c κs = search needs
 
 loop-holds : tie.Need-loop-holds Inv-loop μ-loop
 loop-holds c =
-    (omega (arith, c .start .ensures), omega arith, omega arith, rw (c .start .ensures) (fill-start (c .before .before .args .s .now)))
+    (omega (arith, c .start .ensures), omega arith, (0, (omega arith, rw (c .start .ensures) (fill-start (c .before .before .args .s .now)))))
 
 sub-if2 : tie.Need-sub-if2 Inv-loop μ-loop
 sub-if2 c = search needs
@@ -107,17 +107,12 @@ add-size c =
 add-size-2 : tie.Need-add-size-2 Inv-loop μ-loop
 add-size-2 c =
     let m = c .before .before .before .before .before .before .before in
-    omega (arith, turn m .loop .inv, below 11 16 (len m))
+    omega (arith, turn m .loop .inv .0, turn m .loop .inv .1, below 11 16 (len m))
 
 add-size-3 : tie.Need-add-size-3 Inv-loop μ-loop
 add-size-3 c =
     let m = c .before .before .before .before .before .before .before in
-    omega (arith, turn m .loop .inv, below 11 16 (len m))
-
-add-n : tie.Need-add-n Inv-loop μ-loop
-add-n c =
-    let m = c .before .before .before .before .before .before .before in
-    omega (arith, turn m .loop .inv)
+    omega (arith, turn m .loop .inv .0, turn m .loop .inv .1, below 11 16 (len m))
 
 loop-less : tie.Need-loop-less Inv-loop μ-loop
 loop-less c =
@@ -131,15 +126,14 @@ loop-again c =
     segment-good _ _ _ _ _ _ (room m) (kind m) (len m) (c .before .before .before .before .before .if3 .left) (c .before .before .if4 .left)
     λ g z h. (
       h .within,
-      omega (arith, t .inv .1, behind m),
-      omega (arith, t .inv .2, behind m, c .before .before .before .before .before .if3 .left),
-      fill-next (block (turn m)) (t .size) (t .n) (t .p .at) (t .inv .3) (t .inv .1) (more m) (omega (arith, z)) h,
+      omega (arith, t .inv .1, behind m, c .before .before .before .before .before .if3 .left),
+      (t .inv .2 .0 + 1, (omega (arith, t .inv .2 .1 .0, behind m), fill-next (block (turn m)) (t .size) (t .inv .2 .0) (t .p .at) (t .inv .2 .1 .1) (t .inv .2 .1 .0) (more m) (omega (arith, z)) h)),
     )
 
 returns-4 : tie.Need-returns-4 Inv-loop μ-loop
 returns-4 c =
     let m = c .before .before in
-    fill-end (block m) (m .loop .size) (m .loop .n) (place m) (m .loop .inv .3) (omega (arith, c .if1 .left))
+    fill-end (block m) (m .loop .size) (m .loop .inv .2 .0) (place m) (m .loop .inv .2 .1 .1) (omega (arith, c .if1 .left))
 
 pub judge-segments-spec : {M : Type 1} → statement M
 judge-segments-spec =
@@ -161,7 +155,6 @@ judge-segments-spec =
     add-size
     add-size-2
     add-size-3
-    add-n
     loop-less
     loop-again
     returns-4)

@@ -5,7 +5,8 @@ use Prim.Native.Nat.{ℕ, _-_, _+_}
 use mathlib.Core.Path.{_≡_, ap}
 use mathlib.Core.List.{List}
 use lib.ListN.{drop, length-take}
-use Rattle.bits.specs.Reads.{Reads, fault, total}
+use Rattle.bits.specs.Lists.{total}
+use Rattle.bits.specs.Reads.{Reads, fault}
 use Rattle.bits.proofs.Laws.Reads.{known}
 use Rattle.bits.proofs.Laws.Parts.{part, behind-cut, behind-past, behind-bad, behind-good}
 use Rattle.outcome.specs.Refusals.{past}
@@ -15,10 +16,6 @@ use Rattle.parts.specs.Answers.{judged, segmentsDec, segmentsAtDec}
 use borrow.Author.Needs.{needs}
 use Rattle.parts.proofs.segments.segments_at.Statement.{statement}
 use Rattle.parts.proofs.segments.segments_at.Tie as tie
-use Rattle.parts.proofs.segments.segments_at.Reads as reads
-use Rattle.parts.proofs.segments.segments_at.Lts as lts
-use Rattle.bits.proofs.Cursor.sure.Reads as sure-reads
-use Rattle.parts.proofs.segments.judge_segments.Reads as judge-segments-reads
 
 -- the block, as the code cuts it out
 abbrev block : tie.Else2 → List ℕ

@@ -13,7 +13,7 @@ wide-requires c κs = search needs
 
 returns : tie.Need-returns
 returns c =
-    c .wide .ensures .0 ∙ sym (simp (le-leb _ _ (c .before .before .if1 .taken)))
+    c .wide .ensures ∙ sym (simp (le-leb _ _ (c .before .before .if1 .taken)))
 
 returns-2 : tie.Need-returns-2
 returns-2 c =

@@ -7,14 +7,16 @@ use mathlib.Core.Option.{some}
 use lib.ListN.{length, drop, length-take, length-drop}
 use Rattle.bits.specs.Bytes.{bitsOf}
 use Rattle.bits.specs.Codec.{got, alongDec}
-use Rattle.bits.specs.Reads.{total}
+use Rattle.bits.specs.Lists.{total}
 use Rattle.bits.proofs.Laws.Place.{all-bytes}
 use Rattle.bits.proofs.Laws.Reads.{at-place}
 use Rattle.lay.proofs.Laws.{laid-none, laid-next}
 use Rattle.outcome.specs.Refusals.{badIndex}
 use Rattle.format.specs.Index.{neighbours, up}
 use Rattle.format.specs.SheetSize.{listSize, indexSize}
-use Rattle.to_sheet.proofs.Laws.Index.{IndexParts, index-parts, index-none, lists-length, one-value}
+use Rattle.to_sheet.proofs.Laws.Index.{IndexParts, index-parts, index-none, one-value}
+use Rattle.to_sheet.specs.Bytes.{listBytes}
+use Rattle.to_sheet.proofs.Laws.Sizes.{joined-size, list-size}
 use Rattle.to_sheet.proofs.index.index_out.Statement.{statement}
 use Rattle.to_sheet.proofs.index.index_out.Tie as tie
 
@@ -117,7 +119,7 @@ lists-out-requires c κs =
 add-at-2 : tie.Need-add-at-2
 add-at-2 c =
     let o = rw (laid-here (c .before .before)) at (c .before .before .lists-out .ensures .1 .laid) in
-    omega (arith, o .count, lists-length (here (c .before .before .before .before .before .before .before .before .before .before .before .before .before .before .before) .value .lists), enough (c .before .before .before .before .before .before .before .before .before .before .before .before .before .before .before), four (c .before .before .before .before .before .before))
+    omega (arith, o .count, joined-size listBytes listSize list-size (here (c .before .before .before .before .before .before .before .before .before .before .before .before .before .before .before) .value .lists), enough (c .before .before .before .before .before .before .before .before .before .before .before .before .before .before .before), four (c .before .before .before .before .before .before))
 
 same-length : tie.Need-same-length
 same-length c = search needs

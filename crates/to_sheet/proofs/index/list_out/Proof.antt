@@ -7,9 +7,9 @@ use lib.ListN.{length, drop, length-take, length-drop}
 use Rattle.bits.specs.Bytes.{bitsOf}
 use Rattle.bits.specs.Codec.{got}
 use Rattle.outcome.specs.Refusals.{badIndex}
-use Rattle.lay.proofs.Laws.{laid-next}
+use Rattle.lay.proofs.Laws.{laid-next, twos-length}
 use Rattle.to_sheet.specs.ListOuts.{numbersDec}
-use Rattle.to_sheet.proofs.Laws.Index.{ListParts, list-parts, list-reads, numbers-length, two-each, one-value}
+use Rattle.to_sheet.proofs.Laws.Index.{ListParts, list-parts, list-reads, numbers-length, one-value}
 use Rattle.to_sheet.proofs.index.list_out.Statement.{statement}
 use Rattle.to_sheet.proofs.index.list_out.Tie as tie
 
@@ -74,7 +74,7 @@ add-t12 : tie.Need-add-t12
 add-t12 c =
     let n = c .before .before .before .before .numbers-out .ensures in
     let k = c .before .before .before .before .before .before .before .before in
-    omega (arith, n .laid .count, two-each (n .value), all-laid (c .before .before .before .before), few (c .before .before .before .before .before .before .before .before .before .before .before), k .put-three .ensures .count)
+    omega (arith, n .laid .count, twos-length (n .value), all-laid (c .before .before .before .before), few (c .before .before .before .before .before .before .before .before .before .before .before), k .put-three .ensures .count)
 
 same-length : tie.Need-same-length
 same-length c = search needs

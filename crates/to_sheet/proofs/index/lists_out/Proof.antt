@@ -6,14 +6,15 @@ use Prim.Native.Nat.{_-_, _*_, _≤_}
 use lib.ListN.{length, take, drop, length-take, length-drop}
 use Rattle.bits.specs.Bytes.{bitsOf}
 use Rattle.bits.specs.Codec.{alongDec}
-use Rattle.bits.specs.Reads.{total}
+use Rattle.bits.specs.Lists.{total}
 use Rattle.bits.proofs.Laws.Loops.{along-done}
 use Rattle.lay.specs.Laid.{Laid}
 use Rattle.format.specs.Index.{neighbours, up}
 use Rattle.format.specs.SheetSize.{listSize}
 use Rattle.to_sheet.specs.Bytes.{listBytes}
 use Rattle.to_sheet.proofs.Laws.Underway.{Underway, at-first, same-room, one-more, at-last}
-use Rattle.to_sheet.proofs.Laws.Index.{ListAt, list-at, list-length, one-value}
+use Rattle.to_sheet.proofs.Laws.Index.{ListAt, list-at, one-value}
+use Rattle.to_sheet.proofs.Laws.Sizes.{list-size}
 use Rattle.to_sheet.proofs.index.lists_out.Statement.{statement}
 use Rattle.to_sheet.proofs.index.lists_out.Tie as tie
 
@@ -76,7 +77,7 @@ list-out-requires c κs =
 add-at : tie.Need-add-at Inv-loop μ-loop
 add-at c =
     let t = here (c .before .before .before .before .before) in
-    omega (arith, laid-here (c .before .before .before) .count, list-length (t .value), ap (total listSize) (t .is))
+    omega (arith, laid-here (c .before .before .before) .count, list-size (t .value), ap (total listSize) (t .is))
 
 add-l : tie.Need-add-l Inv-loop μ-loop
 add-l c = search needs
@@ -89,7 +90,7 @@ loop-again c =
     let t = here (c .before .before .before .before .before .before) in
     let o = c .before .before .before .before .list-out .ensures in
     let next = rw (one-value (t .there) (o .reads) .1) at (t .next) in
-    let U = one-more listBytes listSize (c .before .before .before .before .before .before .before .loop .inv .3) (t .is) next (list-length (t .value)) (laid-here (c .before .before .before .before)) in
+    let U = one-more listBytes listSize (c .before .before .before .before .before .before .before .loop .inv .3) (t .is) next (list-size (t .value)) (laid-here (c .before .before .before .before)) in
     (omega arith, o .reads .within, same-room listBytes listSize U, U)
 
 same-length : tie.Need-same-length Inv-loop μ-loop

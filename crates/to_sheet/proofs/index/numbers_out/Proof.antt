@@ -5,9 +5,9 @@ use mathlib.Core.Path.{_≡_, refl, ap}
 use Prim.Native.Nat.{ℕ, _-_, _*_, _≤_}
 use lib.ListN.{length, drop, length-take, length-drop}
 use Rattle.bits.specs.Bytes.{bitsOf}
-use Rattle.bits.specs.Reads.{total}
+use Rattle.bits.specs.Lists.{total}
 use Rattle.outcome.specs.Refusals.{badIndex}
-use Rattle.to_sheet.specs.Bytes.{two}
+use Rattle.lay.specs.HighFirst.{two}
 use Rattle.to_sheet.specs.ListOuts.{numbersDec}
 use Rattle.to_sheet.proofs.Laws.Underway.{Underway, at-first, same-room, one-more, at-last}
 use Rattle.to_sheet.proofs.Laws.Index.{NumberAt, number-at, numbers-end, twos, one-value}

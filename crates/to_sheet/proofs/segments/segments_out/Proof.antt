@@ -6,7 +6,7 @@ use Prim.Native.Nat.{ℕ, _+_, _-_, _*_, _≤_}
 use lib.ListN.{length, take, drop, length-take, length-drop}
 use Rattle.bits.specs.Bytes.{bitsOf}
 use Rattle.bits.specs.Block.{fillDec}
-use Rattle.bits.specs.Reads.{total}
+use Rattle.bits.specs.Lists.{total}
 use Rattle.bits.proofs.Laws.Place.{all-bytes}
 use Rattle.bits.proofs.Laws.Loops.{fill-done}
 use Rattle.bits.proofs.Laws.Parts.{drop-end}

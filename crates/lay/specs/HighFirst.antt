@@ -1,0 +1,14 @@
+-- Numbers as bytes, "high byte first": one of 16 bits, the start of a tagged field, and what a list has one behind the other.
+use Prim.Native.Nat.{ℕ, _/_, _%_}
+use mathlib.Core.List.{List, [], _∷_, _++_}
+
+abbrev pub two : ℕ → List ℕ
+two n = n / 256 ∷ n % 256 ∷ []
+
+-- how a field with tag t and n bytes starts
+abbrev pub start : ℕ → ℕ → List ℕ
+start t n = t ∷ two n
+
+abbrev pub joined : {A : Type 0} → (A → List ℕ) → List A → List ℕ
+joined f [] = []
+joined f (x ∷ xs) = f x ++ joined f xs
