@@ -4,3 +4,4 @@ pub mod Place
 pub mod Reads
 pub mod Loops
 pub mod Parts
+pub mod Apart

@@ -1,14 +1,16 @@
--- The laws of All, Along and every: how what holds of a list is taken apart and put together, also by places.
-use mathlib.Core.Path.{_≡_, refl}
-use Prim.Native.Nat.{ℕ, zero, suc, _+_, _<_}
+-- The laws of All, Along, every and sums: how what holds of a list is taken apart and put together, also by places.
+use mathlib.Core.Path.{_≡_, refl, sym, ap, _∙_}
+use Prim.Native.Nat.{ℕ, zero, suc, _+_, _-_, _<_}
 use native.Mathlib.Omega.{arith}
 use mathlib.Core.Bool.{Bool, true, false}
 use mathlib.Core.Option.{Option, none, some, Option·map}
 use mathlib.Core.List.{List, [], _∷_, _++_, map}
-use lib.ListN.{length, getD}
+use native.Mathlib.Numerals.{add-one}
+use lib.ListN.{length, take, drop, getD, length-drop}
+use lib.Seq.{take-suc, drop-cons}
 use lib.Dec.{T}
 use mir.Facts.{and-yes, yes-and}
-use Rattle.bits.specs.Lists.{All, Along, allTrue, empty?, every}
+use Rattle.bits.specs.Lists.{All, Along, allTrue, empty?, every, total}
 
 -- ---- All
 
@@ -103,6 +105,28 @@ all-true ts h = yes-every (λ t. t) ts h
 pub empty-is : {A : Type 0} (xs : List A) → empty? xs ≡ true → xs ≡ []
 empty-is [] e = refl
 empty-is (x ∷ xs) e = let z : true ≡ false = cc in cc
+
+-- ---- the rest of a list
+
+-- the first of what is left behind n elements is at place n
+pub first-left : {A : Type 0} (xs : List A) (n : ℕ) (d : A) {y : A} {ys : List A} → drop n xs ≡ y ∷ ys → (n < length xs) × (y ≡ getD xs n d) × (ys ≡ drop (n + 1) xs)
+first-left xs n d {y} {ys} e =
+    let z : length xs - n ≡ suc (length ys) = sym (length-drop n xs) ∙ ap length e in
+    let l : n < length xs = omega arith in
+    let k : drop n xs ≡ getD xs n d ∷ drop (n + 1) xs = drop-cons xs n d l ∙ ap (λ (j : ℕ). getD xs n d ∷ drop j xs) (sym (add-one n)) in
+    (l, cc, cc)
+
+-- ---- total
+
+module _ {A : Type 0} (f : A → ℕ) where
+  pub total-append : (xs ys : List A) → total f (xs ++ ys) ≡ total f xs + total f ys
+  total-append [] ys = omega arith
+  total-append (x ∷ xs) ys = omega (arith, total-append xs ys)
+
+  -- of one element more
+  pub total-more : (xs : List A) (n : ℕ) (d : A) → n < length xs → total f (take (n + 1) xs) ≡ total f (take n xs) + f (getD xs n d)
+  total-more xs n d l =
+      ap (λ (j : ℕ). total f (take j xs)) (add-one n) ∙ ap (total f) (take-suc xs n d l) ∙ total-append (take n xs) (getD xs n d ∷ []) ∙ omega arith
 
 -- ---- Option
 

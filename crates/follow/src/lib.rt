@@ -9,6 +9,7 @@ ghost use Rattle.lay.specs.HighFirst.{two, joined};
 ghost use Rattle.trail.specs.Trail.{turned, follow};
 ghost use Rattle.follow.specs.Walk.{elementAt, drawn, CodesThere, CanDraw, OfCodes, Steps};
 use bits::Cursor;
+use bits::pow2;
 
 // Where the walk stands: its heading, and whether the level is high.
 pub struct Pen {
@@ -27,7 +28,7 @@ fn level_turn(k: usize) -> usize
     requires { ⌜ (1 ≤ k) × (k ≤ 8) ⌝ }
     ensures { λ r. ⌜ (r ≡ 2 ^ (k - 1)) × (r ≤ 128) ⌝ }
 {
-    1 << (k - 1)
+    pow2(k - 1)
 }
 
 // A code of k bits added to the heading; half: directions in a half turn.

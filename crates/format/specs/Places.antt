@@ -1,12 +1,13 @@
 -- The parts of a record by their places, from 0. A place behind the last has a part that no record holds; every definition that
 -- asks for one tests the place first.
-use Prim.Native.Nat.{ℕ}
+use Prim.Native.Nat.{ℕ, _+_}
 use mathlib.Core.Option.{none}
 use mathlib.Core.List.{[]}
-use lib.ListN.{length, getD}
+use lib.ListN.{length, take, getD}
+use Rattle.bits.specs.Lists.{total}
 use Rattle.format.specs.Line.{Line}
 use Rattle.format.specs.Segments.{Segment}
-use Rattle.format.specs.View.{View}
+use Rattle.format.specs.View.{View, view}
 use Rattle.format.specs.Record.{Record}
 
 abbrev pub noLine : Line
@@ -30,3 +31,8 @@ lineAt v i = getD (v .lines) i noLine
 
 abbrev pub segmentAt : View → ℕ → Segment
 segmentAt v i = getD (v .segments) i noSegmentThere
+
+-- ---- bits before a view: the header's 24 bytes, and the views in front of it
+
+abbrev pub bitsBefore : Record → ℕ → ℕ
+bitsBefore r i = 192 + total (λ v. length (view (r .head .scale .widths) [] .enc v)) (take i (r .views))

@@ -1,15 +1,24 @@
 -- A segment, "asked for by view and place (both from 0), comes back as the payload's part of the record itself, or empty if
--- refused". "Segment: 13, 23."
-use Prim.Native.Nat.{ℕ}
-use mathlib.Core.List.{List}
-use lib.ListN.{length}
+-- refused; its number and length come from a call of their own". "Segment: 13, 23."
+use Prim.Native.Nat.{ℕ, _+_}
+use mathlib.Core.Bool.{Bool}
+use mathlib.Core.List.{List, []}
+use lib.ListN.{length, take}
 use lib.Dec.{ltb}
 use Rattle.bits.specs.Choice.{pick}
+use Rattle.bits.specs.Lists.{total}
+use Rattle.bits.specs.Codec as C
 use Rattle.outcome.specs.Refusals.{noView, noSegment}
-use Rattle.outcome.specs.Outcome.{Outcome, refused, given}
-use Rattle.format.specs.Record.{Record}
-use Rattle.format.specs.Places.{viewAt, segmentAt}
+use Rattle.outcome.specs.Outcome.{Outcome, refused, given, told}
+use Rattle.outcome.specs.declared.Answer.{Answer}
+use Rattle.format.specs.Line.{skeleton}
+use Rattle.format.specs.Index.{indexBlock}
+use Rattle.format.specs.Segments.{segment}
+use Rattle.format.specs.View.{View}
+use Rattle.format.specs.Record.{Record, read}
+use Rattle.format.specs.Places.{bitsBefore, viewAt, segmentAt}
 use Rattle.format.specs.Call.{onRecord}
+use Rattle.format.specs.declared.Widths.{Widths}
 
 abbrev pub payloadIn : (view place : ℕ) → Record → Outcome ℕ
 payloadIn view place r =
@@ -19,3 +28,27 @@ payloadIn view place r =
 
 unfoldable pub payload : (view place : ℕ) → List ℕ → Outcome ℕ
 payload view place = onRecord (payloadIn view place)
+
+-- what comes back
+abbrev pub payloadOf : Outcome ℕ → List ℕ
+payloadOf (given xs) = xs
+payloadOf (refused e p) = []
+
+-- ---- where it stands
+
+-- bits of a view before its segments: header, skeleton length, skeleton block, index length, index block, extended length
+abbrev pub bitsAhead : Widths → View → ℕ
+bitsAhead w v = 80 + length (skeleton w .enc (v .lines)) + 16 + length (indexBlock (length (v .lines)) .enc (v .index)) + 16
+
+-- the first bit of a payload, behind its type and its length
+abbrev pub firstBit : (view place : ℕ) → Record → ℕ
+firstBit view place r =
+    bitsBefore r view + bitsAhead (r .head .scale .widths) (viewAt r view) + total (λ g. length (segment .enc g)) (take place (viewAt r view .segments)) + 32
+
+abbrev pub firstBitRead : (view place : ℕ) → C.Read Bool Record → ℕ
+firstBitRead view place (C.got r rest) = firstBit view place r
+firstBitRead view place (C.refused e left) = 0
+
+-- the answer of the call of its own
+unfoldable pub segmentAnswer : (view place : ℕ) → List ℕ → Answer
+segmentAnswer view place s = told (firstBitRead view place (read s)) (payload view place s)

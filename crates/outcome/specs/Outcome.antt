@@ -36,15 +36,27 @@ abbrev pub lengthOf : {A : Type 0} → Outcome A → ℕ
 lengthOf (refused e p) = 0
 lengthOf (given xs) = length xs
 
--- what the lent buffer holds afterwards
-abbrev pub laid : {A : Type 0} → List A → Outcome A → List A
-laid before (refused e p) = before
-laid before (given xs) = xs ++ drop (length xs) before
+-- What the lent buffer holds afterwards; form is how the elements stand in it.
+abbrev pub laidAs : {A B : Type 0} → (List A → List B) → List B → Outcome A → List B
+laidAs form before (refused e p) = before
+laidAs form before (given xs) = form xs ++ drop (length (form xs)) before
 
--- The statement of a call that writes: o is its outcome where there is room enough, before and after what the lent buffer holds,
--- a the answer.
-pub record Answers {A : Type 0} (o : Outcome A) (before after : List A) (a : Answer) : Type 0 where
-  pub number : a .number ≡ numberOf (room (length before) o)
-  pub place : a .place ≡ placeOf (room (length before) o)
-  pub written : a .length ≡ lengthOf (room (length before) o)
-  pub buffer : after ≡ laid before (room (length before) o)
+abbrev pub laid : {A : Type 0} → List A → Outcome A → List A
+laid before o = laidAs (λ xs. xs) before o
+
+-- The statement of a call that writes: o is its outcome where there is room enough, lent how many elements the buffer has room for,
+-- before and after what it holds, a the answer.
+pub record AnswersAs {A B : Type 0} (form : List A → List B) (lent : ℕ) (o : Outcome A) (before after : List B) (a : Answer) : Type 0 where
+  pub number : a .number ≡ numberOf (room lent o)
+  pub place : a .place ≡ placeOf (room lent o)
+  pub written : a .length ≡ lengthOf (room lent o)
+  pub buffer : after ≡ laidAs form before (room lent o)
+
+-- elements that stand as they are
+abbrev pub Answers : {A : Type 0} → Outcome A → (before after : List A) → Answer → Type 0
+Answers o before after a = AnswersAs (λ xs. xs) (length before) o before after a
+
+-- The answer of a call that writes nothing and says where what it gives stands, which is at place p.
+abbrev pub told : {A : Type 0} → ℕ → Outcome A → Answer
+told p (refused e q) = record { number = e; place = shown q; length = 0 }
+told p (given xs) = record { number = 0; place = p; length = length xs }

@@ -1,5 +1,5 @@
 -- WHAT THE LIBRARY PROMISES. Each promise is a statement; its proof is one citation. Every name in a statement leads to one
--- definition: `read`, `write`, `Allowed` (format/specs/Record), `reading`, `writing` (sheet/specs/Sheet), `Outcome`, `Answers`
+-- definition: `read`, `write`, `Allowed` (format/specs/Record), `reading`, `writing` (sheet/specs/Sheet), `Outcome`, `AnswersAs`
 -- (outcome/specs/Outcome), `Order`, `verdict`, `edited` (orders/specs/Order), `Call`, `run`, `Follows` (orders/specs/History).
 use mathlib.Core.Path.{_≡_}
 use mathlib.Core.Logic.{_≢_}
@@ -14,7 +14,7 @@ use Rattle.bits.specs.Bits.{Bits}
 use Rattle.bits.specs.Bytes.{Byte}
 use Rattle.bits.specs.Codec as C
 use Rattle.outcome.specs.Refusals.{otherCount, tooLong, badSheet, badValue}
-use Rattle.outcome.specs.Outcome.{Outcome, refused, given, numberOf, lengthOf, laid, Answers}
+use Rattle.outcome.specs.Outcome.{Outcome, refused, given, numberOf, lengthOf, laid, AnswersAs}
 use Rattle.outcome.specs.declared.Answer.{Answer}
 use Rattle.outcome.proofs.Laws as O
 use Rattle.format.specs.Index.{FitsList, up}
@@ -49,8 +49,8 @@ pub sheet-refused : (sheet : List ℕ) (e left : ℕ) → readSheet sheet ≡ C.
 sheet-refused = G.readSheet-refuses
 
 -- whatever a call is, an answer other than 0 leaves the lent buffer as it was, and a length of 0
-pub refusal-writes-nothing : {A : Type 0} {o : Outcome A} {before after : List A} {a : Answer} → Answers o before after a → a .number ≢ 0
-    → (after ≡ before) × (a .length ≡ 0)
+pub refusal-writes-nothing : {A B : Type 0} {form : List A → List B} {lent : ℕ} {o : Outcome A} {before after : List B} {a : Answer}
+    → AnswersAs form lent o before after a → a .number ≢ 0 → (after ≡ before) × (a .length ≡ 0)
 refusal-writes-nothing = O.refusal-writes-nothing
 
 -- ---- DEMAND 2: reading accepts exactly the allowed records; sheet and record give each other back
@@ -113,8 +113,8 @@ holds-now = H.holds-now
 
 -- ---- UNIQUENESS: two answers that a statement allows are equal, and so are the buffers they leave
 
-pub one-answer : {A : Type 0} {o : Outcome A} {before after₁ after₂ : List A} {a₁ a₂ : Answer} → Answers o before after₁ a₁ → Answers o before after₂ a₂
-    → (a₁ ≡ a₂) × (after₁ ≡ after₂)
+pub one-answer : {A B : Type 0} {form : List A → List B} {lent : ℕ} {o : Outcome A} {before after₁ after₂ : List B} {a₁ a₂ : Answer}
+    → AnswersAs form lent o before after₁ a₁ → AnswersAs form lent o before after₂ a₂ → (a₁ ≡ a₂) × (after₁ ≡ after₂)
 one-answer = O.one-answer
 
 -- ---- P1 TO P11

@@ -23,7 +23,7 @@ use Rattle.to_sheet.proofs.Laws.Sizes.{rendered-size}
 module _ (s before : List ℕ) where
   pub refuses : {e p : ℕ} → Judges s (Refused e p) → Answers (reading s) before before (record { number = e; place = 0; length = 0 })
   unfolding reading
-  refuses j = answer-refused before (call-refused (λ r. given (sheetOf r)) s j)
+  refuses j = answer-refused (λ xs. xs) (length before) before (call-refused (λ r. given (sheetOf r)) s j)
 
   gives : (r : Record) → read s ≡ got r [] → reading s ≡ given (recordBytes r)
   unfolding reading
@@ -31,7 +31,7 @@ module _ (s before : List ℕ) where
 
   module _ {h : Header} {n z : ℕ} (j : Judges s (Accepted h n z)) where
     pub no-room : length before < z → Answers (reading s) before before (record { number = noRoom; place = 0; length = 0 })
-    no-room l = record-read j λ r e _ _ m. answer-full before (gives r e) (omega (arith, rendered-size r, m))
+    no-room l = record-read j λ r e _ _ m. answer-full (λ xs. xs) (length before) before (gives r e) (omega (arith, rendered-size r, m))
 
     pub there : z ≤ length before → SheetThere (h .scale .widths) n s (length before)
     there l =
@@ -43,4 +43,4 @@ module _ (s before : List ℕ) where
     written {after} {k} l o =
         record-read j λ r e _ _ m.
         let w = o .is r e in
-        answer-given before (gives r e) after k (omega (arith, rendered-size r, m)) (w .count) (w .is)
+        answer-given (λ xs. xs) (length before) before (gives r e) after k (omega (arith, rendered-size r, m)) (w .count) (w .is)

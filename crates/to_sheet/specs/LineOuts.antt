@@ -15,16 +15,10 @@ use Rattle.format.specs.Line.{Line, line, skeleton}
 use Rattle.format.specs.SheetSize.{lineSize}
 use Rattle.format.specs.declared.Widths.{Widths}
 use Rattle.lay.specs.HighFirst.{joined}
+use Rattle.locate.specs.Stands.{Narrow}
 use Rattle.to_sheet.specs.Bytes.{lineBytes}
 use Rattle.to_sheet.specs.declared.line.Lined.{Lined}
 use Rattle.to_sheet.specs.declared.line.Lines.{Lines}
-
--- the widths of an accepted header
-pub record Narrow (w : Widths) : Type 0 where
-  pub b : w .b ≤ 8
-  pub c : w .c ≤ 16
-  pub low : 1 ≤ w .k
-  pub k : w .k ≤ 8
 
 -- ---- a line at place p of the block s; n bytes are lent
 

@@ -10,13 +10,8 @@ use Rattle.outcome.specs.Refusals.{badLine}
 use Rattle.lay.specs.Laid.{Laid}
 use Rattle.format.specs.Line.{EndFits}
 use Rattle.format.specs.declared.End.{End}
-use Rattle.format.specs.declared.Widths.{Widths}
 use Rattle.to_sheet.specs.Bytes.{lineBytes}
 use Rattle.to_sheet.specs.declared.line.Parts.{Parts}
-
--- bits of an end
-abbrev pub endBits : Widths → ℕ
-endBits w = 2 + (w .b + (w .c + w .c))
 
 -- an end whose numbers fit the bytes that a sheet has for them
 abbrev pub SmallEnd : End → Type 0

@@ -1,47 +1,21 @@
--- What the writers of a view ask and leave, as for lines. A view's blocks are told by their places: each stands behind its length,
--- a number of 16 bits, and the next one's length behind it. Places are bytes of the record s.
+-- What the writers of a view ask and leave, as for lines. Places are bytes of the record s.
 use mathlib.Core.Path.{_≡_}
-use Prim.Native.Nat.{ℕ, _+_, _-_, _*_, _≤_}
-use mathlib.Core.List.{List, [], _++_}
-use lib.ListN.{length, take, drop}
-use Rattle.bits.specs.Bytes.{bitsOf}
-use Rattle.bits.specs.Codec.{got, fieldDec}
-use Rattle.bits.specs.Block.{Block}
+use Prim.Native.Nat.{ℕ, _+_, _*_, _≤_}
+use mathlib.Core.List.{List, _++_}
+use lib.ListN.{length}
 use Rattle.bits.specs.Lists.{total}
 use Rattle.bits.specs.Reads.{found, Reads}
-use Rattle.outcome.specs.Refusals.{past}
 use Rattle.lay.specs.Laid.{Laid}
-use Rattle.format.specs.Line.{skeleton}
-use Rattle.format.specs.Index.{indexBlock}
 use Rattle.format.specs.Segments.{segments}
 use Rattle.format.specs.View.{View, view}
 use Rattle.format.specs.SheetSize.{lineSize, indexSize, segmentSize, viewSize}
 use Rattle.format.specs.declared.Widths.{Widths}
 use Rattle.lay.specs.HighFirst.{joined}
 use Rattle.to_sheet.specs.Bytes.{lineBytes, indexBytes, segmentBytes, viewBytes}
-use Rattle.to_sheet.specs.LineOuts.{Narrow}
+use Rattle.locate.specs.Stands.{Narrow, BlocksAt}
 use Rattle.to_sheet.specs.declared.view.ViewOut.{ViewOut}
 
--- ---- the block whose length is at byte b, and that ends before byte e
-
-pub record BlockAt {A : Type 0} (w : Block A) (s : List ℕ) (b e : ℕ) (v : A) : Type 0 where
-  pub size : Reads (fieldDec past 16) s (8 * b) (found (e - (b + 2)) (8 * (b + 2)))
-  pub from : b + 2 ≤ e
-  pub within : e ≤ length s
-  pub value : w .dec (bitsOf (take (e - (b + 2)) (drop (b + 2) s))) ≡ got v []
-
--- e is where such a block ends, whatever it holds
-pub record BlockEnd (s : List ℕ) (b e : ℕ) : Type 0 where
-  pub is : (n q : ℕ) → Reads (fieldDec past 16) s (8 * b) (found n q) → e ≡ b + 2 + n
-
--- ---- the blocks of a view, from byte b up to byte d: the index's length is at byte i, the extended data's at byte j
-
-pub record BlocksAt (w : Widths) (s : List ℕ) (b : ℕ) (v : View) (d : ℕ) : Type 0 where
-  pub i : ℕ
-  pub j : ℕ
-  pub lines : BlockAt (skeleton w) s b i (v .lines)
-  pub index : BlockAt (indexBlock (length (v .lines))) s i j (v .index)
-  pub segments : BlockAt segments s j d (v .segments)
+-- ---- the blocks of a view; the length of the first is at byte b
 
 pub record BlocksThere (w : Widths) (s : List ℕ) (b n : ℕ) : Type 0 where
   pub narrow : Narrow w

@@ -12,9 +12,11 @@ ghost use Rattle.lay.specs.Laid.{Laid};
 ghost use Rattle.format.specs.Line.{end};
 ghost use Rattle.sheet.specs.Code.{extended};
 ghost use Rattle.to_sheet.specs.Bytes.{endBytes};
-ghost use Rattle.to_sheet.specs.LineParts.{endBits, SmallEnd, PartsThere, PartsOut};
+ghost use Rattle.locate.specs.Stands.{endBits};
+ghost use Rattle.to_sheet.specs.LineParts.{SmallEnd, PartsThere, PartsOut};
 ghost use Rattle.to_sheet.specs.LineOuts.{LineThere, LineOut, LinesThere, LinesOut};
 use bits::Cursor;
+use bits::pow2;
 use format::End;
 use format::Widths;
 use lay::put_three;
@@ -43,14 +45,6 @@ pub struct Lined {
 pub struct Lines {
     pub count: usize,
     pub written: usize,
-}
-
-// 2 to the k.
-fn pow2(k: usize) -> usize
-    requires { ⌜ k ≤ 8 ⌝ }
-    ensures { λ r. ⌜ (r ≡ 2 ^ k) × (r ≤ 256) ⌝ }
-{
-    1 << k
 }
 
 // The byte of a code of k bits.

@@ -1,15 +1,14 @@
 // The fields of a view: 02, its header; then those of its lines, its index and its segments. The judge has accepted the view, so
 // that each of its blocks is where the lengths say.
-ghost use Prim.Native.Nat.{_+_, _≤_};
 ghost use lib.ListN.{length};
-ghost use Rattle.to_sheet.specs.ViewOuts.{BlockEnd, BlocksThere, BlocksOut, ViewThere, ViewWritten};
+ghost use Rattle.to_sheet.specs.ViewOuts.{BlocksThere, BlocksOut, ViewThere, ViewWritten};
 use crate::index::index_out;
 use crate::line::lines_out;
 use crate::segments::segments_out;
-use bits::Cursor;
 use format::Widths;
 use lay::copy;
 use lay::put_three;
+use locate::view::blocks_at;
 
 // The byte behind a view, and the bytes written for it.
 pub struct ViewOut {
@@ -17,29 +16,21 @@ pub struct ViewOut {
     pub written: usize,
 }
 
-// The end of the block whose length is at byte b.
-fn block_end(s: &[u8], b: usize) -> usize
-    requires { ⌜ (length (now s) ≤ 32768) × (b + 2 ≤ length (now s)) ⌝ }
-    ensures { λ r. ⌜ BlockEnd (now (s .entry)) b r ⌝ }
-{
-    let size = Cursor { at: 8 * b }.sure(s, 16);
-    b + 2 + size.value
-}
-
 // The fields of a view's blocks; the length of the first is at byte b.
 fn blocks_out(out: &mut [u8], s: &[u8], b: usize, w: Widths) -> ViewOut
     requires { ⌜ BlocksThere w (now s) b (length (now out)) ⌝ }
     ensures { λ r. ⌜ BlocksOut w (now (s .entry)) b (now (out .entry)) (now (out .exit)) r ⌝ }
 {
+    let blocks = blocks_at(s, b);
     let skeleton = b + 2;
-    let index_at = block_end(s, b);
+    let index_at = blocks.index;
     let lines = lines_out(out, &s[skeleton..index_at], w);
     let mut at = lines.written;
     let index = index_at + 2;
-    let extended_at = block_end(s, index_at);
+    let extended_at = blocks.extended;
     at += index_out(&mut out[at..], &s[index..extended_at], lines.count);
     let extended = extended_at + 2;
-    let next = block_end(s, extended_at);
+    let next = blocks.end;
     at += segments_out(&mut out[at..], &s[extended..next]);
     ViewOut { next, written: at }
 }

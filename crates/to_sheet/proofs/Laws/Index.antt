@@ -28,7 +28,7 @@ use Rattle.format.specs.Differences.{undiffs, diff, tell}
 use Rattle.format.specs.DifferencesLaws.{length-undiffs, falls-count}
 use Rattle.format.specs.Index.{Index, neighbours, up, index, indexBlock}
 use Rattle.to_sheet.specs.ListOuts.{numbersDec}
-use Rattle.to_sheet.proofs.Laws.Front.{front}
+use Rattle.locate.proofs.Laws.Front.{front}
 
 -- ---- a field
 

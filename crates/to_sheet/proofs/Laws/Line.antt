@@ -1,5 +1,4 @@
--- The laws of writing a line. A line that was read is its parts' reads, each at its place, and its field is made of them. The loop
--- over codes says what is read and laid so far.
+-- The laws of writing a line: its field is made of its parts' reads. The loop over codes says what is read and laid so far.
 use mathlib.Core.Path.{_≡_, refl, sym, ap, ap₂, _∙_, subst}
 use Prim.Native.Nat.{ℕ, suc, _+_, _-_, _*_, _^_, _≤_, _<_}
 use native.Mathlib.Omega.{arith}
@@ -12,27 +11,27 @@ use lib.Dec.{ltb}
 use lib.Pow.{pow-mono}
 use mir.Facts.{yes-ltb, no-ltb}
 use Rattle.bits.specs.ChoiceLaws.{pick-yes, pick-no}
-use Rattle.bits.specs.Bits.{Bits}
-use Rattle.bits.specs.BitsLaws.{length-bits}
 use Rattle.bits.specs.Bytes.{bitsOf}
-use Rattle.bits.specs.Codec.{got, fieldDec, timesDec}
-use Rattle.bits.specs.CodecLaws.{field, encAll, times, times-back}
+use Rattle.bits.specs.Codec.{fieldDec, timesDec}
+use Rattle.bits.specs.CodecLaws.{field, times-back}
 use Rattle.bits.specs.Reads.{found, Reads}
-use Rattle.bits.proofs.Laws.Reads.{length-rest, go-on, made, at-place, below, gives, up-to}
+use Rattle.bits.proofs.Laws.Reads.{go-on, made, at-place, below, up-to}
 use Rattle.outcome.specs.Refusals.{badLine}
 use Rattle.lay.specs.Laid.{Laid}
 use Rattle.lay.proofs.Laws.{laid-none}
-use Rattle.format.specs.Line.{Line, end, line, line-long}
+use Rattle.format.specs.Line.{Line, end, line}
 use Rattle.format.specs.SheetSize.{lineSize}
 use Rattle.format.specs.declared.End.{End}
 use Rattle.format.specs.declared.Widths.{Widths}
 use Rattle.sheet.specs.Code.{extended}
 use Rattle.lay.specs.HighFirst.{start}
 use Rattle.to_sheet.specs.Bytes.{endBytes, lineBytes}
-use Rattle.to_sheet.specs.LineParts.{endBits, SmallEnd, PartsThere, PartsOut}
-use Rattle.to_sheet.specs.LineOuts.{Narrow, LineOut}
+use Rattle.to_sheet.specs.LineParts.{SmallEnd, PartsThere, PartsOut}
+use Rattle.locate.specs.Stands.{Narrow, endBits}
+use Rattle.locate.proofs.Laws.Line.{line-at}
+use Rattle.to_sheet.specs.LineOuts.{LineOut}
 use Rattle.to_sheet.specs.declared.line.Parts.{Parts}
-use Rattle.to_sheet.proofs.Laws.Apart.{then-got, via-got, whole-got, same, moved, times-snoc}
+use Rattle.bits.proofs.Laws.Apart.{same, times-snoc}
 
 -- ---- an end
 
@@ -41,10 +40,6 @@ pub end-is : (w : Widths) {s : List ℕ} {p p1 p2 p3 p4 k d x y : ℕ} → Reads
     → Reads (end w .dec) s p (found (record { kind = k; direction = d; x = x; y = y }) p4)
 unfolding end
 end-is w a b c d = made _ _ (go-on _ _ a (go-on _ _ b (go-on _ _ c d)))
-
-end-long : (w : Widths) (x : End) → length (end w .enc x) ≡ endBits w
-unfolding end
-end-long w x = simp (length-append, length-bits)
 
 end-small : {w : Widths} {s : List ℕ} {p q : ℕ} {x : End} → Narrow w → Reads (end w .dec) s p (found x q) → SmallEnd x
 unfolding end
@@ -64,55 +59,6 @@ code-low k n h = sym (pick-yes (ltb n (2 ^ (k - 1))) _ _ (yes-ltb {a = n} (omega
 pub code-high : (k n : ℕ) → 2 ^ (k - 1) ≤ n → n + (256 - 2 ^ k) ≡ extended k n
 unfolding extended
 code-high k n h = sym (pick-no (ltb n (2 ^ (k - 1))) _ _ (no-ltb {a = n} (omega arith)))
-
--- ---- a line at place p of the block s, and its parts
-
-codes-long : (e k : ℕ) (cs : List ℕ) → length (encAll (field e k) cs) ≡ length cs * k
-codes-long e k [] = omega arith
-codes-long e k (x ∷ cs) = simp (length-append, length-bits) (omega (arith, codes-long e k cs, suc-mul (length cs) k))
-
-record LineAt (w : Widths) (s : List ℕ) (p : ℕ) (l : Line) (q : ℕ) : Type 0 where
-  pub start : Reads (end w .dec) s p (found (l .start) (p + endBits w))
-  pub count : Reads (fieldDec badLine 8) s (p + endBits w) (found (length (l .codes)) (p + endBits w + 8))
-  pub codes : Reads (timesDec (field badLine (w .k)) (length (l .codes))) s (p + endBits w + 8) (found (l .codes) (p + endBits w + 8 + length (l .codes) * w .k))
-  pub finish : Reads (end w .dec) s (p + endBits w + 8 + length (l .codes) * w .k) (found (l .finish) q)
-  pub behind : q ≡ p + endBits w + 8 + length (l .codes) * w .k + endBits w
-
-module _ (w : Widths) {s : List ℕ} {p : ℕ} {l : Line} {q : ℕ} (h : Reads (line w .dec) s p (found l q)) where
-  -- it has eight bits or more
-  line-far : p + 8 ≤ 8 * length s
-  line-far =
-      let g = line w .back (drop p (bitsOf s)) l (drop q (bitsOf s)) (h .is) .1 in
-      let z : 8 * length s - p ≡ length (line w .enc l) + length (drop q (bitsOf s)) = sym (length-rest s p) ∙ ap length g ∙ length-append (line w .enc l) (drop q (bitsOf s)) in
-      omega (arith, line-long w l)
-
-  from-parts : {r1 r2 r3 : Bits} → end w .dec (drop p (bitsOf s)) ≡ got (l .start) r1 → fieldDec badLine 8 r1 ≡ got (length (l .codes)) r2
-      → timesDec (field badLine (w .k)) (length (l .codes)) r2 ≡ got (l .codes) r3 → end w .dec r3 ≡ got (l .finish) (drop q (bitsOf s)) → LineAt w s p l q
-  from-parts d1 d2 d3 d4 =
-      let i : p ≤ 8 * length s = omega (arith, line-far) in
-      let n : ℕ = length (l .codes) in
-      let (h1, e1) = moved (end w) (endBits w) i d1 (λ f. end-long w (l .start)) in
-      let (h2, e2) = moved (field badLine 8) 8 (h1 .within) (ap (fieldDec badLine 8) (sym e1) ∙ d2) (λ f. length-bits 8 n) in
-      let (h3, e3) = moved (times (field badLine (w .k)) n) (n * w .k) (h2 .within) (ap (timesDec (field badLine (w .k)) n) (sym e2) ∙ d3) (λ f. codes-long badLine (w .k) (l .codes)) in
-      let d = ap (end w .dec) (sym e3) ∙ d4 in
-      let f = gives (end w .dec) (l .finish) q (h .within) d in
-      record { start = h1; count = h2; codes = h3; finish = f; behind = same f (moved (end w) (endBits w) (h3 .within) d (λ f. end-long w (l .finish)) .0) .1 }
-
-  line-at : LineAt w s p l q
-  unfolding line
-  line-at =
-      via-got _ _ (whole-got _ (h .is)) λ t d e.
-      then-got _ _ d λ r1 d1 d2.
-      then-got _ _ d2 λ r3 d3 d4.
-      via-got _ _ d3 λ u d5 e5.
-      then-got _ _ d5 λ r2 d6 d7.
-      let c : u .1 ≡ l .codes = e5 ∙ ap (λ (x : Line). x .codes) e in
-      let n : length (u .1) ≡ u .0 = times-back (field badLine (w .k)) (u .0) r2 (u .1) r3 d7 .0 .0 in
-      let m : u .0 ≡ length (l .codes) = sym n ∙ ap length c in
-      from-parts (d1 ∙ ap (λ (x : Line). got (x .start) r1) e)
-      (d6 ∙ ap (λ (x : ℕ). got x r2) m)
-      (ap (λ (x : ℕ). timesDec (field badLine (w .k)) x r2) (sym m) ∙ d7 ∙ ap (λ (x : List ℕ). got x r3) c)
-      (d4 ∙ ap (λ (x : Line). got (x .finish) (drop q (bitsOf s))) e)
 
 -- ---- the same line, as code reads it: x and y are the ends that it finds, n the count
 

@@ -23,7 +23,7 @@ use Rattle.sheet.proofs.Laws.Allowed.{record-right, record-fields}
 use Rattle.lay.specs.HighFirst.{start, joined}
 use Rattle.lay.proofs.Laws.{joined-append}
 use Rattle.to_sheet.specs.Bytes.{lineBytes, listBytes, indexBytes, segmentBytes, viewBytes, recordBytes}
-use Rattle.to_sheet.proofs.Laws.InBytes.{Spells, in-spelled, _⊕_, spells-byte, spells-two, spells-all, spells-bytes}
+use Rattle.locate.proofs.Laws.InBytes.{Spells, in-spelled, _⊕_, spells-byte, spells-two, spells-all, spells-bytes}
 use Rattle.to_sheet.proofs.Laws.Values.{header-bytes, head-bytes, line-bytes, width-bytes, list-bytes, segment-bytes}
 
 both : {a b c d : List ℕ} → a ≡ b → c ≡ d → a ++ c ≡ b ++ d

@@ -19,7 +19,7 @@ use Rattle.sheet.specs.Code.{extended}
 use Rattle.sheet.specs.Values.{headerValue, viewHeadValue, endValue, EndValue, codeValue, lineValue, widthValue, listValue, segmentValue}
 use Rattle.lay.specs.HighFirst.{two, joined}
 use Rattle.to_sheet.specs.Bytes.{endBytes, headBytes, scaleBytes, headerBytes}
-use Rattle.to_sheet.proofs.Laws.InBytes.{Spells, in-spelled, _⊕_, spells-filled, spells-byte, spells-two, spells-all, spells-map, spells-bytes}
+use Rattle.locate.proofs.Laws.InBytes.{Spells, in-spelled, _⊕_, spells-filled, spells-byte, spells-two, spells-all, spells-map, spells-bytes}
 
 -- the same seven bytes in a record, where the refusal e is another
 pub scale-spells : (e : ℕ) (s : Scale) → FitsScale s → Spells (scaleBytes s) (scale e .enc s)

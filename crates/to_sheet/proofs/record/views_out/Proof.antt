@@ -5,8 +5,9 @@ use mathlib.Core.Path.{_≡_, refl}
 use Prim.Native.Nat.{_-_}
 use native.Mathlib.Omega.{arith}
 use lib.ListN.{length, length-take, length-drop}
-use Rattle.to_sheet.proofs.Laws.Record.{record-apart, narrow}
-use Rattle.to_sheet.proofs.Laws.Views.{ViewsDone, views-none, view-next, view-room, view-fits, views-more, views-all}
+use Rattle.locate.proofs.Laws.Record.{record-apart, narrow}
+use Rattle.locate.proofs.Laws.Views.{view-next}
+use Rattle.to_sheet.proofs.Laws.Views.{ViewsDone, views-start, view-room, view-fits, views-more, views-all}
 use Rattle.to_sheet.proofs.record.views_out.Statement.{statement}
 use Rattle.to_sheet.proofs.record.views_out.Tie as tie
 
@@ -20,24 +21,24 @@ abbrev μ-loop : tie.MeasureT-loop
 
 loop-holds : tie.Need-loop-holds Inv-loop μ-loop
 loop-holds c =
-    (refl, views-none (c .before .before .pre))
+    (refl, views-start (c .before .before .pre))
 
 sub-view-out : tie.Need-sub-view-out Inv-loop μ-loop
 sub-view-out c =
     let done = c .before .loop .inv .1 in
-    let next = view-next done (c .loop-test .taken) in
+    let next = view-next (done .left) (c .loop-test .taken) in
     omega (arith, view-room done next)
 
 part-view-out-start : tie.Need-part-view-out-start Inv-loop μ-loop
 part-view-out-start c =
     let done = c .before .loop .inv .1 in
-    let next = view-next done (c .loop-test .taken) in
+    let next = view-next (done .left) (c .loop-test .taken) in
     omega (arith, view-room done next)
 
 part-view-out-end : tie.Need-part-view-out-end Inv-loop μ-loop
 part-view-out-end c =
     let done = c .before .loop .inv .1 in
-    let next = view-next done (c .loop-test .taken) in
+    let next = view-next (done .left) (c .loop-test .taken) in
     omega (arith, view-room done next)
 
 view-out-requires : tie.Need-view-out-requires Inv-loop μ-loop
@@ -45,11 +46,11 @@ view-out-requires c κs =
     let s = c .before .before .before .before .before in
     let record-at = record-apart (s .args .s .now) (s .pre .reads) in
     let done = c .before .before .loop .inv .1 in
-    let next = view-next done (c .before .loop-test .taken) in
+    let next = view-next (done .left) (c .before .loop-test .taken) in
     record {
       narrow = rw (s .pre .widths) (narrow (record-at .fits));
       short = record-at .short;
-      seen = done .seen;
+      seen = next .seen;
       value = next .value;
       behind = next .behind;
       reads = next .reads;
@@ -59,7 +60,7 @@ view-out-requires c κs =
 add-at : tie.Need-add-at Inv-loop μ-loop
 add-at c =
     let done = c .before .before .before .before .before .before .loop .inv .1 in
-    let next = view-next done (c .before .before .before .before .before .loop-test .taken) in
+    let next = view-next (done .left) (c .before .before .before .before .before .loop-test .taken) in
     omega (arith, view-fits done next (c .before .before .before .view-out .ensures))
 
 add-i : tie.Need-add-i Inv-loop μ-loop
@@ -72,8 +73,8 @@ loop-less c =
 loop-again : tie.Need-loop-again Inv-loop μ-loop
 loop-again c =
     let done = c .before .before .before .before .before .before .loop .inv .1 in
-    let next = view-next done (c .before .before .before .before .before .loop-test .taken) in
-    (search needs, views-more done next (c .before .before .before .before .before .loop-test .taken) (c .before .before .before .view-out .ensures))
+    let next = view-next (done .left) (c .before .before .before .before .before .loop-test .taken) in
+    (search needs, views-more done next (c .before .before .before .view-out .ensures))
 
 same-length : tie.Need-same-length Inv-loop μ-loop
 same-length c = search needs

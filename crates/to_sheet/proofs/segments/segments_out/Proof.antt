@@ -16,7 +16,8 @@ use Rattle.format.specs.Segments.{segment, segments}
 use Rattle.format.specs.SheetSize.{segmentSize}
 use Rattle.to_sheet.specs.Bytes.{segmentBytes}
 use Rattle.to_sheet.proofs.Laws.Underway.{Underway, at-first, same-room, one-more, at-last}
-use Rattle.to_sheet.proofs.Laws.Segments.{SegmentAt, segment-at, its-length, its-field}
+use Rattle.locate.proofs.Laws.Segments.{SegmentAt, segment-at, its-length}
+use Rattle.to_sheet.proofs.Laws.Segments.{its-field}
 use Rattle.to_sheet.proofs.segments.segments_out.Statement.{statement}
 use Rattle.to_sheet.proofs.segments.segments_out.Tie as tie
 

@@ -4,7 +4,8 @@ use borrow.Author.Needs.{needs}
 use native.Mathlib.Omega.{arith}
 use lib.ListN.{length-take, length-drop}
 use Rattle.bits.proofs.Laws.Place.{all-bytes}
-use Rattle.to_sheet.proofs.Laws.View.{view-apart, blocks-wide, view-laid}
+use Rattle.locate.proofs.Laws.View.{view-apart}
+use Rattle.to_sheet.proofs.Laws.View.{blocks-wide, view-laid}
 use Rattle.to_sheet.proofs.view.view_out.Statement.{statement}
 use Rattle.to_sheet.proofs.view.view_out.Tie as tie
 
@@ -14,7 +15,7 @@ put-three-requires c κs = search needs
 add-b : tie.Need-add-b
 add-b c =
     let s = c .before .before .before .before .before .before in
-    let lines = view-apart (s .args .w) (s .pre .seen) (s .pre .reads) .blocks .lines in
+    let lines = view-apart (s .args .w) (s .pre .seen) (s .pre .reads) .0 .blocks .lines in
     omega (arith, s .pre .short, lines .from, lines .within)
 
 sub-copy : tie.Need-sub-copy
@@ -35,7 +36,7 @@ part-copy-start-2 c = search needs
 part-copy-end-2 : tie.Need-part-copy-end-2
 part-copy-end-2 c =
     let s = c .before .before .before .before .before .before .before in
-    let lines = view-apart (s .args .w) (s .pre .seen) (s .pre .reads) .blocks .lines in
+    let lines = view-apart (s .args .w) (s .pre .seen) (s .pre .reads) .0 .blocks .lines in
     omega (arith, lines .from, lines .within)
 
 copy-requires : tie.Need-copy-requires
@@ -56,7 +57,7 @@ part-blocks-out-end c = search needs
 blocks-out-requires : tie.Need-blocks-out-requires
 blocks-out-requires c κs =
     let s = c .before .before .before .before .before .before .before .before .before .before .before .before in
-    let view = view-apart (s .args .w) (s .pre .seen) (s .pre .reads) in
+    let view = view-apart (s .args .w) (s .pre .seen) (s .pre .reads) .0 in
     record {
       narrow = s .pre .narrow;
       short = s .pre .short;
@@ -69,7 +70,7 @@ blocks-out-requires c κs =
 add-at-2 : tie.Need-add-at-2
 add-at-2 c =
     let s = c .before .before .before .before .before .before .before .before .before .before .before .before .before .before .before .before in
-    let view = view-apart (s .args .w) (s .pre .seen) (s .pre .reads) in
+    let view = view-apart (s .args .w) (s .pre .seen) (s .pre .reads) .0 in
     omega (arith, s .pre .room, blocks-wide (view .blocks) (c .before .before .before .blocks-out .ensures), c .before .before .before .before .before .before .before .before .before .before .before .before .put-three .ensures .count, simp length-take at (c .before .before .before .before .before .before .before .copy .ensures .count))
 
 same-length : tie.Need-same-length

@@ -5,8 +5,8 @@ use mathlib.Core.Path.{_∙_}
 use lib.Pow.{shl-exact, pow-mono}
 use lib.Dec.{lit<}
 use native.Mathlib.Nat.{one-mul}
-use Rattle.to_sheet.proofs.line.pow2.Statement.{statement}
-use Rattle.to_sheet.proofs.line.pow2.Tie as tie
+use Rattle.bits.proofs.pow2.Statement.{statement}
+use Rattle.bits.proofs.pow2.Tie as tie
 
 shl-result : tie.Need-shl-result
 shl-result c = search needs

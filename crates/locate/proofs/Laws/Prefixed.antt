@@ -18,8 +18,9 @@ use Rattle.bits.specs.SizedLaws.{inside-got, headed, prefixed}
 use Rattle.bits.proofs.Laws.Reads.{length-rest, up-to}
 use Rattle.bits.proofs.Laws.Parts.{part-bits}
 use Rattle.outcome.specs.Refusals.{past}
-use Rattle.to_sheet.specs.ViewOuts.{BlockAt, BlockEnd}
-use Rattle.to_sheet.proofs.Laws.Apart.{then-got, via-got, moved}
+use Rattle.locate.specs.Stands.{BlockAt}
+use Rattle.locate.specs.Finds.{BlockEnd}
+use Rattle.bits.proofs.Laws.Apart.{then-got, via-got, moved}
 
 -- ---- a block behind its length, at byte b of s; rest is what follows
 

@@ -3,9 +3,9 @@ use borrow.Author.Needs.{needs}
 use native.Mathlib.Omega.{arith}
 use Rattle.bits.proofs.Laws.Reads.{below}
 use Rattle.outcome.specs.Refusals.{past}
-use Rattle.to_sheet.proofs.Laws.Apart.{same}
-use Rattle.to_sheet.proofs.view.block_end.Statement.{statement}
-use Rattle.to_sheet.proofs.view.block_end.Tie as tie
+use Rattle.bits.proofs.Laws.Apart.{same}
+use Rattle.locate.proofs.view.block_end.Statement.{statement}
+use Rattle.locate.proofs.view.block_end.Tie as tie
 
 mul-result : tie.Need-mul-result
 mul-result c = search needs

@@ -12,7 +12,7 @@ use Rattle.bits.specs.Bits.{Bits}
 use Rattle.bits.specs.Bytes.{Byte, bitsOf, inBytes}
 use Rattle.bits.specs.BytesLaws.{length-bitsOf, in-bits}
 use Rattle.bits.proofs.Laws.Parts.{bits-drop, part, part-bits}
-use Rattle.to_sheet.proofs.Laws.InBytes.{Spells}
+use Rattle.locate.proofs.Laws.InBytes.{Spells}
 
 part-all : (s : List ℕ) (a n : ℕ) → All Byte s → All Byte (part s a n)
 part-all s a n h =

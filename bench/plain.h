@@ -1,0 +1,125 @@
+/*
+ * The calls of fsk.h once more, written by hand in C and without proofs: what the library is
+ * measured against. Signatures and answers are the host's, with the prefix plain_; the place of a
+ * refusal is always 0. Behind the calls stands what the plain files share: a reader of fields, a
+ * block behind its length, and the judge.
+ */
+#ifndef PLAIN_H
+#define PLAIN_H
+
+#include "fsk.h"
+
+fsk_answer plain_read(const uint8_t *record, size_t record_length, uint8_t *sheet,
+                      size_t sheet_length);
+fsk_answer plain_trail(const uint8_t *record, size_t record_length, uint32_t view, uint32_t line,
+                       uint8_t *trail, size_t trail_length);
+fsk_answer plain_segment(const uint8_t *record, size_t record_length, uint32_t view,
+                         uint32_t segment);
+
+/* Refusals as document 01 numbers them. */
+enum {
+    BAD_SIZE = 1,
+    BAD_IDENTIFIER = 2,
+    BAD_VERSION = 3,
+    BAD_LENGTH = 4,
+    BAD_HEADER = 5,
+    PAST_END = 6,
+    BAD_VIEW = 7,
+    BAD_LINE = 8,
+    TOO_MANY_LINES = 9,
+    BAD_INDEX = 10,
+    BAD_SEGMENT = 11,
+    BYTES_OVER = 12,
+    NO_VIEW = 13,
+    NO_LINE = 15,
+    NO_ROOM = 20,
+    NO_SEGMENT = 23
+};
+
+/* Sizes: bytes, but for the last, which counts bits. */
+enum { HEADER = 24, VIEW_HEADER = 10, SEGMENT_HEADER = 4, COUNT_OF_CODES = 8 };
+
+static inline fsk_answer plain_refused(uint32_t number)
+{
+    return (fsk_answer){number, 0, 0};
+}
+
+static inline uint32_t plain_two_bytes(const uint8_t *at)
+{
+    return (uint32_t)at[0] << 8 | at[1];
+}
+
+/* A reading place within some bytes: the next byte, and how many bits of the byte before it, the
+ * low ones of `held`, are still to be read. They are always fewer than 8. */
+typedef struct {
+    const uint8_t *next;
+    uint32_t held;
+    unsigned left;
+} plain_reader;
+
+static inline plain_reader plain_reader_at(const uint8_t *bytes, size_t bit)
+{
+    plain_reader reader = {bytes + bit / 8, 0, 0};
+    if (bit % 8 != 0) {
+        reader.held = *reader.next++;
+        reader.left = 8 - (unsigned)(bit % 8);
+    }
+    return reader;
+}
+
+/* The number in the next `width` (1 to 16) bits. No byte is touched that holds none of them. */
+static inline uint32_t plain_take(plain_reader *reader, unsigned width)
+{
+    while (reader->left < width) {
+        reader->held = reader->held << 8 | *reader->next++;
+        reader->left += 8;
+    }
+    reader->left -= width;
+    return reader->held >> reader->left & ((1u << width) - 1);
+}
+
+/* A block of a view: skeleton, index or extended. */
+typedef struct {
+    const uint8_t *bytes;
+    size_t length;
+} plain_block;
+
+/* The block behind the length field that stands here. */
+static inline plain_block plain_block_at(const uint8_t *length_field)
+{
+    return (plain_block){length_field + 2, plain_two_bytes(length_field)};
+}
+
+static inline const uint8_t *plain_block_end(plain_block block)
+{
+    return block.bytes + block.length;
+}
+
+/* How many codes the line has that starts at this bit of a skeleton. */
+static inline uint32_t plain_codes(const uint8_t *skeleton, size_t bit, unsigned end_bits)
+{
+    plain_reader reader = plain_reader_at(skeleton, bit + end_bits);
+    return plain_take(&reader, COUNT_OF_CODES);
+}
+
+/* A judged view. */
+typedef struct {
+    plain_block skeleton, index, extended;
+    uint32_t lines;
+} plain_view;
+
+/* A judged record: its widths, how long its sheet is, and the view that was asked for. */
+typedef struct {
+    const uint8_t *bytes, *end;
+    uint32_t views;
+    unsigned c, b, k;
+    unsigned end_bits; /* of a line's start or end: type, direction, x, y */
+    size_t sheet_length;
+    plain_view view;
+} plain_record;
+
+/* Judges 1 to 12 and gives the number, 0 if the record is accepted. `record` then holds what is
+ * said above; its view only if `wanted` is below the count of views. */
+uint32_t plain_judge(const uint8_t *bytes, size_t length, uint32_t wanted, plain_record *record);
+
+#endif

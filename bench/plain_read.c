@@ -1,0 +1,134 @@
+/*
+ * Reads a record as a sheet: judges it, which also says how long the sheet is, and only then goes
+ * through the record once more and writes. The writers trust the judge and test nothing.
+ */
+#include <string.h>
+
+#include "plain.h"
+
+/* Every writer gives the place behind what it wrote. */
+
+static uint8_t *put_two_bytes(uint8_t *out, uint32_t number)
+{
+    out[0] = (uint8_t)(number >> 8);
+    out[1] = (uint8_t)number;
+    return out + 2;
+}
+
+static uint8_t *put_bytes(uint8_t *out, const uint8_t *from, size_t length)
+{
+    memcpy(out, from, length);
+    return out + length;
+}
+
+/* A field's tag and the length of its value. */
+static uint8_t *put_tag(uint8_t *out, uint8_t tag, size_t length)
+{
+    out[0] = tag;
+    return put_two_bytes(out + 1, (uint32_t)length);
+}
+
+/* A line's start or end. */
+static uint8_t *put_end(uint8_t *out, const plain_record *record, plain_reader *reader)
+{
+    out[0] = (uint8_t)plain_take(reader, 2);
+    out[1] = (uint8_t)plain_take(reader, record->b);
+    out = put_two_bytes(out + 2, plain_take(reader, record->c));
+    return put_two_bytes(out, plain_take(reader, record->c));
+}
+
+static uint8_t *put_codes(uint8_t *out, plain_reader *reader, unsigned k, uint32_t count)
+{
+    const uint32_t sign = 1u << (k - 1);
+    plain_reader from = *reader; /* a copy that no byte written can change: it stays in registers */
+    for (uint32_t i = 0; i < count; i++)
+        *out++ = (uint8_t)((plain_take(&from, k) ^ sign) - sign);
+    *reader = from;
+    return out;
+}
+
+/* The sheet has a line's end before its codes, the record behind them. */
+static uint8_t *put_line(uint8_t *out, const plain_record *record, plain_reader *reader)
+{
+    uint8_t *start = out + 3, *end = start + 6, *codes = end + 6;
+    uint32_t count;
+    put_end(start, record, reader);
+    count = plain_take(reader, COUNT_OF_CODES);
+    put_tag(out, 3, 12 + count);
+    out = put_codes(codes, reader, record->k, count);
+    put_end(end, record, reader);
+    return out;
+}
+
+static uint8_t *put_index(uint8_t *out, plain_block index, uint32_t lines)
+{
+    const unsigned w = index.bytes[0];
+    plain_reader reader = plain_reader_at(index.bytes, 8);
+    out = put_tag(out, 4, 1);
+    *out++ = (uint8_t)w;
+    for (uint32_t line = 0; line < lines; line++) {
+        const uint32_t count = plain_take(&reader, w);
+        uint32_t neighbour = line;
+        out = put_tag(out, 5, 2 * (size_t)count);
+        for (uint32_t i = 0; i < count; i++) {
+            neighbour -= plain_take(&reader, w);
+            out = put_two_bytes(out, neighbour);
+        }
+    }
+    return out;
+}
+
+static uint8_t *put_segments(uint8_t *out, plain_block extended)
+{
+    const uint8_t *at = extended.bytes;
+    while (at < plain_block_end(extended)) {
+        const size_t length = plain_two_bytes(at + 2);
+        const size_t payload = length - SEGMENT_HEADER;
+        out = put_tag(out, 6, 2 + payload);
+        out = put_bytes(out, at, 2);
+        out = put_bytes(out, at + SEGMENT_HEADER, payload);
+        at += length;
+    }
+    return out;
+}
+
+/* The view that starts at *at, which moves on behind it. */
+static uint8_t *put_view(uint8_t *out, const plain_record *record, const uint8_t **at)
+{
+    const plain_block skeleton = plain_block_at(*at + VIEW_HEADER - 2);
+    const plain_block index = plain_block_at(plain_block_end(skeleton));
+    const plain_block extended = plain_block_at(plain_block_end(index));
+    plain_reader reader = plain_reader_at(skeleton.bytes, 0);
+    uint32_t lines = 0;
+    out = put_tag(out, 2, VIEW_HEADER - 2);
+    out = put_bytes(out, *at, VIEW_HEADER - 2);
+    for (; reader.next < plain_block_end(skeleton); lines++) /* 8 or more bits are left */
+        out = put_line(out, record, &reader);
+    if (index.length > 0)
+        out = put_index(out, index, lines);
+    *at = plain_block_end(extended);
+    return put_segments(out, extended);
+}
+
+static void put_sheet(uint8_t *out, const plain_record *record)
+{
+    const uint8_t *at = record->bytes + HEADER;
+    out = put_tag(out, 1, 9);
+    out = put_bytes(out, record->bytes + 12, 2);
+    out = put_bytes(out, record->bytes + 15, 7);
+    for (uint32_t place = 0; place < record->views; place++)
+        out = put_view(out, record, &at);
+}
+
+fsk_answer plain_read(const uint8_t *record, size_t record_length, uint8_t *sheet,
+                      size_t sheet_length)
+{
+    plain_record judged;
+    const uint32_t number = plain_judge(record, record_length, 0, &judged);
+    if (number != 0)
+        return plain_refused(number);
+    if (judged.sheet_length > sheet_length)
+        return plain_refused(NO_ROOM);
+    put_sheet(sheet, &judged);
+    return (fsk_answer){0, 0, judged.sheet_length};
+}

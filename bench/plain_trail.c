@@ -1,0 +1,106 @@
+/*
+ * Looks something up in one view of a record: the trail of a line, and where a segment's payload
+ * is. Both judge the whole record first, and the judge hands them the view's blocks.
+ */
+#include "plain.h"
+
+/* A line's start direction, the count of its codes, and where they start. */
+typedef struct {
+    uint32_t direction, count;
+    plain_reader codes;
+} line_codes;
+
+/* The line with this number, which is below the view's count of lines. */
+static line_codes find_line(const plain_record *record, uint32_t number)
+{
+    const unsigned end_bits = record->end_bits;
+    const uint8_t *skeleton = record->view.skeleton.bytes;
+    size_t bit = 0;
+    plain_reader reader;
+    line_codes line;
+    for (; number > 0; number--) {
+        const uint32_t codes = plain_codes(skeleton, bit, end_bits);
+        bit += 2 * end_bits + COUNT_OF_CODES + (size_t)codes * record->k;
+    }
+    reader = plain_reader_at(skeleton, bit + 2);
+    line.direction = plain_take(&reader, record->b);
+    line.codes = plain_reader_at(skeleton, bit + end_bits);
+    line.count = plain_take(&line.codes, COUNT_OF_CODES);
+    return line;
+}
+
+/* How many elements the line draws: one for each code that is no level turn. */
+static size_t drawn(line_codes line, unsigned k)
+{
+    const uint32_t level_turn = 1u << (k - 1);
+    size_t elements = 0;
+    for (uint32_t i = 0; i < line.count; i++)
+        elements += plain_take(&line.codes, k) != level_turn;
+    return elements;
+}
+
+static size_t put_trail(uint8_t *trail, line_codes line, const plain_record *record)
+{
+    const unsigned k = record->k;
+    const int32_t level_turn = 1 << (k - 1);
+    const int32_t full_turn = 2 * record->bytes[21];
+    int32_t heading = (int32_t)line.direction * full_turn >> record->b;
+    int32_t level = 0;
+    size_t elements = 0;
+    for (uint32_t i = 0; i < line.count; i++) {
+        const int32_t code = (int32_t)plain_take(&line.codes, k);
+        if (code == level_turn) {
+            level ^= 1;
+            continue;
+        }
+        heading += (code ^ level_turn) - level_turn; /* as two's complement */
+        while (heading < 0)
+            heading += full_turn;
+        while (heading >= full_turn)
+            heading -= full_turn;
+        trail[2 * elements] = (uint8_t)((2 * heading + level) >> 8);
+        trail[2 * elements + 1] = (uint8_t)(2 * heading + level);
+        elements++;
+    }
+    return elements;
+}
+
+fsk_answer plain_trail(const uint8_t *record, size_t record_length, uint32_t view, uint32_t line,
+                       uint8_t *trail, size_t trail_length)
+{
+    const size_t room = trail_length / 2;
+    plain_record judged;
+    line_codes codes;
+    const uint32_t number = plain_judge(record, record_length, view, &judged);
+    if (number != 0)
+        return plain_refused(number);
+    if (view >= judged.views)
+        return plain_refused(NO_VIEW);
+    if (line >= judged.view.lines)
+        return plain_refused(NO_LINE);
+    codes = find_line(&judged, line);
+    /* Level turns need no room: they are counted only where the codes might not fit. */
+    if (codes.count > room && drawn(codes, judged.k) > room)
+        return plain_refused(NO_ROOM);
+    return (fsk_answer){0, 0, put_trail(trail, codes, &judged)};
+}
+
+fsk_answer plain_segment(const uint8_t *record, size_t record_length, uint32_t view,
+                         uint32_t segment)
+{
+    plain_record judged;
+    const uint8_t *at, *end;
+    const uint32_t number = plain_judge(record, record_length, view, &judged);
+    if (number != 0)
+        return plain_refused(number);
+    if (view >= judged.views)
+        return plain_refused(NO_VIEW);
+    at = judged.view.extended.bytes;
+    end = plain_block_end(judged.view.extended);
+    for (; segment > 0 && at < end; segment--)
+        at += plain_two_bytes(at + 2);
+    if (at == end)
+        return plain_refused(NO_SEGMENT);
+    return (fsk_answer){0, (uint32_t)(8 * (at + SEGMENT_HEADER - record)),
+                        plain_two_bytes(at + 2) - SEGMENT_HEADER};
+}

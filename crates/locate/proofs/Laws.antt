@@ -1,0 +1,11 @@
+-- The laws of an accepted record's parts and their places, by topic.
+pub mod InBytes
+pub mod Front
+pub mod Prefixed
+pub mod Blocks
+pub mod View
+pub mod Record
+pub mod Views
+pub mod Line
+pub mod Lines
+pub mod Segments

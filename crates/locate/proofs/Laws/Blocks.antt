@@ -1,0 +1,74 @@
+-- The blocks of a view, as code finds them. Code goes by the lengths that are read, so that each block ends where it finds.
+use mathlib.Core.Path.{_≡_, ap, sym, _∙_}
+use Prim.Native.Nat.{ℕ, _+_, _-_, _*_, _%_, _≤_}
+use native.Mathlib.Omega.{arith}
+use mathlib.Core.List.{List}
+use lib.ListN.{length}
+use Rattle.bits.specs.Bytes.{bitsOf}
+use Rattle.bits.specs.BytesLaws.{length-bitsOf}
+use Rattle.bits.specs.Block.{Block}
+use Rattle.bits.proofs.Laws.Parts.{part, part-length}
+use Rattle.format.specs.Limits.{mostLines}
+use Rattle.format.specs.Line.{Line, skeleton}
+use Rattle.format.specs.Index.{indexBlock}
+use Rattle.format.specs.Segments.{segments}
+use Rattle.format.specs.View.{View}
+use Rattle.format.specs.declared.Widths.{Widths}
+use Rattle.locate.specs.Stands.{BlockAt, BlocksAt}
+use Rattle.locate.specs.Finds.{BlockEnd, BlocksFound}
+use Rattle.locate.specs.declared.view.Blocks.{Blocks}
+use Rattle.locate.proofs.Laws.Prefixed.{block-end}
+
+-- the bytes that code cuts out for the block whose length is at byte b
+abbrev pub cut : List ℕ → ℕ → ℕ → List ℕ
+cut s b e = part s (b + 2) (e - (b + 2))
+
+module _ {A : Type 0} {w : Block A} {s : List ℕ} {b e : ℕ} {v : A} (h : BlockAt w s b e v) where
+  -- it is what its block writes
+  pub block-is : w .Fits v × (bitsOf (cut s b e) ≡ w .enc v)
+  block-is =
+      let l : length (bitsOf (cut s b e)) % 8 ≡ 0 = omega (arith, length-bitsOf (cut s b e)) in
+      w .back (bitsOf (cut s b e)) v l (h .value)
+
+  pub block-bits : length (w .enc v) ≡ 8 * (e - (b + 2))
+  block-bits =
+      ap length (sym (block-is .1)) ∙ length-bitsOf (cut s b e) ∙ ap (λ (n : ℕ). 8 * n) (part-length s (b + 2) (e - (b + 2)) (omega (arith, h .from, h .within)))
+
+pub few-lines : (w : Widths) {s : List ℕ} {b e : ℕ} {ls : List Line} → BlockAt (skeleton w) s b e ls → length ls ≤ 1024
+unfolding skeleton mostLines
+few-lines w h = block-is h .0 .most
+
+-- ---- i, j and e are where code finds that the blocks end
+
+module _ {w : Widths} {s : List ℕ} {b : ℕ} {v : View} {d : ℕ} (B : BlocksAt w s b v d) {i : ℕ} (I : BlockEnd s b i) where
+  pub index-is : i ≡ B .i
+  index-is = block-end (B .lines) I
+
+  -- the next length is there
+  pub index-next : i + 2 ≤ length s
+  index-next = omega (arith, index-is, B .index .from, B .index .within)
+
+  module _ {j : ℕ} (J : BlockEnd s i j) where
+    pub extended-is : j ≡ B .j
+    extended-is = block-end (B .index) (rw index-is at J)
+
+    pub extended-next : j + 2 ≤ length s
+    extended-next = omega (arith, extended-is, B .segments .from, B .segments .within)
+
+    pub end-is : {e : ℕ} → BlockEnd s j e → e ≡ d
+    end-is E = block-end (B .segments) (rw extended-is at E)
+
+-- ---- the blocks that code finds
+
+module _ {w : Widths} {s : List ℕ} {b : ℕ} {v : View} {d : ℕ} (B : BlocksAt w s b v d) {x : Blocks} (F : BlocksFound s b x) where
+  pub lines-here : BlockAt (skeleton w) s b (x .index) (v .lines)
+  lines-here = rw (F .is w v d B .0) (B .lines)
+
+  pub index-here : BlockAt (indexBlock (length (v .lines))) s (x .index) (x .extended) (v .index)
+  index-here = rw (F .is w v d B .0, F .is w v d B .1) (B .index)
+
+  pub segments-here : BlockAt segments s (x .extended) (x .end) (v .segments)
+  segments-here = rw (F .is w v d B .1, F .is w v d B .2) (B .segments)
+
+  pub behind-is : x .end ≡ d
+  behind-is = F .is w v d B .2
