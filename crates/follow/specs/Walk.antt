@@ -1,7 +1,7 @@
 -- What the walk along codes asks and leaves. "The trail is one 16-bit number for each drawn element."
 use mathlib.Core.Path.{_≡_}
 use Prim.Native.Nat.{ℕ, _+_, _*_, _≤_, _<_}
-use mathlib.Core.Bool.{Bool}
+use mathlib.Core.Bool.{Bool, false}
 use mathlib.Core.List.{List, [], _∷_, _++_}
 use lib.ListN.{length}
 use Rattle.bits.specs.Choice.{pick}
@@ -17,6 +17,10 @@ use Rattle.follow.specs.declared.Stepped.{Stepped}
 use Rattle.follow.specs.declared.Stepped.the-variants as s
 
 -- ---- one step
+
+-- "Each line starts at level 0."
+abbrev pub startAt : ℕ → Pen
+startAt heading = record { heading = heading; high = false }
 
 abbrev pub penOf : Stepped → Pen
 penOf (s.Drawn v p) = p

@@ -7,7 +7,7 @@ ghost use lib.ListN.{length};
 ghost use Rattle.lay.specs.Laid.{Laid};
 ghost use Rattle.lay.specs.HighFirst.{two, joined};
 ghost use Rattle.trail.specs.Trail.{turned, follow};
-ghost use Rattle.follow.specs.Walk.{elementAt, drawn, CodesThere, CanDraw, OfCodes, Steps};
+ghost use Rattle.follow.specs.Walk.{startAt, elementAt, drawn, CodesThere, CanDraw, OfCodes, Steps};
 use bits::Cursor;
 use bits::pow2;
 
@@ -15,6 +15,18 @@ use bits::pow2;
 pub struct Pen {
     pub heading: usize,
     pub high: bool,
+}
+
+impl Pen {
+    // Each line starts at level 0.
+    fn start(heading: usize) -> Self
+        ensures { λ r. ⌜ r ≡ startAt heading ⌝ }
+    {
+        Self {
+            heading,
+            high: false,
+        }
+    }
 }
 
 // What a code does: it draws an element, or turns the level.
@@ -103,10 +115,7 @@ pub fn trail_numbers(
     ensures { λ r. ⌜ OfCodes k n (now (s .entry)) (p .at) (λ codes. Laid (follow half k false heading codes) (now (out .entry)) (now (out .exit)) r) ⌝ }
 {
     let mut q = p;
-    let mut pen = Pen {
-        heading,
-        high: false,
-    };
+    let mut pen = Pen::start(heading);
     let mut at: usize = 0;
     let mut i: usize = 0;
     while i < n {
@@ -140,10 +149,7 @@ pub fn trail_bytes(
     ensures { λ r. ⌜ OfCodes k n (now (s .entry)) (p .at) (λ codes. Laid (joined two (follow half k false heading codes)) (now (out .entry)) (now (out .exit)) (2 * r)) ⌝ }
 {
     let mut q = p;
-    let mut pen = Pen {
-        heading,
-        high: false,
-    };
+    let mut pen = Pen::start(heading);
     let mut at: usize = 0;
     let mut i: usize = 0;
     while i < n {

@@ -2,7 +2,7 @@
 use mathlib.Core.Path.{_≡_, sym, ap, _∙_}
 use Prim.Native.Nat.{ℕ, _+_, _-_, _*_, _%_, _^_, _≤_, _<_}
 use native.Mathlib.Omega.{arith}
-use native.Mathlib.Nat.{add-mul, one-mul, mod-lt, mod-add-mod, add-mul-mod-self-left}
+use native.Mathlib.Nat.{add-mul, one-mul, mul-comm, mod-lt, mod-add-mod, add-mul-mod-self-left, mul-lt-mul-of-pos-right, lt-of-mul-lt-mul-right, div-mul-le-self}
 use mathlib.Core.Bool.{Bool, true, false, not}
 use mathlib.Core.List.{List, [], _∷_}
 use lib.Dec.{T, ltb}
@@ -11,7 +11,7 @@ use Rattle.bits.specs.ChoiceLaws.{pick-yes, pick-no, pick-case}
 use Rattle.bits.specs.Lists.{All}
 use Rattle.bits.specs.ListsLaws.{all-append}
 use Rattle.bits.specs.Bits.{val}
-use Rattle.trail.specs.Trail.{turnsLevel, turned, newHeading, follow}
+use Rattle.trail.specs.Trail.{firstHeading, turnsLevel, turned, newHeading, follow}
 
 -- a code that is not negative is added
 pub turned-up : (n k heading code : ℕ) → T (ltb code (2 ^ (k - 1))) → turned n k heading code ≡ (heading + code) % (2 * n)
@@ -32,6 +32,13 @@ heading-small : (n k heading code : ℕ) → 0 < n → heading < 2 * n → newHe
 heading-small n k heading code p h =
     let m : turned n k heading code < 2 * n = mod-lt _ (omega arith) in
     pick-case (λ (x : ℕ). x < 2 * n) (turnsLevel k code) _ _ (λ t. omega arith) (λ t. omega arith)
+
+-- the first heading is below 2N
+pub first-small : (n b direction : ℕ) → 0 < n → direction < 2 ^ b → firstHeading n b direction < 2 * n
+first-small n b direction p l =
+    let m : direction * (2 * n) < 2 ^ b * (2 * n) = mul-lt-mul-of-pos-right l (omega arith) in
+    let h : firstHeading n b direction * 2 ^ b < 2 * n * 2 ^ b = omega (arith, m, div-mul-le-self (direction * (2 * n)) (2 ^ b), mul-comm (2 ^ b) (2 * n)) in
+    lt-of-mul-lt-mul-right (2 ^ b) h
 
 -- every number of a trail is below 4N
 pub trail-small : (n k : ℕ) (high : Bool) (heading : ℕ) (codes : List ℕ) → 0 < n → heading < 2 * n → All (λ x. x < 4 * n) (follow n k high heading codes)

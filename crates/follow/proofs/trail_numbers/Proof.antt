@@ -18,17 +18,20 @@ Inv-loop out₀ s k n half heading q₀ pen₀ at₀ i₀ out q pen at i = Drawi
 abbrev μ-loop : tie.MeasureT-loop
 μ-loop out₀ s k n half heading q₀ pen₀ at₀ i₀ out q pen at i = n - i
 
+start-requires : tie.Need-start-requires Inv-loop μ-loop
+start-requires c κs = search needs
+
 loop-holds : tie.Need-loop-holds Inv-loop μ-loop
-loop-holds c = drawing-start refl (c .before .before .pre)
+loop-holds c = rw (c .start .ensures) (drawing-start refl (c .before .before .before .pre))
 
 sure-requires : tie.Need-sure-requires Inv-loop μ-loop
 sure-requires c κs =
-    let pre = c .before .before .before .before .pre .there in
+    let pre = c .before .before .before .before .before .pre .there in
     (pre .short, omega arith, code-there (pre .low) (c .loop-test .taken) (c .before .loop .inv .onward))
 
 step-requires : tie.Need-step-requires Inv-loop μ-loop
 step-requires c κs =
-    let pre = c .before .before .before .before .before .pre in
+    let pre = c .before .before .before .before .before .before .pre in
     (pre .there .low, pre .there .high, below badLine _ (c .sure .ensures .0 badLine), pre .some, pre .few, c .before .before .loop .inv .below)
 
 enum-known-stepped : tie.Need-enum-known-stepped Inv-loop μ-loop
@@ -38,7 +41,7 @@ enum-known-stepped c = search needs
 room : (c : tie.After-stepped Inv-loop μ-loop) → c .before .before .before .before .before .loop .at < length (c .before .before .before .before .before .loop .out)
 room c =
     let o = c .before .before .before .before .before .loop .inv in
-    let pre = c .before .before .before .before .before .before .before .before .pre in
+    let pre = c .before .before .before .before .before .before .before .before .before .pre in
     let st = rw (c .stepped .given .1) at (c .before .before .step .ensures) in
     let l = room-left o (c .before .before .before .before .loop-test .taken) (c .before .before .before .sure .ensures .0 badLine) st (pre .there) in
     omega (arith, pre .enough, o .same, o .laid .count)
@@ -91,6 +94,7 @@ trail-numbers-spec =
     (tie.spec
     Inv-loop
     μ-loop
+    start-requires
     loop-holds
     sure-requires
     step-requires

@@ -72,6 +72,18 @@ module _ (w : Widths) {s : List ℕ} {p : ℕ} {l : Line} {q : ℕ} (h : Reads (
       (ap (λ (x : ℕ). timesDec (field badLine (w .k)) x r2) (sym m) ∙ d7 ∙ ap (λ (x : List ℕ). got x r3) c)
       (d4 ∙ ap (λ (x : Line). got (x .finish) (drop q (bitsOf s))) e)
 
+-- an end's direction is behind its two bits of type
+pub direction-at : (w : Widths) {s : List ℕ} {p q : ℕ} {x : End} → Reads (end w .dec) s p (found x q) → p ≤ 8 * length s
+    → Reads (fieldDec badLine (w .b)) s (p + 2) (found (x .direction) (p + 2 + w .b))
+unfolding end
+direction-at w {s} {p} {q} {x} h i =
+    via-got _ _ (h .is) λ t d e.
+    then-got _ _ d λ r1 d1 d2.
+    then-got _ _ d2 λ r2 d3 d4.
+    let (h1, e1) = moved (field badLine 2) 2 i d1 (λ f. length-bits 2 (t .0)) in
+    let k = ap (fieldDec badLine (w .b)) (sym e1) ∙ d3 ∙ ap (λ (y : End). got (y .direction) r2) e in
+    moved (field badLine (w .b)) (w .b) (h1 .within) k (λ f. length-bits (w .b) (x .direction)) .0
+
 -- where code finds that it ends, by the count n
 pub line-ends : (w : Widths) {s : List ℕ} {p : ℕ} {l : Line} {q n z : ℕ} → Reads (line w .dec) s p (found l q) → Reads (fieldDec badLine 8) s (p + endBits w) (found n z)
     → p + endBits w + 8 + n * w .k + endBits w ≡ q

@@ -3,7 +3,7 @@ use mathlib.Core.Path.{_≡_, refl, sym, ap, _∙_}
 use Prim.Native.Nat.{ℕ, suc, _+_, _-_, _*_, _≤_, _<_}
 use native.Mathlib.Omega.{arith}
 use mathlib.Core.List.{List, [], _∷_}
-use lib.ListN.{length, drop}
+use lib.ListN.{length, drop, getD, length-drop}
 use Rattle.bits.specs.ChoiceLaws.{pick-no, split}
 use Rattle.bits.specs.ListsLaws.{first-left}
 use Rattle.bits.specs.Bits.{Bits}
@@ -21,7 +21,8 @@ use Rattle.format.specs.Limits.{mostLines}
 use Rattle.format.specs.Line.{Line, line, line-long, skeleton}
 use Rattle.format.specs.Places.{noLine}
 use Rattle.format.specs.declared.Widths.{Widths}
-use Rattle.locate.specs.Finds.{LineEnd, LinesLeft}
+use Rattle.locate.specs.Finds.{LineEnd, LinesLeft, LinesPassed}
+use Rattle.locate.specs.declared.Passed.{Passed}
 
 pub lines-first : {w : Widths} {s : List ℕ} {ls : List Line} {u : Bits} → skeleton w .dec (bitsOf s) ≡ got ls u → LinesLeft w s 0 0 ls u
 unfolding skeleton
@@ -89,3 +90,29 @@ past-next {w} {s} {n} {p} {q} past l e ls u h =
     let (k, _, o) = first-left ls n noLine (N .is) in
     let z : q ≡ N .behind = e .is (N .value) (N .behind) (N .reads) in
     (omega arith, rw (z, ← o) (N .further))
+
+-- ---- the line that code comes to, of those that the block has
+
+module _ {w : Widths} {s : List ℕ} {most : ℕ} {x : Passed} (P : LinesPassed w s most x) {ls : List Line} {u : Bits} (h : skeleton w .dec (bitsOf s) ≡ got ls u) where
+  pub passed-within : x .next ≤ 8 * length s
+  passed-within = P .is ls u h .1 .within
+
+  -- there is none
+  pub passed-all : 8 * length s - x .next < 8 → length ls ≤ most
+  passed-all l =
+      let e = lines-none (P .is ls u h .1) l in
+      omega (arith, P .upto, sym (length-drop (x .count) ls) ∙ ap length e)
+
+  -- there is
+  module _ (l : 8 ≤ 8 * length s - x .next) where
+    abbrev pub passed-next : LineNext w s (x .count) (x .next) (drop (x .count) ls) u
+    passed-next = line-next (P .is ls u h .1) l
+
+    passed-count : x .count ≡ most
+    passed-count =
+        split most (x .count)
+        (λ m. omega (arith, P .upto))
+        (λ m. absurd (omega (arith, P .all m)))
+
+    pub passed-there : (most < length ls) × (passed-next .value ≡ getD ls most noLine)
+    passed-there = let (k, v, _) = first-left ls (x .count) noLine (passed-next .is) in rw (← passed-count) (k, v)
