@@ -1,10 +1,13 @@
-// The reader of a record's header.
-ghost use mathlib.Core.Path.{_≡_};
-ghost use Prim.Native.Nat.{ℕ, _*_, _≤_};
+// The reader of a record's header, and of the scale in it. A field is judged as soon as it is read, so that the first one at fault
+// is the one refused.
+ghost use Prim.Native.Nat.{_*_, _≤_};
 ghost use lib.ListN.{length};
 ghost use Rattle.bits.specs.Reads.{Reads};
-ghost use Rattle.parts.specs.Answers.{headerAt, headerDec};
+ghost use Rattle.parts.specs.Answers.{headerAt, scaleAt, headerDec, scaleDec};
+use crate::ranged::RangedAt;
+use crate::ranged::ranged_at;
 use bits::Cursor;
+use bits::Taken;
 use format::Header;
 use format::Scale;
 use format::Widths;
@@ -13,6 +16,51 @@ use format::Widths;
 pub enum HeaderAt {
     At(Header, usize),
     Refused(u32, usize),
+}
+
+// A scale and the cursor behind it, or the place of the field outside its range.
+pub enum ScaleAt {
+    At(Scale, Cursor),
+    Outside(usize),
+}
+
+// The seven bytes at the cursor.
+fn scale_at(p: Cursor, s: &[u8]) -> ScaleAt
+    requires { ⌜ (length (now s) ≤ 65535) × (p .at ≤ 8 * length (now s)) ⌝ }
+    ensures { λ r. ⌜ Reads scaleDec (now (s .entry)) (p .at) (scaleAt r) ⌝ }
+{
+    let RangedAt::At(points, p1) = ranged_at(p, s, 1, 255) else {
+        return ScaleAt::Outside(p.at);
+    };
+    let RangedAt::At(c, p2) = ranged_at(p1, s, 1, 16) else {
+        return ScaleAt::Outside(p1.at);
+    };
+    let RangedAt::At(b, p3) = ranged_at(p2, s, 4, 8) else {
+        return ScaleAt::Outside(p2.at);
+    };
+    let RangedAt::At(k, p4) = ranged_at(p3, s, 2, 8) else {
+        return ScaleAt::Outside(p3.at);
+    };
+    let RangedAt::At(step, p5) = ranged_at(p4, s, 1, 255) else {
+        return ScaleAt::Outside(p4.at);
+    };
+    let Taken::Bits(ratio, p6) = p5.field(s, 8) else {
+        return ScaleAt::Outside(p5.at);
+    };
+    let RangedAt::At(half, p7) = ranged_at(p6, s, 1, 255) else {
+        return ScaleAt::Outside(p6.at);
+    };
+    let widths = Widths { c, b, k };
+    ScaleAt::At(
+        Scale {
+            points,
+            widths,
+            step,
+            ratio,
+            half,
+        },
+        p7,
+    )
 }
 
 pub fn header_at(s: &[u8]) -> HeaderAt
@@ -36,61 +84,20 @@ pub fn header_at(s: &[u8]) -> HeaderAt
     if views.value < 1 {
         return HeaderAt::Refused(5, 112);
     }
-    let points = views.next.sure(s, 8);
-    if points.value < 1 {
-        return HeaderAt::Refused(5, 120);
+    match scale_at(views.next, s) {
+        ScaleAt::Outside(p) => HeaderAt::Refused(5, p),
+        ScaleAt::At(scale, p) => {
+            let reserved = p.sure(s, 16);
+            if reserved.value != 0 {
+                return HeaderAt::Refused(5, 176);
+            }
+            HeaderAt::At(
+                Header {
+                    device: device.value,
+                    scale,
+                },
+                views.value,
+            )
+        }
     }
-    let c = points.next.sure(s, 8);
-    if c.value < 1 {
-        return HeaderAt::Refused(5, 128);
-    }
-    if 16 < c.value {
-        return HeaderAt::Refused(5, 128);
-    }
-    let b = c.next.sure(s, 8);
-    if b.value < 4 {
-        return HeaderAt::Refused(5, 136);
-    }
-    if 8 < b.value {
-        return HeaderAt::Refused(5, 136);
-    }
-    let k = b.next.sure(s, 8);
-    if k.value < 2 {
-        return HeaderAt::Refused(5, 144);
-    }
-    if 8 < k.value {
-        return HeaderAt::Refused(5, 144);
-    }
-    let step = k.next.sure(s, 8);
-    if step.value < 1 {
-        return HeaderAt::Refused(5, 152);
-    }
-    let ratio = step.next.sure(s, 8);
-    let half = ratio.next.sure(s, 8);
-    if half.value < 1 {
-        return HeaderAt::Refused(5, 168);
-    }
-    let reserved = half.next.sure(s, 16);
-    if reserved.value != 0 {
-        return HeaderAt::Refused(5, 176);
-    }
-    let widths = Widths {
-        c: c.value,
-        b: b.value,
-        k: k.value,
-    };
-    let scale = Scale {
-        points: points.value,
-        widths,
-        step: step.value,
-        ratio: ratio.value,
-        half: half.value,
-    };
-    HeaderAt::At(
-        Header {
-            device: device.value,
-            scale,
-        },
-        views.value,
-    )
 }

@@ -1,13 +1,17 @@
-// The judge of the neighbour index.
-ghost use mathlib.Core.Path.{_≡_};
-ghost use Prim.Native.Nat.{ℕ, _*_, _≤_};
+// The judge of the neighbour index: of its block by itself, which ends where the slice ends, and of the block behind its length in a
+// record.
+ghost use Prim.Native.Nat.{_*_, _≤_};
 ghost use lib.ListN.{length};
 ghost use Rattle.bits.specs.Reads.{Reads};
 ghost use Rattle.parts.specs.Answers.{judged, reached, indexDec, indexAtDec};
 use crate::Judged;
 use crate::Reached;
+use crate::block::BlockAt;
+use crate::block::block_at;
 use crate::line::Cleared;
 use crate::line::zeros_at;
+use crate::ranged::RangedAt;
+use crate::ranged::ranged_at;
 use bits::Cursor;
 use bits::Taken;
 
@@ -19,19 +23,13 @@ pub fn judge_index(s: &[u8], lines: usize) -> Judged
     if s.len() == 0 {
         return Judged::Fine(0);
     }
-    let Taken::Bits(w, first) = Cursor::start().field(s, 8) else {
+    let RangedAt::At(w, first) = ranged_at(Cursor::start(), s, 1, 16) else {
         return Judged::Refused(10, 0);
     };
-    if w < 1 {
-        return Judged::Refused(10, 0);
-    }
-    if 16 < w {
-        return Judged::Refused(10, 0);
-    }
     let mut p = first;
     let mut size: usize = 4;
     let mut l: usize = 0;
-    'lists: while l < lines {
+    while l < lines {
         let Taken::Bits(count, q) = p.field(s, w) else {
             return Judged::Refused(10, p.at);
         };
@@ -74,18 +72,11 @@ pub fn index_at(s: &[u8], a: usize, lines: usize) -> Reached
     requires { ⌜ (length (now s) ≤ 32768) × (a ≤ length (now s)) × (lines ≤ 1024) ⌝ }
     ensures { λ r. ⌜ Reads (indexAtDec lines) (now (s .entry)) (8 * a) (reached r) ⌝ }
 {
-    let at = 8 * a;
-    if s.len() - a < 2 {
-        return Reached::Refused(6, at);
-    }
-    let len = Cursor { at }.sure(s, 16).value;
-    let b = a + 2;
-    if s.len() - b < len {
-        return Reached::Refused(6, 8 * b);
-    }
-    let e = b + len;
-    match judge_index(&s[b..e], lines) {
-        Judged::Fine(size) => Reached::At(e, size),
-        Judged::Refused(x, q) => Reached::Refused(x, 8 * b + q),
+    match block_at(s, a) {
+        BlockAt::Past(p) => Reached::Refused(6, p),
+        BlockAt::At(b, e) => match judge_index(&s[b..e], lines) {
+            Judged::Fine(size) => Reached::At(e, size),
+            Judged::Refused(x, q) => Reached::Refused(x, 8 * b + q),
+        },
     }
 }

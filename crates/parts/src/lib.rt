@@ -1,8 +1,10 @@
 // Readers and judges of one part of a record each. A judge says how many bytes its part takes in the sheet, or the number of its
 // refusal and the place, in bits.
+mod block; // a block behind its length
 pub mod header; // the record's header
 pub mod index; // the neighbour index
 pub mod line; // the ends of a line, and zero bits
+mod ranged; // a byte with a range
 pub mod segments; // the extended data
 pub mod view; // a view's header
 

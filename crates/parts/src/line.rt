@@ -1,5 +1,4 @@
 // The ends of a line, and the zero bits behind the last.
-ghost use mathlib.Core.Path.{_≡_};
 ghost use Prim.Native.Nat.{ℕ, _*_, _≤_};
 ghost use lib.ListN.{length};
 ghost use Rattle.bits.specs.Block.{zerosDec};

@@ -1,11 +1,13 @@
-// The judge of the extended data.
-ghost use mathlib.Core.Path.{_≡_};
-ghost use Prim.Native.Nat.{ℕ, _*_, _≤_};
+// The judge of the extended data: of its block by itself, which ends where the slice ends, and of the block behind its length in a
+// record.
+ghost use Prim.Native.Nat.{_*_, _≤_};
 ghost use lib.ListN.{length};
 ghost use Rattle.bits.specs.Reads.{Reads};
 ghost use Rattle.parts.specs.Answers.{judged, reached, segmentsDec, segmentsAtDec};
 use crate::Judged;
 use crate::Reached;
+use crate::block::BlockAt;
+use crate::block::block_at;
 use bits::Cursor;
 
 // The block s.
@@ -42,18 +44,11 @@ pub fn segments_at(s: &[u8], a: usize) -> Reached
     requires { ⌜ (length (now s) ≤ 32768) × (a ≤ length (now s)) ⌝ }
     ensures { λ r. ⌜ Reads segmentsAtDec (now (s .entry)) (8 * a) (reached r) ⌝ }
 {
-    let at = 8 * a;
-    if s.len() - a < 2 {
-        return Reached::Refused(6, at);
-    }
-    let len = Cursor { at }.sure(s, 16).value;
-    let b = a + 2;
-    if s.len() - b < len {
-        return Reached::Refused(6, 8 * b);
-    }
-    let e = b + len;
-    match judge_segments(&s[b..e]) {
-        Judged::Fine(size) => Reached::At(e, size),
-        Judged::Refused(x, q) => Reached::Refused(x, 8 * b + q),
+    match block_at(s, a) {
+        BlockAt::Past(p) => Reached::Refused(6, p),
+        BlockAt::At(b, e) => match judge_segments(&s[b..e]) {
+            Judged::Fine(size) => Reached::At(e, size),
+            Judged::Refused(x, q) => Reached::Refused(x, 8 * b + q),
+        },
     }
 }

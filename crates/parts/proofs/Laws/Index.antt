@@ -11,7 +11,7 @@ use mathlib.Core.Option.{some}
 use mathlib.Core.List.{List, [], _∷_}
 use lib.ListN.{length, drop}
 use lib.Pow.{pow-mono}
-use Rattle.bits.specs.ChoiceLaws.{pick-yes, pick-no}
+use Rattle.bits.specs.ChoiceLaws.{pick-yes, pick-no, within-high}
 use Rattle.bits.specs.Bytes.{bitsOf}
 use Rattle.bits.specs.BytesLaws.{length-bitsOf}
 use Rattle.bits.specs.Codec.{Read, got, refused, next, fieldDec, alongDec}
@@ -71,6 +71,9 @@ pub count-small : {s : List ℕ} {w p k f : ℕ} → w ≤ 16 → Reads (fieldDe
 count-small {w = w} h K = let z : 2 ^ w ≤ 2 ^ 16 = pow-mono h in omega (arith, below badIndex w K)
 
 -- ---- the index: the block s, of n lines
+
+pub width-most : {s : List ℕ} {w p f : ℕ} → Reads (ranged badIndex 8 1 16 .dec) s p (found w f) → w ≤ 16
+width-most {w = w} h = within-high 1 16 w (ranged badIndex 8 1 16 .back _ w _ (h .is) .0 .1)
 
 pub index-none : (n : ℕ) (s : List ℕ) → length s ≡ 0 → Reads (indexDec n) s 0 (found 0 (8 * length s))
 unfolding indexDec indexBlock bitsOf

@@ -1,78 +1,58 @@
--- `parts::index::index_at` meets its contract: the length, then the part of the bytes that it says, which `judge_index` judges as a
--- block of its own.
+-- `parts::index::index_at` meets its contract: the block is found by `block_at`, and `judge_index` judges it by itself.
 use native.Mathlib.Omega.{arith}
-use Prim.Native.Nat.{ℕ, _-_, _+_}
-use mathlib.Core.Path.{_≡_, ap}
+use Prim.Native.Nat.{ℕ, _-_}
+use mathlib.Core.Path.{ap}
 use mathlib.Core.List.{List}
-use lib.ListN.{drop, length-take}
 use Rattle.bits.specs.Reads.{Reads, fault}
 use Rattle.bits.proofs.Laws.Reads.{known}
-use Rattle.bits.proofs.Laws.Parts.{part, behind-cut, behind-past, behind-bad, behind-good}
-use Rattle.outcome.specs.Refusals.{past}
+use Rattle.bits.proofs.Laws.Parts.{part}
 use Rattle.format.specs.Index.{indexBlock}
 use Rattle.format.specs.SheetSize.{indexSize}
-use Rattle.parts.specs.Answers.{judged, indexDec, indexAtDec}
+use Rattle.parts.specs.Answers.{judged, Whole, indexDec, indexAtDec}
+use Rattle.parts.proofs.Laws.Block.{told, block-length, block-cut, block-bad, block-good}
 use borrow.Author.Needs.{needs}
 use Rattle.parts.proofs.index.index_at.Statement.{statement}
 use Rattle.parts.proofs.index.index_at.Tie as tie
 
--- the block, as the code cuts it out
-abbrev block : tie.Else2 → List ℕ
-block c =
-    let a = c .before .before .before .before .args in
-    part (a .s .now) (a .a + 2) (a .a + 2 + c .before .sure .result .value - (a .a + 2))
+-- the block is found whole
+whole : (c : tie.After-b) → Whole (c .before .before .before .before .args .s .now) (c .before .before .before .before .args .a) (c .b .given .0 .0) (c .b .given .0 .1 .0)
+whole c = told _ _ (c .b .given .1) (c .before .before .block-at .ensures)
 
-block-is : (c : tie.Else2) → block c ≡ part (c .before .before .before .before .args .s .now) (c .before .before .before .before .args .a + 2) (c .before .sure .result .value)
-block-is c =
-    let a = c .before .before .before .before .args in
-    let e : a .a + 2 + c .before .sure .result .value - (a .a + 2) ≡ c .before .sure .result .value = omega arith in
-    ap (part (a .s .now) (a .a + 2)) e
+-- its bytes, as the code cuts them out
+abbrev block : tie.After-b → List ℕ
+block c = part (c .before .before .before .before .args .s .now) (c .b .given .0 .0) (c .b .given .0 .1 .0 - c .b .given .0 .0)
 
-judged-bad : (c : tie.After-x) → Reads (indexDec (c .before .before .before .before .before .before .before .before .args .lines)) (block (c .before .before .before .before)) 0 (fault (c .x .given .0 .0) (c .x .given .0 .1 .0))
-judged-bad c = known (ap (judged (block (c .before .before .before .before))) (c .x .given .1)) (c .before .before .judge-index .ensures)
+judged-bad : (c : tie.After-x) → Reads (indexDec (c .before .before .before .before .before .before .before .before .before .args .lines)) (block (c .before .before .before .before .before)) 0 (fault (c .x .given .0 .0) (c .x .given .0 .1 .0))
+judged-bad c = known (ap (judged (block (c .before .before .before .before .before))) (c .x .given .1)) (c .before .before .judge-index .ensures)
 
-mul-at : tie.Need-mul-at
-mul-at c = search needs
+block-at-requires : tie.Need-block-at-requires
+block-at-requires c κs = search needs
 
-sub-if1 : tie.Need-sub-if1
-sub-if1 c = search needs
+enum-known-p : tie.Need-enum-known-p
+enum-known-p c = search needs
 
-returns : tie.Need-returns
-unfolding indexAtDec
-returns c =
-    behind-cut (indexBlock (c .before .before .args .lines)) indexSize _ (c .before .before .args .a) (omega arith) (c .if1 .taken)
-
-sure-requires : tie.Need-sure-requires
-sure-requires c κs = search needs
-
-add-b : tie.Need-add-b
-add-b c = search needs
-
-sub-if2 : tie.Need-sub-if2
-sub-if2 c = search needs
-
-mul-t16 : tie.Need-mul-t16
-mul-t16 c = search needs
-
-returns-2 : tie.Need-returns-2
-unfolding indexAtDec
-returns-2 c =
-    behind-past (indexBlock (c .before .before .before .before .args .lines)) indexSize _ (c .before .before .before .before .args .a) _ _ (c .before .sure .ensures .0 past) (c .before .sure .ensures .1) (omega arith) (c .if2 .taken)
-
-add-e : tie.Need-add-e
-add-e c = search needs
+enum-known-b : tie.Need-enum-known-b
+enum-known-b c = search needs
 
 sub-judge-index : tie.Need-sub-judge-index
-sub-judge-index c = search needs
+sub-judge-index c =
+    let h = whole (c .before) in
+    omega (arith, h .ordered, h .within)
 
 part-judge-index-start : tie.Need-part-judge-index-start
-part-judge-index-start c = search needs
+part-judge-index-start c =
+    let h = whole (c .before) in
+    omega (arith, h .ordered, h .within)
 
 part-judge-index-end : tie.Need-part-judge-index-end
-part-judge-index-end c = search needs
+part-judge-index-end c =
+    let h = whole (c .before) in
+    omega (arith, h .ordered, h .within)
 
 judge-index-requires : tie.Need-judge-index-requires
-judge-index-requires c κs = search needs
+judge-index-requires c κs =
+    let h = whole (c .before .before) in
+    omega (arith, block-length h, h .within, c .before .before .before .before .before .before .pre)
 
 enum-known-size : tie.Need-enum-known-size
 enum-known-size c = search needs
@@ -80,48 +60,46 @@ enum-known-size c = search needs
 enum-known-x : tie.Need-enum-known-x
 enum-known-x c = search needs
 
-mul-t22 : tie.Need-mul-t22
-mul-t22 c = search needs
+mul-t18 : tie.Need-mul-t18
+mul-t18 c =
+    let h = whole (c .before .before .before .before .before .before) in
+    omega (arith, judged-bad (c .before) .within, block-length h, h .ordered, h .within, c .before .before .before .before .before .before .before .before .before .before .pre)
 
-add-t23 : tie.Need-add-t23
-add-t23 c =
-    let a = c .before .before .before .before .before .before .before .before .before .args in
-    let l = length-take (a .a + 2 + c .before .before .before .before .before .before .sure .result .value - (a .a + 2)) (drop (a .a + 2) (a .s .now)) in
-    omega (arith, judged-bad (c .before) .within, l, c .before .before .before .before .before .if2 .left)
+add-t19 : tie.Need-add-t19
+add-t19 c =
+    let h = whole (c .before .before .before .before .before .before) in
+    omega (arith, judged-bad (c .before) .within, block-length h, h .ordered, h .within, c .before .before .before .before .before .before .before .before .before .before .pre)
+
+returns : tie.Need-returns
+unfolding indexAtDec
+returns c =
+    block-cut (indexBlock (c .before .before .before .before .before .args .lines)) indexSize (omega arith) (told _ _ (c .before .p .given .1) (c .before .before .before .block-at .ensures))
+
+returns-2 : tie.Need-returns-2
+unfolding indexAtDec indexDec
+returns-2 c =
+    block-good (indexBlock (c .before .before .before .before .before .before .before .before .before .before .args .lines)) indexSize (whole (c .before .before .before .before .before .before)) (known (ap (judged (block (c .before .before .before .before .before .before))) (c .before .size .given .1)) (c .before .before .before .judge-index .ensures))
 
 returns-3 : tie.Need-returns-3
 unfolding indexAtDec indexDec
 returns-3 c =
-    let a = c .before .before .before .before .before .before .before .before .before .args in
-    behind-good (indexBlock (a .lines)) indexSize (a .s .now) (a .a) _ _ (c .before .before .before .before .before .before .sure .ensures .0 past) (c .before .before .before .before .before .before .sure .ensures .1) _ (block-is (c .before .before .before .before .before)) (omega (arith, c .before .before .before .before .before .if2 .left))
-    (known (ap (judged (block (c .before .before .before .before .before))) (c .before .size .given .1)) (c .before .before .before .judge-index .ensures))
-
-returns-4 : tie.Need-returns-4
-unfolding indexAtDec indexDec
-returns-4 c =
-    let a = c .before .before .before .before .before .before .before .before .before .args in
-    behind-bad (indexBlock (a .lines)) indexSize (a .s .now) (a .a) _ _ (c .before .before .before .before .before .before .sure .ensures .0 past) (c .before .before .before .before .before .before .sure .ensures .1) _ (block-is (c .before .before .before .before .before)) (omega (arith, c .before .before .before .before .before .if2 .left)) (judged-bad (c .before))
+    block-bad (indexBlock (c .before .before .before .before .before .before .before .before .before .before .args .lines)) indexSize (whole (c .before .before .before .before .before .before)) (judged-bad (c .before))
 
 pub index-at-spec : {M : Type 1} → statement M
 index-at-spec =
     tie.close
     (tie.spec
-    mul-at
-    sub-if1
-    returns
-    sure-requires
-    add-b
-    sub-if2
-    mul-t16
-    returns-2
-    add-e
+    block-at-requires
+    enum-known-p
+    enum-known-b
     sub-judge-index
     part-judge-index-start
     part-judge-index-end
     judge-index-requires
     enum-known-size
     enum-known-x
-    mul-t22
-    add-t23
-    returns-3
-    returns-4)
+    mul-t18
+    add-t19
+    returns
+    returns-2
+    returns-3)

@@ -1,79 +1,59 @@
--- `parts::segments::segments_at` meets its contract: the length, then the part of the bytes that it says, which `judge_segments` judges as a
--- block of its own.
+-- `parts::segments::segments_at` meets its contract: the block is found by `block_at`, and `judge_segments` judges it by itself.
 use native.Mathlib.Omega.{arith}
-use Prim.Native.Nat.{ℕ, _-_, _+_}
-use mathlib.Core.Path.{_≡_, ap}
+use Prim.Native.Nat.{ℕ, _-_}
+use mathlib.Core.Path.{ap}
 use mathlib.Core.List.{List}
-use lib.ListN.{drop, length-take}
 use Rattle.bits.specs.Lists.{total}
 use Rattle.bits.specs.Reads.{Reads, fault}
 use Rattle.bits.proofs.Laws.Reads.{known}
-use Rattle.bits.proofs.Laws.Parts.{part, behind-cut, behind-past, behind-bad, behind-good}
-use Rattle.outcome.specs.Refusals.{past}
+use Rattle.bits.proofs.Laws.Parts.{part}
 use Rattle.format.specs.Segments.{segments}
 use Rattle.format.specs.SheetSize.{segmentSize}
-use Rattle.parts.specs.Answers.{judged, segmentsDec, segmentsAtDec}
+use Rattle.parts.specs.Answers.{judged, Whole, segmentsDec, segmentsAtDec}
+use Rattle.parts.proofs.Laws.Block.{told, block-length, block-cut, block-bad, block-good}
 use borrow.Author.Needs.{needs}
 use Rattle.parts.proofs.segments.segments_at.Statement.{statement}
 use Rattle.parts.proofs.segments.segments_at.Tie as tie
 
--- the block, as the code cuts it out
-abbrev block : tie.Else2 → List ℕ
-block c =
-    let a = c .before .before .before .before .args in
-    part (a .s .now) (a .a + 2) (a .a + 2 + c .before .sure .result .value - (a .a + 2))
+-- the block is found whole
+whole : (c : tie.After-b) → Whole (c .before .before .before .before .args .s .now) (c .before .before .before .before .args .a) (c .b .given .0 .0) (c .b .given .0 .1 .0)
+whole c = told _ _ (c .b .given .1) (c .before .before .block-at .ensures)
 
-block-is : (c : tie.Else2) → block c ≡ part (c .before .before .before .before .args .s .now) (c .before .before .before .before .args .a + 2) (c .before .sure .result .value)
-block-is c =
-    let a = c .before .before .before .before .args in
-    let e : a .a + 2 + c .before .sure .result .value - (a .a + 2) ≡ c .before .sure .result .value = omega arith in
-    ap (part (a .s .now) (a .a + 2)) e
+-- its bytes, as the code cuts them out
+abbrev block : tie.After-b → List ℕ
+block c = part (c .before .before .before .before .args .s .now) (c .b .given .0 .0) (c .b .given .0 .1 .0 - c .b .given .0 .0)
 
-judged-bad : (c : tie.After-x) → Reads segmentsDec (block (c .before .before .before .before)) 0 (fault (c .x .given .0 .0) (c .x .given .0 .1 .0))
-judged-bad c = known (ap (judged (block (c .before .before .before .before))) (c .x .given .1)) (c .before .before .judge-segments .ensures)
+judged-bad : (c : tie.After-x) → Reads segmentsDec (block (c .before .before .before .before .before)) 0 (fault (c .x .given .0 .0) (c .x .given .0 .1 .0))
+judged-bad c = known (ap (judged (block (c .before .before .before .before .before))) (c .x .given .1)) (c .before .before .judge-segments .ensures)
 
-mul-at : tie.Need-mul-at
-mul-at c = search needs
+block-at-requires : tie.Need-block-at-requires
+block-at-requires c κs = search needs
 
-sub-if1 : tie.Need-sub-if1
-sub-if1 c = search needs
+enum-known-p : tie.Need-enum-known-p
+enum-known-p c = search needs
 
-returns : tie.Need-returns
-unfolding segmentsAtDec
-returns c =
-    behind-cut segments (total segmentSize) _ (c .before .before .args .a) (omega arith) (c .if1 .taken)
-
-sure-requires : tie.Need-sure-requires
-sure-requires c κs = search needs
-
-add-b : tie.Need-add-b
-add-b c = search needs
-
-sub-if2 : tie.Need-sub-if2
-sub-if2 c = search needs
-
-mul-t15 : tie.Need-mul-t15
-mul-t15 c = search needs
-
-returns-2 : tie.Need-returns-2
-unfolding segmentsAtDec
-returns-2 c =
-    behind-past segments (total segmentSize) _ (c .before .before .before .before .args .a) _ _ (c .before .sure .ensures .0 past) (c .before .sure .ensures .1) (omega arith) (c .if2 .taken)
-
-add-e : tie.Need-add-e
-add-e c = search needs
+enum-known-b : tie.Need-enum-known-b
+enum-known-b c = search needs
 
 sub-judge-segments : tie.Need-sub-judge-segments
-sub-judge-segments c = search needs
+sub-judge-segments c =
+    let h = whole (c .before) in
+    omega (arith, h .ordered, h .within)
 
 part-judge-segments-start : tie.Need-part-judge-segments-start
-part-judge-segments-start c = search needs
+part-judge-segments-start c =
+    let h = whole (c .before) in
+    omega (arith, h .ordered, h .within)
 
 part-judge-segments-end : tie.Need-part-judge-segments-end
-part-judge-segments-end c = search needs
+part-judge-segments-end c =
+    let h = whole (c .before) in
+    omega (arith, h .ordered, h .within)
 
 judge-segments-requires : tie.Need-judge-segments-requires
-judge-segments-requires c κs = search needs
+judge-segments-requires c κs =
+    let h = whole (c .before .before) in
+    omega (arith, block-length h, h .within, c .before .before .before .before .before .before .pre)
 
 enum-known-size : tie.Need-enum-known-size
 enum-known-size c = search needs
@@ -81,48 +61,46 @@ enum-known-size c = search needs
 enum-known-x : tie.Need-enum-known-x
 enum-known-x c = search needs
 
-mul-t21 : tie.Need-mul-t21
-mul-t21 c = search needs
+mul-t17 : tie.Need-mul-t17
+mul-t17 c =
+    let h = whole (c .before .before .before .before .before .before) in
+    omega (arith, judged-bad (c .before) .within, block-length h, h .ordered, h .within, c .before .before .before .before .before .before .before .before .before .before .pre)
 
-add-t22 : tie.Need-add-t22
-add-t22 c =
-    let a = c .before .before .before .before .before .before .before .before .before .args in
-    let l = length-take (a .a + 2 + c .before .before .before .before .before .before .sure .result .value - (a .a + 2)) (drop (a .a + 2) (a .s .now)) in
-    omega (arith, judged-bad (c .before) .within, l, c .before .before .before .before .before .if2 .left)
+add-t18 : tie.Need-add-t18
+add-t18 c =
+    let h = whole (c .before .before .before .before .before .before) in
+    omega (arith, judged-bad (c .before) .within, block-length h, h .ordered, h .within, c .before .before .before .before .before .before .before .before .before .before .pre)
+
+returns : tie.Need-returns
+unfolding segmentsAtDec
+returns c =
+    block-cut segments (total segmentSize) (omega arith) (told _ _ (c .before .p .given .1) (c .before .before .before .block-at .ensures))
+
+returns-2 : tie.Need-returns-2
+unfolding segmentsAtDec segmentsDec
+returns-2 c =
+    block-good segments (total segmentSize) (whole (c .before .before .before .before .before .before)) (known (ap (judged (block (c .before .before .before .before .before .before))) (c .before .size .given .1)) (c .before .before .before .judge-segments .ensures))
 
 returns-3 : tie.Need-returns-3
 unfolding segmentsAtDec segmentsDec
 returns-3 c =
-    let a = c .before .before .before .before .before .before .before .before .before .args in
-    behind-good segments (total segmentSize) (a .s .now) (a .a) _ _ (c .before .before .before .before .before .before .sure .ensures .0 past) (c .before .before .before .before .before .before .sure .ensures .1) _ (block-is (c .before .before .before .before .before)) (omega (arith, c .before .before .before .before .before .if2 .left))
-    (known (ap (judged (block (c .before .before .before .before .before))) (c .before .size .given .1)) (c .before .before .before .judge-segments .ensures))
-
-returns-4 : tie.Need-returns-4
-unfolding segmentsAtDec segmentsDec
-returns-4 c =
-    let a = c .before .before .before .before .before .before .before .before .before .args in
-    behind-bad segments (total segmentSize) (a .s .now) (a .a) _ _ (c .before .before .before .before .before .before .sure .ensures .0 past) (c .before .before .before .before .before .before .sure .ensures .1) _ (block-is (c .before .before .before .before .before)) (omega (arith, c .before .before .before .before .before .if2 .left)) (judged-bad (c .before))
+    block-bad segments (total segmentSize) (whole (c .before .before .before .before .before .before)) (judged-bad (c .before))
 
 pub segments-at-spec : {M : Type 1} → statement M
 segments-at-spec =
     tie.close
     (tie.spec
-    mul-at
-    sub-if1
-    returns
-    sure-requires
-    add-b
-    sub-if2
-    mul-t15
-    returns-2
-    add-e
+    block-at-requires
+    enum-known-p
+    enum-known-b
     sub-judge-segments
     part-judge-segments-start
     part-judge-segments-end
     judge-segments-requires
     enum-known-size
     enum-known-x
-    mul-t21
-    add-t22
-    returns-3
-    returns-4)
+    mul-t17
+    add-t18
+    returns
+    returns-2
+    returns-3)
