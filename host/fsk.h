@@ -24,7 +24,7 @@ extern "C" {
 /*
  * What a call answers.
  *   number  0: accepted. Anything else: refused, for the reason that the number names (below).
- *   place   0.
+ *   place   0, but for an accepted fsk_segment.
  *   length  accepted: how many elements were written to the output (what an element is, each call says). Refused: 0.
  * A refused call leaves the output as it was, to the byte. An accepted one leaves what lies beyond the written elements.
  */
@@ -50,8 +50,13 @@ typedef struct {
  *   10  a neighbour index breaks a rule
  *   11  a segment's length is under 4 or passes its block, or 1 to 3 bytes are left over
  *   12  there are bytes after the last view
+ * What is asked for:
+ *   13  the record has no view with that place
+ *   15  the view has no line with that number
+ *   23  the view has no segment with that place
  * The output:
  *   20  it is too short for what would be written
+ * A call that asks for something judges the record first, then 13, then 15 or 23, then 20.
  */
 enum {
     FSK_ACCEPTED = 0,
@@ -67,7 +72,10 @@ enum {
     FSK_BAD_INDEX = 10,
     FSK_BAD_SEGMENT = 11,
     FSK_BYTES_OVER = 12,
-    FSK_NO_ROOM = 20
+    FSK_NO_VIEW = 13,
+    FSK_BAD_LINES = 15,
+    FSK_NO_ROOM = 20,
+    FSK_NO_SEGMENT = 23
 };
 
 /*
@@ -85,6 +93,26 @@ enum {
  * Writes bytes. Refuses: 1 to 12, 20.
  */
 fsk_answer fsk_read(const uint8_t *record, size_t record_length, uint8_t *sheet, size_t sheet_length);
+
+/*
+ * The TRAIL of a line: how it runs, step by step. A line starts at its start direction, which is turned into a heading from 0 to
+ * 2N - 1 (N is the header's number of directions in a half turn), at level 0. Each of its codes turns the heading and draws an
+ * element there; but one code, that with only its top bit set, draws nothing and turns the level between 0 and 1. The trail has one
+ * 16-bit number for each element drawn: twice its heading plus its level. A line has at most 255 codes, so 510 bytes always suffice.
+ * view, line: counted from 0. Writes 16-bit numbers as bytes, high byte first: two bytes each. The answer's length counts the
+ * numbers, not the bytes. Where the output has an odd number of bytes, the last one stays as it was.
+ * Refuses: 1 to 12, 13, 15, 20.
+ */
+fsk_answer fsk_trail(const uint8_t *record, size_t record_length, uint32_t view, uint32_t line, uint8_t *trail,
+                     size_t trail_length);
+
+/*
+ * Where a SEGMENT of a view has its payload: the bytes behind its type and its length. Nothing is written or copied. Of an accepted
+ * answer, place is the payload's first bit, counted from the record's first, and length its bytes: the payload is
+ * record + place / 8, length bytes long.
+ * view, segment: counted from 0. Refuses: 1 to 12, 13, 23.
+ */
+fsk_answer fsk_segment(const uint8_t *record, size_t record_length, uint32_t view, uint32_t segment);
 
 #ifdef __cplusplus
 }

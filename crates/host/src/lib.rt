@@ -1,12 +1,22 @@
 // The calls that a host written in C links. Each is a call of the library under its C name; host/fsk.h explains them.
 ghost use Rattle.outcome.specs.Outcome.{Answers};
 ghost use Rattle.sheet.specs.Sheet.{reading};
+ghost use Rattle.trail.specs.Trail.{trailing};
+ghost use Rattle.trace.specs.Trace.{AnswersInBytes};
 use outcome::Answer;
 use reading::read;
+use trace::trail_as_bytes;
 
 #[no_mangle]
 pub extern "C" fn fsk_read(bytes: &[u8], sheet: &mut [u8]) -> Answer
     ensures { λ r. ⌜ Answers (reading (now (bytes .entry))) (now (sheet .entry)) (now (sheet .exit)) r ⌝ }
 {
     read(bytes, sheet)
+}
+
+#[no_mangle]
+pub extern "C" fn fsk_trail(bytes: &[u8], view: u32, line: u32, out: &mut [u8]) -> Answer
+    ensures { λ r. ⌜ AnswersInBytes (trailing view line (now (bytes .entry))) (now (out .entry)) (now (out .exit)) r ⌝ }
+{
+    trail_as_bytes(bytes, view as usize, line as usize, out)
 }
