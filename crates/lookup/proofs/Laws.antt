@@ -1,0 +1,2 @@
+-- The laws of what is looked up, by topic.
+pub mod Segment
