@@ -1,8 +1,11 @@
 // The calls that a host written in C links. Each is a call of the library under its C name; host/fsk.h explains them.
+ghost use mathlib.Core.Path.{_≡_};
 ghost use Rattle.outcome.specs.Outcome.{Answers};
 ghost use Rattle.sheet.specs.Sheet.{reading};
 ghost use Rattle.trail.specs.Trail.{trailing};
 ghost use Rattle.trace.specs.Trace.{AnswersInBytes};
+ghost use Rattle.lookup.specs.Segment.{segmentAnswer};
+use lookup::segment::segment;
 use outcome::Answer;
 use reading::read;
 use trace::trail_as_bytes;
@@ -19,4 +22,11 @@ pub extern "C" fn fsk_trail(bytes: &[u8], view: u32, line: u32, out: &mut [u8]) 
     ensures { λ r. ⌜ AnswersInBytes (trailing view line (now (bytes .entry))) (now (out .entry)) (now (out .exit)) r ⌝ }
 {
     trail_as_bytes(bytes, view as usize, line as usize, out)
+}
+
+#[no_mangle]
+pub extern "C" fn fsk_segment(bytes: &[u8], view: u32, place: u32) -> Answer
+    ensures { λ r. ⌜ r ≡ segmentAnswer view place (now (bytes .entry)) ⌝ }
+{
+    segment(bytes, view as usize, place as usize)
 }
