@@ -1,3 +1,4 @@
 pub mod Segment
 pub mod Finds
 pub mod Listing
+pub mod Counts

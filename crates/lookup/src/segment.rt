@@ -13,7 +13,7 @@ use locate::view::view_at;
 use outcome::Answer;
 
 // The payload's part of the record, from byte to byte; or the number of the refusal.
-pub enum Found {
+enum Found {
     At(usize, usize),
     Refused(u32),
 }

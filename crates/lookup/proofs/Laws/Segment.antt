@@ -4,14 +4,13 @@ use mathlib.Core.Path.{_≡_, sym, ap, ap₂, _∙_}
 use Prim.Native.Nat.{ℕ, _+_, _-_, _*_, _≤_, _<_}
 use native.Mathlib.Omega.{arith}
 use mathlib.Core.List.{List, []}
-use lib.ListN.{length, take, drop, length-drop, take-append-drop}
-use lib.Seq.{drop-drop, take-add, drop-at, take-take, length-take-le}
+use lib.ListN.{length, take, drop, length-drop}
 use lib.Dec.{ltb}
 use mir.Facts.{yes-ltb, no-ltb}
 use Rattle.bits.specs.Choice.{pick}
 use Rattle.bits.specs.ChoiceLaws.{pick-yes, pick-no, split}
 use Rattle.bits.specs.Lists.{All}
-use Rattle.bits.specs.ListsLaws.{all-front, all-rest, first-left}
+use Rattle.bits.specs.ListsLaws.{first-left}
 use Rattle.bits.specs.Bytes.{Byte}
 use Rattle.bits.specs.Codec.{got, fieldDec}
 use Rattle.bits.specs.Reads.{found, Reads}
@@ -36,25 +35,7 @@ use Rattle.locate.proofs.Laws.Segments.{SegmentAt, segment-next, segments-none,
 use Rattle.lookup.specs.Segment.{payloadIn, payload, bitsAhead, firstBit, firstBitRead, payloadOf, segmentAnswer}
 use Rattle.lookup.specs.Finds.{PayloadAt, Finds}
 use Rattle.lookup.specs.declared.segment.Found.the-variants as f
-
--- ---- a part of a part
-
-drop-take : (xs : List ℕ) (k m : ℕ) → k ≤ m → m ≤ length xs → drop k (take m xs) ≡ take (m - k) (drop k xs)
-drop-take xs k m h l =
-    let e : k + (m - k) ≡ m = omega arith in
-    ap (λ (j : ℕ). drop k (take j xs)) (sym e) ∙ ap (drop k) (take-add k (m - k) xs)
-    ∙ drop-at (take k xs) (take (m - k) (drop k xs)) k (length-take-le k xs (omega arith))
-
-part-part : (s : List ℕ) (a m k n : ℕ) → a + m ≤ length s → k + n ≤ m → part (part s a m) k n ≡ part s (a + k) n
-part-part s a m k n h l =
-    ap (take n) (drop-take (drop a s) k m (omega arith) (rw (length-drop a s) (omega arith)))
-    ∙ take-take n (m - k) (drop k (drop a s)) (omega arith)
-    ∙ ap (take n) (drop-drop k a s)
-
-part-bytes : (s : List ℕ) (a n : ℕ) → All Byte s → All Byte (part s a n)
-part-bytes s a n h =
-    let behind : All Byte (drop a s) = all-rest Byte (take a s) (drop a s) (rw (take-append-drop a s) h) in
-    all-front Byte (part s a n) (drop n (drop a s)) (rw (take-append-drop n (drop a s)) behind)
+use Rattle.lookup.proofs.Laws.Parts.{part-part, part-bytes}
 
 -- ---- the outcome on an accepted record
 
@@ -63,7 +44,7 @@ module _ (s : List ℕ) {r : Record} (e : read s ≡ got r []) (view place : ℕ
   unfolding payload
   outcome-is = call-is (payloadIn view place) s r e
 
-  pub no-view : length (r .views) ≤ view → payload view place s ≡ refused noView 0
+  no-view : length (r .views) ≤ view → payload view place s ≡ refused noView 0
   no-view l = outcome-is ∙ pick-no (ltb view (length (r .views))) _ _ (no-ltb {a = view} l)
 
   module _ (l : view < length (r .views)) where
@@ -155,7 +136,7 @@ module _ {s : List ℕ} {r : Record} (e : read s ≡ got r []) {view a : ℕ} (I
         bit-is : 8 * (x .extended + 2 + p .next + 4) ≡ firstBit view place r
         bit-is = omega (arith, extended-bits I F, left .2, ap (λ (n : ℕ). segmentBits (take n (viewAt r view .segments))) count-is)
 
-        -- the payload is n - 4 bytes of the block
+        -- its payload is a part of the record
         part-is : (n : ℕ) → n ≡ length (here .value .payload) → part s (x .extended + 2 + p .next + 4) n ≡ here .value .payload
         part-is n z =
             let E : ℕ = x .extended + 2 in
