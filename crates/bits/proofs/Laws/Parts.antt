@@ -7,14 +7,16 @@ use native.Mathlib.Nat.{lt-of-not-le}
 use mathlib.Core.Bool.{Bool}
 use mathlib.Core.Option.{some}
 use mathlib.Core.List.{List, [], _∷_, _++_}
-use lib.ListN.{length, take, drop, length-drop, length-take, drop-of-length-le}
-use lib.Seq.{drop-drop, drop-at, take-at, take-add, take-all}
+use lib.ListN.{length, take, drop, length-drop, length-take, drop-of-length-le, take-append-drop}
+use lib.Seq.{drop-drop, drop-at, take-at, take-add, take-all, take-take, length-take-le}
 use lib.Dec.{T, leb, le→leb}
 use mir.Facts.{no-leb}
 use Rattle.bits.specs.ChoiceLaws.{pick-yes, pick-no}
 use Rattle.bits.specs.Bits.{Bits, numberOf, bitsOfNumber}
 use Rattle.bits.specs.BitsLaws.{length-bits}
-use Rattle.bits.specs.Bytes.{bitsOf}
+use Rattle.bits.specs.Lists.{All}
+use Rattle.bits.specs.ListsLaws.{all-front, all-rest}
+use Rattle.bits.specs.Bytes.{Byte, bitsOf}
 use Rattle.bits.specs.BytesLaws.{length-bitsOf}
 use Rattle.bits.specs.Codec.{Read, got, refused, next, fieldDec, timesDec}
 use Rattle.bits.specs.CodecLaws.{field}
@@ -55,6 +57,20 @@ part-bits s b n = bits-take n (drop b s) ∙ ap (take (8 * n)) (bits-drop b s)
 
 pub part-length : (s : List ℕ) (b n : ℕ) → b + n ≤ length s → length (part s b n) ≡ n
 part-length s b n h = simp (length-take, length-drop) (omega arith)
+
+pub part-bytes : (s : List ℕ) (b n : ℕ) → All Byte s → All Byte (part s b n)
+part-bytes s b n h =
+    let behind : All Byte (drop b s) = all-rest Byte (take b s) (drop b s) (rw (take-append-drop b s) h) in
+    all-front Byte (part s b n) (drop n (drop b s)) (rw (take-append-drop n (drop b s)) behind)
+
+-- a part of a part
+pub part-part : (s : List ℕ) (b n k m : ℕ) → b + n ≤ length s → k + m ≤ n → part (part s b n) k m ≡ part s (b + k) m
+part-part s b n k m h l =
+    let e : k + (n - k) ≡ n = omega arith in
+    let z : drop k (part s b n) ≡ take (n - k) (drop k (drop b s)) =
+    ap (λ (j : ℕ). drop k (take j (drop b s))) (sym e) ∙ ap (drop k) (take-add k (n - k) (drop b s))
+    ∙ drop-at (take k (drop b s)) (take (n - k) (drop k (drop b s))) k (length-take-le k (drop b s) (rw (length-drop b s) (omega arith))) in
+    ap (take m) z ∙ take-take m (n - k) (drop k (drop b s)) (omega arith) ∙ ap (take m) (drop-drop k b s)
 
 module _ {A : Type 0} (w : Block A) (e n b : ℕ) (s : List ℕ) where
   rest-length : length (drop (8 * n) (drop (8 * b) (bitsOf s))) ≡ 8 * length s - 8 * b - 8 * n

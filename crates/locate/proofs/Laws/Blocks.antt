@@ -2,15 +2,18 @@
 use mathlib.Core.Path.{_≡_, ap, sym, _∙_}
 use Prim.Native.Nat.{ℕ, _+_, _-_, _*_, _%_, _≤_}
 use native.Mathlib.Omega.{arith}
-use mathlib.Core.List.{List}
+use mathlib.Core.Option.{Option, none}
+use mathlib.Core.List.{List, [], _∷_}
 use lib.ListN.{length}
+use Rattle.bits.specs.Bits.{Bits}
 use Rattle.bits.specs.Bytes.{bitsOf}
+use Rattle.bits.specs.Codec.{got}
 use Rattle.bits.specs.BytesLaws.{length-bitsOf}
 use Rattle.bits.specs.Block.{Block}
 use Rattle.bits.proofs.Laws.Parts.{part, part-length}
 use Rattle.format.specs.Limits.{mostLines}
 use Rattle.format.specs.Line.{Line, skeleton}
-use Rattle.format.specs.Index.{indexBlock}
+use Rattle.format.specs.Index.{Index, indexBlock}
 use Rattle.format.specs.Segments.{segments}
 use Rattle.format.specs.View.{View}
 use Rattle.format.specs.declared.Widths.{Widths}
@@ -37,6 +40,12 @@ module _ {A : Type 0} {w : Block A} {s : List ℕ} {b e : ℕ} {v : A} (h : Bloc
 pub few-lines : (w : Widths) {s : List ℕ} {b e : ℕ} {ls : List Line} → BlockAt (skeleton w) s b e ls → length ls ≤ 1024
 unfolding skeleton mostLines
 few-lines w h = block-is h .0 .most
+
+-- an empty index block has no index
+pub no-index : (lines : ℕ) (s : List ℕ) {o : Option Index} {u : Bits} → length s ≡ 0 → indexBlock lines .dec (bitsOf s) ≡ got o u → o ≡ none
+unfolding indexBlock bitsOf
+no-index lines [] h e = cc
+no-index lines (x ∷ s) h e = absurd (omega arith)
 
 -- ---- i, j and e are where code finds that the blocks end
 

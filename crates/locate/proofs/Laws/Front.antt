@@ -7,23 +7,19 @@ use mathlib.Core.List.{List, _++_}
 use lib.ListN.{length, take, drop, length-append, length-drop, take-append-drop}
 use lib.Seq.{take-at, drop-at, drop-drop}
 use Rattle.bits.specs.Lists.{All}
-use Rattle.bits.specs.ListsLaws.{all-front, all-rest}
+use Rattle.bits.specs.ListsLaws.{all-rest}
 use Rattle.bits.specs.Bits.{Bits}
 use Rattle.bits.specs.Bytes.{Byte, bitsOf, inBytes}
 use Rattle.bits.specs.BytesLaws.{length-bitsOf, in-bits}
-use Rattle.bits.proofs.Laws.Parts.{bits-drop, part, part-bits}
+use Rattle.bits.proofs.Laws.Parts.{bits-drop, part, part-bits, part-bytes}
 use Rattle.locate.proofs.Laws.InBytes.{Spells}
-
-part-all : (s : List ℕ) (a n : ℕ) → All Byte s → All Byte (part s a n)
-part-all s a n h =
-    all-front Byte (part s a n) (drop n (drop a s)) (rw (take-append-drop n (drop a s)) (all-rest Byte (take a s) (drop a s) (rw (take-append-drop a s) h)))
 
 pub spelled-part : (s : List ℕ) (a : ℕ) {xs : List ℕ} {t : Bits} (r : Bits) → All Byte s → Spells xs t → drop (8 * a) (bitsOf s) ≡ t ++ r → part s a (length xs) ≡ xs
 spelled-part s a {xs} {t} r h p e =
     let n : ℕ = length xs in
     let l : length t ≡ 8 * n = ap length (p .bits) ∙ length-bitsOf xs in
     let z : bitsOf (part s a n) ≡ bitsOf xs = part-bits s a n ∙ ap (take (8 * n)) e ∙ take-at t r (8 * n) l ∙ p .bits in
-    sym (in-bits (part s a n) (part-all s a n h)) ∙ ap inBytes z ∙ in-bits xs (p .bytes)
+    sym (in-bits (part s a n) (part-bytes s a n h)) ∙ ap inBytes z ∙ in-bits xs (p .bytes)
 
 -- the block s has the bytes xs at byte a, and r is what follows them
 pub record Front (s : List ℕ) (a : ℕ) (xs : List ℕ) (r : Bits) : Type 0 where

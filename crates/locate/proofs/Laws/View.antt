@@ -5,6 +5,8 @@ use Prim.Native.Nat.{ℕ, _+_, _*_, _≤_}
 use native.Mathlib.Omega.{arith}
 use mathlib.Core.List.{List}
 use lib.ListN.{length, drop, length-append}
+use lib.Dec.{leb, eqb, leb→le}
+use Rattle.bits.specs.ChoiceLaws.{pick-split}
 use Rattle.bits.specs.Bits.{Bits}
 use Rattle.bits.specs.BitsLaws.{length-bits}
 use Rattle.bits.specs.Bytes.{bitsOf}
@@ -64,3 +66,12 @@ view-apart w seen {s} {a} {v} {q} h =
       },
       place-is s q (8 * G .behind) (h .within) (omega (arith, G .block .within)) (G .follows),
     )
+
+-- its finger position is one of the eleven
+pub position-few : {w : Widths} {s : List ℕ} {a : ℕ} {v : View} → ViewAt w s a v → v .head .position ≤ 10
+position-few {s = s} {a = a} {v = v} x =
+    let h : ViewHeader = v .head in
+    let f = headFields badView (x .earlier) .back (drop (8 * a) (bitsOf s)) h (x .rest) (x .head) .0 in
+    pick-split (eqb (h .number) (x .earlier (h .position))) _ _ (f .right)
+    (λ t k. pick-split (leb (h .position) 10) _ _ k (λ u _. leb→le (h .position) 10 u) (λ u q. let z : _≡_ {A = ℕ} 0 1 = cc in absurd (omega arith)))
+    (λ t q. let z : _≡_ {A = ℕ} 0 1 = cc in absurd (omega arith))

@@ -104,11 +104,13 @@ module _ {r : Record} {s : List ℕ} {n p : ℕ} (h : Sought r s n p) (l : n < l
   pub view-in : ViewIn r s n p
   view-in = record { before = h .before; at = view-apart (r .head .scale .widths) (sought-next .seen) sought-reads .0 }
 
+  pub view-end : view-in .at .behind ≡ sought-next .behind
+  unfolding view-in
+  view-end = omega (arith, view-apart (r .head .scale .widths) (sought-next .seen) sought-reads .1)
+
   pub blocks-there : length s ≤ 32768 → BlocksThere s (p + 8)
   blocks-there k = record { short = k; widths = r .head .scale .widths; value = viewAt r n; behind = view-in .at .behind; blocks = view-in .at .blocks }
 
   -- where code finds that it ends
   pub sought-end : {x : Blocks} → BlocksFound s (p + 8) x → x .end ≡ sought-next .behind
-  sought-end f =
-      let (at, e) = view-apart (r .head .scale .widths) (sought-next .seen) sought-reads in
-      omega (arith, e, f .is (r .head .scale .widths) (viewAt r n) (at .behind) (at .blocks) .2)
+  sought-end f = f .is (r .head .scale .widths) (viewAt r n) (view-in .at .behind) (view-in .at .blocks) .2 ∙ view-end

@@ -5,7 +5,7 @@ use Prim.Native.Nat.{ℕ, suc, _+_, _*_, _%_, _≤_, _<_}
 use native.Mathlib.Omega.{arith}
 use native.Mathlib.Nat.{suc-mul, mul-le-mul-left}
 use native.Mathlib.Numerals.{add-one}
-use mathlib.Core.Option.{Option, none, some}
+use mathlib.Core.Option.{Option, some}
 use mathlib.Core.List.{List, [], _∷_, _++_, append-assoc}
 use lib.ListN.{length, drop, length-append}
 use Rattle.bits.specs.Lists.{Along, total}
@@ -27,12 +27,7 @@ use Rattle.lookup.proofs.Laws.Parts.{stands-behind, stands-within, numb
 
 -- ---- the block
 
--- an empty block has no index, another has one
-pub no-index : (lines : ℕ) (s : List ℕ) {o : Option Index} {u : Bits} → length s ≡ 0 → indexBlock lines .dec (bitsOf s) ≡ got o u → o ≡ none
-unfolding indexBlock bitsOf
-no-index lines [] h e = cc
-no-index lines (x ∷ s) h e = absurd (omega arith)
-
+-- a block that is not empty has an index
 pub an-index : {P : Type 0} (lines : ℕ) (s : List ℕ) {o : Option Index} {u : Bits} → 0 < length s → indexBlock lines .dec (bitsOf s) ≡ got o u
     → ((i : Index) → o ≡ some i → P) → P
 unfolding indexBlock

@@ -17,7 +17,7 @@ use Rattle.bits.specs.Bytes.{Byte, bitsOf}
 use Rattle.bits.specs.Codec.{fieldDec}
 use Rattle.bits.specs.Block.{Block}
 use Rattle.bits.specs.Reads.{found, Reads}
-use Rattle.bits.proofs.Laws.Parts.{part-length}
+use Rattle.bits.proofs.Laws.Parts.{part-length, part-bytes}
 use Rattle.outcome.specs.Refusals.{badView}
 use Rattle.format.specs.Line.{Line, skeleton}
 use Rattle.format.specs.Index.{Index, indexBlock}
@@ -28,13 +28,13 @@ use Rattle.locate.specs.Stands.{BlockAt, ViewAt}
 use Rattle.locate.specs.Finds.{BlocksThere, BlocksFound, LinesThere, LinesPassed, SegmentsThere, segmentBits, SegmentsPassed}
 use Rattle.locate.specs.declared.view.Blocks.{Blocks}
 use Rattle.locate.specs.declared.Passed.{Passed}
-use Rattle.locate.proofs.Laws.Blocks.{cut, few-lines, lines-here, index-here, segments-here}
+use Rattle.locate.proofs.Laws.Blocks.{cut, few-lines, lines-here, index-here, segments-here, no-index}
 use Rattle.locate.proofs.Laws.Lines.{lines-none}
 use Rattle.locate.proofs.Laws.Segments.{segments-none}
 use Rattle.lookup.specs.Listing.{Listed, listed}
 use Rattle.lookup.specs.Counts.{entries, IndexThere, PairsCounted, ListedThere, pairsOf}
-use Rattle.lookup.proofs.Laws.Parts.{part-bytes, stands-behind, number-there}
-use Rattle.lookup.proofs.Laws.Index.{no-index, an-index}
+use Rattle.lookup.proofs.Laws.Parts.{stands-behind, number-there}
+use Rattle.lookup.proofs.Laws.Index.{an-index}
 
 -- ---- the header's first two bytes
 

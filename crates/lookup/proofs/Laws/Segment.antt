@@ -14,7 +14,7 @@ use Rattle.bits.specs.ListsLaws.{first-left}
 use Rattle.bits.specs.Bytes.{Byte}
 use Rattle.bits.specs.Codec.{got, fieldDec}
 use Rattle.bits.specs.Reads.{found, Reads}
-use Rattle.bits.proofs.Laws.Parts.{part, part-length}
+use Rattle.bits.proofs.Laws.Parts.{part, part-length, part-bytes, part-part}
 use Rattle.outcome.specs.Refusals.{badSegment, noView, noSegment}
 use Rattle.outcome.specs.Outcome.{refused, given}
 use Rattle.outcome.proofs.Laws.{told-refused, told-given}
@@ -35,7 +35,6 @@ use Rattle.locate.proofs.Laws.Segments.{SegmentAt, segment-next, segments-none,
 use Rattle.lookup.specs.Segment.{payloadIn, payload, bitsAhead, firstBit, firstBitRead, payloadOf, segmentAnswer}
 use Rattle.lookup.specs.Finds.{PayloadAt, Finds}
 use Rattle.lookup.specs.declared.segment.Found.the-variants as f
-use Rattle.lookup.proofs.Laws.Parts.{part-part, part-bytes}
 
 -- ---- the outcome on an accepted record
 

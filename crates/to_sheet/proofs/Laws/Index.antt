@@ -5,7 +5,7 @@ use Prim.Native.Nat.{ℕ, suc, _+_, _-_, _*_, _≤_, _<_}
 use native.Mathlib.Omega.{arith}
 use native.Mathlib.Numerals.{add-one}
 use mathlib.Core.Bool.{Bool}
-use mathlib.Core.Option.{Option, none, some}
+use mathlib.Core.Option.{Option, some}
 use mathlib.Core.List.{List, [], _∷_, _++_, append-nil}
 use lib.ListN.{length, take, drop}
 use lib.Dec.{leb, leb→le}
@@ -149,11 +149,6 @@ list-at w lines l s p h e =
     record { value = ns; after = r; there = there; more = nss; is = is; next = rw (← add-one l) at more }
 
 -- ---- the block
-
-pub index-none : (lines : ℕ) (s : List ℕ) {o : Option Index} {u : Bits} → length s ≡ 0 → indexBlock lines .dec (bitsOf s) ≡ got o u → o ≡ none
-unfolding indexBlock bitsOf
-index-none lines [] h e = cc
-index-none lines (x ∷ s) h e = absurd (omega arith)
 
 -- the index in the block s: its width is the first byte, and its lists follow
 pub record IndexParts (lines : ℕ) (s : List ℕ) (o : Option Index) : Type 0 where

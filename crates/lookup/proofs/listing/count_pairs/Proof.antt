@@ -6,7 +6,8 @@ use lib.ListN.{length}
 use Rattle.bits.proofs.Laws.Reads.{at-place}
 use Rattle.outcome.specs.Refusals.{badIndex}
 use Rattle.lookup.specs.Counts.{entries}
-use Rattle.lookup.proofs.Laws.Index.{no-index, Counted, counted-none, counted-next, counted-within, count-there, counted-all}
+use Rattle.locate.proofs.Laws.Blocks.{no-index}
+use Rattle.lookup.proofs.Laws.Index.{Counted, counted-none, counted-next, counted-within, count-there, counted-all}
 use borrow.Author.Needs.{needs}
 use Rattle.lookup.proofs.listing.count_pairs.Statement.{statement}
 use Rattle.lookup.proofs.listing.count_pairs.Tie as tie

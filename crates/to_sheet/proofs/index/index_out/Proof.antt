@@ -14,7 +14,8 @@ use Rattle.lay.proofs.Laws.{laid-none, laid-next}
 use Rattle.outcome.specs.Refusals.{badIndex}
 use Rattle.format.specs.Index.{neighbours, up}
 use Rattle.format.specs.SheetSize.{listSize, indexSize}
-use Rattle.to_sheet.proofs.Laws.Index.{IndexParts, index-parts, index-none, one-value}
+use Rattle.locate.proofs.Laws.Blocks.{no-index}
+use Rattle.to_sheet.proofs.Laws.Index.{IndexParts, index-parts, one-value}
 use Rattle.to_sheet.specs.Bytes.{listBytes}
 use Rattle.to_sheet.proofs.Laws.Sizes.{joined-size, list-size}
 use Rattle.to_sheet.proofs.index.index_out.Statement.{statement}
@@ -50,7 +51,7 @@ laid-here c = one-value (lists (c .before .before .before .before .before .befor
 
 returns : tie.Need-returns
 returns c =
-    record { is = λ o u e. rw (index-none (c .before .before .before .args .lines) (c .before .before .before .args .s .now) (c .if1 .taken) e) (laid-none _) }
+    record { is = λ o u e. rw (no-index (c .before .before .before .args .lines) (c .before .before .before .args .s .now) (c .if1 .taken) e) (laid-none _) }
 
 start-requires : tie.Need-start-requires
 start-requires c κs = search needs

@@ -1,0 +1,8 @@
+// The listing of the record on standard input. One byte more than a record may have is read, so that a longer one is refused.
+use libc::STDIN_FILENO;
+
+fn main() {
+    let mut buffer = [0u8; 32769];
+    let n = io::read_full(STDIN_FILENO, &mut buffer);
+    print::listing(&buffer[..n]);
+}

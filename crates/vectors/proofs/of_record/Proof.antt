@@ -1,0 +1,66 @@
+-- View by view.
+use borrow.Author.Needs.{needs}
+use Prim.Native.Nat.{_-_, _≤_}
+use Rattle.vectors.proofs.of_record.Statement.{statement}
+use Rattle.vectors.proofs.of_record.Tie as tie
+
+abbrev Inv-loop : tie.InvT-loop
+Inv-loop s views view₀ view = view ≤ views
+
+abbrev μ-loop : tie.MeasureT-loop
+μ-loop s views view₀ view = views - view
+
+listing-requires : tie.Need-listing-requires Inv-loop μ-loop
+listing-requires c κs = search needs
+
+judge-requires : tie.Need-judge-requires Inv-loop μ-loop
+judge-requires c κs = search needs
+
+enum-known-views : tie.Need-enum-known-views Inv-loop μ-loop
+enum-known-views c = search needs
+
+enum-told : tie.Need-enum-told Inv-loop μ-loop
+enum-told c = search needs
+
+returns : tie.Need-returns Inv-loop μ-loop
+returns c = search needs
+
+sheet-requires : tie.Need-sheet-requires Inv-loop μ-loop
+sheet-requires c κs = search needs
+
+loop-holds : tie.Need-loop-holds Inv-loop μ-loop
+loop-holds c = search needs
+
+parts-of-requires : tie.Need-parts-of-requires Inv-loop μ-loop
+parts-of-requires c κs = search needs
+
+add-view : tie.Need-add-view Inv-loop μ-loop
+add-view c = search needs
+
+loop-less : tie.Need-loop-less Inv-loop μ-loop
+loop-less c = search needs
+
+loop-again : tie.Need-loop-again Inv-loop μ-loop
+loop-again c = search needs
+
+returns-2 : tie.Need-returns-2 Inv-loop μ-loop
+returns-2 c = search needs
+
+pub of-record-spec : {M : Type 1} → statement M
+of-record-spec =
+    tie.close
+    (tie.spec
+    Inv-loop
+    μ-loop
+    listing-requires
+    judge-requires
+    enum-known-views
+    enum-told
+    returns
+    sheet-requires
+    loop-holds
+    parts-of-requires
+    add-view
+    loop-less
+    loop-again
+    returns-2)

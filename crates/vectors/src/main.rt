@@ -1,0 +1,131 @@
+// Runs the library's calls on each file that an argument names, and prints what came of it: the listing, the sheet's length, the
+// trails of the first lines of each view and the lengths of its first segments.
+use judge::Verdict;
+use judge::judge;
+use lookup::segment::payload;
+use lookup::segment::segment;
+use print::number;
+use print::text;
+use reading::read;
+use trace::trail;
+
+fn sheet(s: &[u8]) {
+    let mut out = io::large_buffer();
+    let answer = read(s, &mut out);
+    text(b"sheet ");
+    if answer.number == 0 {
+        number(answer.length);
+        text(b"\n");
+    } else {
+        print::refused(answer.number);
+    }
+}
+
+// How a line of its own starts: what it is of, the view and the place.
+fn start(name: &[u8], view: usize, place: usize) {
+    text(name);
+    number(view);
+    text(b" ");
+    number(place);
+    text(b":");
+}
+
+fn wide(x: u16) -> usize {
+    x as usize
+}
+
+// The first numbers of a trail, so many.
+fn numbers(trail: &[u16], count: usize) {
+    let mut i: usize = 0;
+    while i < count && i < trail.len() {
+        text(b" ");
+        number(wide(trail[i]));
+        i += 1;
+    }
+}
+
+// Whether the view has that line.
+fn trail_of(s: &[u8], view: usize, line: usize) -> bool {
+    let mut out = [0u16; 255];
+    let answer = trail(s, view, line, &mut out);
+    if answer.number != 0 {
+        return false;
+    }
+    start(b"trail ", view, line);
+    numbers(&out, answer.length);
+    text(b"\n");
+    true
+}
+
+// Whether the view has that segment.
+fn segment_of(s: &[u8], view: usize, place: usize) -> bool {
+    let answer = segment(s, view, place);
+    if answer.number != 0 {
+        return false;
+    }
+    start(b"segment ", view, place);
+    let bytes = payload(s, view, place);
+    text(b" ");
+    number(bytes.len());
+    text(b" bytes\n");
+    true
+}
+
+fn parts_of(s: &[u8], view: usize) {
+    let mut line: usize = 0;
+    while line < 8 && trail_of(s, view, line) {
+        line += 1;
+    }
+    let mut place: usize = 0;
+    while place < 8 && segment_of(s, view, place) {
+        place += 1;
+    }
+}
+
+fn of_record(s: &[u8]) {
+    print::listing(s);
+    let Verdict::Accepted(_, views, _) = judge(s) else {
+        return;
+    };
+    sheet(s);
+    let mut view: usize = 0;
+    while view < views {
+        parts_of(s, view);
+        view += 1;
+    }
+}
+
+fn of_file(path: &[u8]) {
+    let fd = os::open_read(path);
+    if fd < 0 {
+        os::fail(path);
+        return;
+    }
+    let mut buffer = [0u8; 32769];
+    let n = io::read_full(fd, &mut buffer);
+    libc::close(fd);
+    text(path);
+    text(b"\n");
+    of_record(&buffer[..n]);
+}
+
+// Whether there is an argument of that number.
+fn one(i: usize) -> bool {
+    let mut path = io::buffer();
+    let length = os::arg(i, &mut path);
+    if os::errno() != 0 {
+        return false;
+    }
+    if length == 0 {
+        return false;
+    }
+    of_file(&path[..length]);
+    true
+}
+
+fn main() {
+    let mut i: usize = 1;
+    while i < 1000 && one(i) {
+        i += 1;
+    }
+}
