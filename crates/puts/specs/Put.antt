@@ -1,0 +1,25 @@
+-- What a writer of bits leaves in a lent buffer: its bits at the start, filled up to whole bytes, and the rest as it was. Writers
+-- are said to put bits behind any that were put before, so that their contracts chain.
+use mathlib.Core.Path.{_≡_}
+use Prim.Native.Nat.{ℕ, _+_, _*_, _^_, _≤_, _<_}
+use mathlib.Core.List.{List, _++_}
+use lib.ListN.{length, drop}
+use Rattle.bits.specs.Bits.{Bits, bitsOfNumber, filled}
+use Rattle.bits.specs.Bytes.{inBytes}
+
+-- the bits xs stand at the start of the buffer, filled up with zeros to a whole byte; behind that the buffer is as before
+pub record Put (xs : Bits) (before now : List ℕ) (at : ℕ) : Type 0 where
+  pub count : at ≡ length xs
+  pub is : now ≡ inBytes (filled xs) ++ drop (length (inBytes (filled xs))) before
+
+-- there is room for a number of so many bits at this place
+pub record CanPut (now : List ℕ) (at value width : ℕ) : Type 0 where
+  pub below : value < 2 ^ width
+  pub narrow : width ≤ 16
+  pub room : at + width ≤ 8 * length now
+  pub near : at + width ≤ 8 * 65535
+
+-- the number is put behind whatever bits were put, and the place is then r
+pub record PutMore (old : List ℕ) (at value width : ℕ) (now : List ℕ) (r : ℕ) : Type 0 where
+  pub is : (xs : Bits) (before : List ℕ) → Put xs before old at → Put (xs ++ bitsOfNumber width value) before now r
+  pub same : length now ≡ length old

@@ -1,0 +1,50 @@
+// Writers of bits, high bit first, at the start of a lent buffer, one number behind the other. The last byte begun is filled up
+// with zero bits, and what lies behind it stays.
+ghost use mathlib.Core.Path.{_≡_};
+ghost use mathlib.Core.List.{_++_};
+ghost use Prim.Native.Nat.{_+_, _-_, _*_, _/_, _^_, _≤_, _<_};
+ghost use lib.ListN.{length, take, drop};
+ghost use Rattle.lay.specs.HighFirst.{two};
+ghost use Rattle.puts.specs.Put.{CanPut, PutMore};
+use bits::wide;
+
+// Three bytes as one number: a byte up to its last `free` bits, then the number of `width` bits, then zeros.
+fn window(byte: usize, free: usize, value: usize, width: usize) -> usize
+    requires { ⌜ (byte < 256) × (1 ≤ free) × (free ≤ 8) × (value < 2 ^ width) × (width ≤ 16) ⌝ }
+    ensures { λ r. ⌜ r ≡ byte / 2 ^ free * 2 ^ (free + 16) + value * 2 ^ (free + 16 - width) ⌝ }
+{
+    let kept = byte >> free << free;
+    kept * 65536 + (value << (free + 16 - width))
+}
+
+// The number of `width` bits, put at place `at`; the answer is the place behind it. It reaches into three bytes at most.
+pub fn put_bits(out: &mut [u8], at: usize, value: usize, width: usize) -> usize
+    requires { ⌜ CanPut (now out) at value width ⌝ }
+    ensures { λ r. ⌜ PutMore (now (out .entry)) at value width (now (out .exit)) r ⌝ }
+{
+    if width == 0 {
+        return at;
+    }
+    let i = at / 8;
+    let free = 8 - at % 8;
+    let word = window(wide(out[i]), free, value, width);
+    out[i] = (word / 65536 % 256) as u8;
+    if width <= free {
+        return at + width;
+    }
+    out[i + 1] = (word / 256 % 256) as u8;
+    if width <= free + 8 {
+        return at + width;
+    }
+    out[i + 2] = (word % 256) as u8;
+    at + width
+}
+
+// A number of 16 bits, high byte first, over the bytes at place `at`: to patch a length in front of a block.
+pub fn put_two_at(out: &mut [u8], at: usize, value: usize)
+    requires { ⌜ (at + 2 ≤ length (now out)) × (value < 65536) ⌝ }
+    ensures { λ _. ⌜ now (out .exit) ≡ take at (now (out .entry)) ++ two value ++ drop (at + 2) (now (out .entry)) ⌝ }
+{
+    out[at] = (value / 256 % 256) as u8;
+    out[at + 1] = (value % 256) as u8;
+}
