@@ -25,11 +25,6 @@ pub put-none : (before : List ℕ) → Put [] before before 0
 unfolding bytesOf
 put-none before = record { count = refl; is = refl }
 
--- the place behind a number
-pub put-place : {xs : Bits} {before old now : List ℕ} {at value width r : ℕ} → Put xs before old at → PutMore old at value width now r → r ≡ at + width
-put-place {xs} {before} {value = value} {width = width} p q =
-    q .is xs before p .count ∙ length-append xs (bitsOfNumber width value) ∙ omega (arith, p .count, length-bits width value)
-
 -- a buffer keeps its length
 pub put-same : {xs : Bits} {before now : List ℕ} {at : ℕ} → Put xs before now at → at ≤ 8 * length before → length now ≡ length before
 put-same {xs} {before} p l =
@@ -132,9 +127,9 @@ module _ (now : List ℕ) (at value width byte word m : ℕ) (fits : value < 2 ^
       }
 
   pub put-more : PutMore now at value width (sets now (at / 8) (take m (three word))) (at + width)
-  put-more = record { is = λ xs before p. stored p; same = length-sets now (at / 8) (take m (three word)) }
+  put-more = record { is = λ xs before p. stored p; same = length-sets now (at / 8) (take m (three word)); place = refl }
 
 -- a number of no bits
 pub put-nothing : (now : List ℕ) (at value width : ℕ) → width ≡ 0 → PutMore now at value width now at
 unfolding bitsOfNumber
-put-nothing now at value width e = rw e (record { is = λ xs before p. rw append-nil p; same = refl })
+put-nothing now at value width e = rw e (record { is = λ xs before p. rw append-nil p; same = refl; place = omega arith })

@@ -23,3 +23,4 @@ pub record CanPut (now : List ℕ) (at value width : ℕ) : Type 0 where
 pub record PutMore (old : List ℕ) (at value width : ℕ) (now : List ℕ) (r : ℕ) : Type 0 where
   pub is : (xs : Bits) (before : List ℕ) → Put xs before old at → Put (xs ++ bitsOfNumber width value) before now r
   pub same : length now ≡ length old
+  pub place : r ≡ at + width
