@@ -20,11 +20,11 @@ use Rattle.format.specs.declared.End.{End}
 use Rattle.format.specs.declared.Widths.{Widths}
 use Rattle.locate.specs.Stands.{endBits}
 
-end-long : (w : Widths) (x : End) → length (end w .enc x) ≡ endBits w
+pub end-long : (w : Widths) (x : End) → length (end w .enc x) ≡ endBits w
 unfolding end
 end-long w x = simp (length-append, length-bits)
 
-codes-long : (e k : ℕ) (cs : List ℕ) → length (encAll (field e k) cs) ≡ length cs * k
+pub codes-long : (e k : ℕ) (cs : List ℕ) → length (encAll (field e k) cs) ≡ length cs * k
 codes-long e k [] = omega arith
 codes-long e k (x ∷ cs) = simp (length-append, length-bits) (omega (arith, codes-long e k cs, suc-mul (length cs) k))
 

@@ -1,0 +1,6 @@
+-- The laws of writing a record, by topic.
+pub mod Written
+pub mod Run
+pub mod Puts
+pub mod Line
+pub mod Segments

@@ -1,0 +1,4 @@
+pub mod Bytes
+pub mod Run
+pub mod Puts
+pub mod Outs

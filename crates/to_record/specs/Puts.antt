@@ -1,0 +1,89 @@
+-- What the writers of bits ask and leave: they put bits behind whatever bits were put before, so that what they leave chains; and
+-- what the lines of a sheet hold.
+use mathlib.Core.Path.{_≡_}
+use Prim.Native.Nat.{ℕ, _+_, _*_, _^_, _≤_, _<_}
+use mathlib.Core.List.{List, _++_, map}
+use lib.ListN.{length, take, drop}
+use Rattle.bits.specs.Lists.{All, total}
+use Rattle.bits.specs.Bits.{Bits, filled}
+use Rattle.bits.specs.Bytes.{inBytes}
+use Rattle.bits.specs.CodecLaws.{encAll, field}
+use Rattle.outcome.specs.Refusals.{badLine}
+use Rattle.lay.specs.Laid.{Laid}
+use Rattle.puts.specs.Put.{Put}
+use Rattle.format.specs.Line.{Line, FitsEnd, FitsLine, end, line}
+use Rattle.format.specs.declared.End.{End}
+use Rattle.format.specs.declared.Widths.{Widths}
+use Rattle.sheet.specs.Code.{extended}
+use Rattle.locate.specs.Stands.{Narrow, endBits}
+use Rattle.to_sheet.specs.Bytes.{endBytes}
+use Rattle.to_record.specs.Run.{RunAt}
+use Rattle.to_record.specs.declared.line.Lines.{Lines}
+
+-- ---- bits
+
+-- the bits are put behind any others, from place at to place r
+pub record Puts (bits : Bits) (old : List ℕ) (at : ℕ) (now : List ℕ) (r : ℕ) : Type 0 where
+  pub is : (xs : Bits) (before : List ℕ) → Put xs before old at → Put (xs ++ bits) before now r
+  pub same : length now ≡ length old
+  pub place : r ≡ at + length bits
+
+-- there is room for n bits at place at
+pub record Room (out : List ℕ) (at n : ℕ) : Type 0 where
+  pub room : at + n ≤ 8 * length out
+  pub near : at + n ≤ 8 * 65535
+
+-- ---- an end, at byte a of the value s
+
+pub record EndThere (w : Widths) (s : List ℕ) (a : ℕ) (out : List ℕ) (at : ℕ) : Type 0 where
+  pub narrow : Narrow w
+  pub there : a + 6 ≤ length s
+  pub value : End
+  pub fits : FitsEnd w value
+  pub held : take 6 (drop a s) ≡ endBytes value
+  pub room : Room out at (endBits w)
+
+pub record EndPut (w : Widths) (s : List ℕ) (a : ℕ) (old : List ℕ) (at : ℕ) (now : List ℕ) (r : ℕ) : Type 0 where
+  pub is : (e : End) → FitsEnd w e → take 6 (drop a s) ≡ endBytes e → Puts (end w .enc e) old at now r
+
+-- ---- codes of k bits, a byte each
+
+pub record CodesThere (k : ℕ) (s out : List ℕ) (at : ℕ) : Type 0 where
+  pub low : 1 ≤ k
+  pub high : k ≤ 8
+  pub value : List ℕ
+  pub fits : All (λ n. n < 2 ^ k) value
+  pub held : s ≡ map (extended k) value
+  pub room : Room out at (length value * k)
+
+pub record CodesPut (k : ℕ) (s old : List ℕ) (at : ℕ) (now : List ℕ) (r : ℕ) : Type 0 where
+  pub is : (cs : List ℕ) → All (λ n. n < 2 ^ k) cs → s ≡ map (extended k) cs → Puts (encAll (field badLine k) cs) old at now r
+
+-- ---- a line, whose field has the value s
+
+abbrev pub lineHeld : ℕ → Line → List ℕ
+lineHeld k l = endBytes (l .start) ++ (endBytes (l .finish) ++ map (extended k) (l .codes))
+
+pub record LineThere (w : Widths) (s out : List ℕ) (at : ℕ) : Type 0 where
+  pub narrow : Narrow w
+  pub value : Line
+  pub fits : FitsLine w value
+  pub held : s ≡ lineHeld (w .k) value
+  pub room : Room out at (length (line w .enc value))
+
+pub record LinePut (w : Widths) (s old : List ℕ) (at : ℕ) (now : List ℕ) (r : ℕ) : Type 0 where
+  pub is : (l : Line) → FitsLine w l → s ≡ lineHeld (w .k) l → Puts (line w .enc l) old at now r
+
+-- ---- the lines: fields 03 from byte a of the sheet s on
+
+pub record LinesThere (w : Widths) (s : List ℕ) (a : ℕ) (out : List ℕ) : Type 0 where
+  pub narrow : Narrow w
+  pub value : List Line
+  pub rest : List ℕ
+  pub run : RunAt 3 (lineHeld (w .k)) s a value rest
+  pub fits : All (FitsLine w) value
+  pub room : Room out 0 (total (λ l. length (line w .enc l)) value)
+
+pub record LinesPut (w : Widths) (s : List ℕ) (a : ℕ) (before after : List ℕ) (r : Lines) : Type 0 where
+  pub is : (ls : List Line) (rest : List ℕ) → RunAt 3 (lineHeld (w .k)) s a ls rest → All (FitsLine w) ls
+      → Laid (inBytes (filled (encAll (line w) ls))) before after (r .bytes) × (r .count ≡ length ls) × (drop (r .next) s ≡ rest)

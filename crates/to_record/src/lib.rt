@@ -1,0 +1,10 @@
+// A sheet's record, written after the sheet has been judged: block by block, each in the part of the lent buffer that starts where
+// the block before ended.
+mod line; // 03 fields: the skeleton block
+mod segments; // 06 fields: the extended block
+
+// The byte of the sheet behind the fields that were written, and how many bytes were written.
+pub struct Done {
+    pub next: usize,
+    pub bytes: usize,
+}
