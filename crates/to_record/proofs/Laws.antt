@@ -3,4 +3,5 @@ pub mod Written
 pub mod Run
 pub mod Puts
 pub mod Line
+pub mod Index
 pub mod Segments

@@ -1,4 +1,5 @@
 pub mod Bytes
 pub mod Run
 pub mod Puts
+pub mod Lists
 pub mod Outs

@@ -1,5 +1,6 @@
 // A sheet's record, written after the sheet has been judged: block by block, each in the part of the lent buffer that starts where
 // the block before ended.
+mod index; // 04 and 05 fields: the index block
 mod line; // 03 fields: the skeleton block
 mod segments; // 06 fields: the extended block
 
