@@ -12,12 +12,12 @@ use Rattle.bits.specs.Codec.{Read, fieldDec}
 use Rattle.bits.specs.SizedLaws.{prefixed}
 use Rattle.bits.specs.Lists.{total}
 use Rattle.bits.specs.Reads.{Found, found, fault, Reads, kept}
-use Rattle.outcome.specs.Refusals.{past, badHeader, badLine}
+use Rattle.outcome.specs.Refusals.{past, badLine}
 use Rattle.format.specs.Line.{end}
 use Rattle.format.specs.Index.{indexBlock}
 use Rattle.format.specs.Segments.{segments}
 use Rattle.format.specs.View.{viewHeader}
-use Rattle.format.specs.Record.{scale, header}
+use Rattle.format.specs.Record.{header}
 use Rattle.format.specs.SheetSize.{indexSize, segmentSize}
 use Rattle.format.specs.declared.Widths.{Widths}
 use Rattle.format.specs.declared.End.{End}
@@ -38,6 +38,8 @@ use Rattle.parts.specs.declared.line.Cleared.{Cleared}
 use Rattle.parts.specs.declared.line.Cleared.the-variants as c
 use Rattle.parts.specs.declared.view.Headed.{Headed}
 use Rattle.parts.specs.declared.view.Headed.the-variants as h
+use Rattle.parts.specs.declared.view.FieldsAt.{FieldsAt}
+use Rattle.parts.specs.declared.view.FieldsAt.the-variants as v
 use Rattle.parts.specs.declared.header.ScaleAt.{ScaleAt}
 use Rattle.parts.specs.declared.header.ScaleAt.the-variants as f
 use Rattle.parts.specs.declared.header.HeaderAt.{HeaderAt}
@@ -67,13 +69,18 @@ abbrev pub cleared : ℕ → List ℕ → Cleared → Found (Unit {0})
 cleared n s c.All = found tt (8 * length s)
 cleared n s (c.One p) = fault n p
 
+-- n is the refusal of a value
+abbrev pub fieldsAt : ℕ → FieldsAt → Found ViewHeader
+fieldsAt n (v.At x p) = found x (p .at)
+fieldsAt n (v.Wrong p) = fault n p
+
 abbrev pub headAt : ℕ → Headed → Found (ViewHeader × ℕ)
 headAt a (h.At x n) = found (x, n) (8 * a + 80)
 headAt a (h.Refused e p) = fault e p
 
-abbrev pub scaleAt : ScaleAt → Found Scale
-scaleAt (f.At x p) = found x (p .at)
-scaleAt (f.Outside p) = fault badHeader p
+abbrev pub scaleAt : ℕ → ScaleAt → Found Scale
+scaleAt n (f.At x p) = found x (p .at)
+scaleAt n (f.Outside p) = fault n p
 
 abbrev pub headerAt : HeaderAt → Found (Header × ℕ)
 headerAt (g.At x n) = found (x, n) 192
@@ -121,9 +128,6 @@ earlierOf seen p = pick (leb p 10) (getD seen p 0) 0
 
 unfoldable pub headDec : List ℕ → Bits → Read Bool (ViewHeader × ℕ)
 headDec seen s = viewHeader (earlierOf seen) .dec s
-
-unfoldable pub scaleDec : Bits → Read Bool Scale
-scaleDec s = scale badHeader .dec s
 
 unfoldable pub headerDec : ℕ → Bits → Read Bool (Header × ℕ)
 headerDec n s = header n .dec s

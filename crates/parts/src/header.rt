@@ -1,9 +1,10 @@
 // The reader of a record's header, and of the scale in it. A field is judged as soon as it is read, so that the first one at fault
 // is the one refused.
-ghost use Prim.Native.Nat.{_*_, _≤_};
+ghost use Prim.Native.Nat.{ℕ, _*_, _≤_};
 ghost use lib.ListN.{length};
 ghost use Rattle.bits.specs.Reads.{Reads};
-ghost use Rattle.parts.specs.Answers.{headerAt, scaleAt, headerDec, scaleDec};
+ghost use Rattle.format.specs.Record.{scale};
+ghost use Rattle.parts.specs.Answers.{headerAt, scaleAt, headerDec};
 use crate::ranged::RangedAt;
 use crate::ranged::ranged_at;
 use bits::Cursor;
@@ -24,10 +25,10 @@ pub enum ScaleAt {
     Outside(usize),
 }
 
-// The seven bytes at the cursor.
-fn scale_at(p: Cursor, s: &[u8]) -> ScaleAt
+// The seven bytes at the cursor; a sheet has them too, with a refusal of its own.
+pub fn scale_at(p: Cursor, s: &[u8]) -> ScaleAt
     requires { ⌜ (length (now s) ≤ 65535) × (p .at ≤ 8 * length (now s)) ⌝ }
-    ensures { λ r. ⌜ Reads scaleDec (now (s .entry)) (p .at) (scaleAt r) ⌝ }
+    ensures { λ r. ⌜ ((e : ℕ) → Reads (scale e .dec) (now (s .entry)) (p .at) (scaleAt e r)) ⌝ }
 {
     let RangedAt::At(points, p1) = ranged_at(p, s, 1, 255) else {
         return ScaleAt::Outside(p.at);

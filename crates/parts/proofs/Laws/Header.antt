@@ -1,18 +1,17 @@
--- What the reader of a record's header knows of places: a field at a place that is a number, and the seven bytes of a scale.
-use mathlib.Core.Path.{_≡_, sym, ap, _∙_}
-use Prim.Native.Nat.{ℕ, _+_, _-_, _*_, _≤_}
-use native.Mathlib.Omega.{arith}
+-- What the readers of the headers know of places: a field at a place that is a number, and what always takes as many bits, as the
+-- seven bytes of a scale do.
+use mathlib.Core.Path.{_≡_, ap, _∙_}
+use Prim.Native.Nat.{ℕ, _+_, _*_, _≤_}
+use mathlib.Core.Bool.{Bool}
 use mathlib.Core.List.{List}
-use lib.ListN.{length, drop, length-append}
+use lib.ListN.{length, length-append}
 use Rattle.bits.specs.BitsLaws.{length-bits}
-use Rattle.bits.specs.Bytes.{bitsOf}
-use Rattle.bits.specs.Codec.{fieldDec}
+use Rattle.bits.specs.Codec.{Codec, fieldDec}
 use Rattle.bits.specs.Reads.{Reads, found}
-use Rattle.bits.proofs.Laws.Reads.{length-rest, at-place, up-to}
-use Rattle.outcome.specs.Refusals.{badHeader}
+use Rattle.bits.proofs.Laws.Reads.{at-place, up-to}
+use Rattle.bits.proofs.Laws.Apart.{same, moved}
 use Rattle.format.specs.Record.{scale}
 use Rattle.format.specs.declared.Scale.{Scale}
-use Rattle.parts.specs.Answers.{scaleDec}
 
 -- the field of n bits at place p has the value v, and the place behind it is q
 pub record FieldAt (s : List ℕ) (p n v q : ℕ) : Type 0 where
@@ -26,11 +25,10 @@ field-from {s} {c} {p} {n} {v} {q} z h =
     let k : (e : ℕ) → Reads (fieldDec e n) s p (found v (p + n)) = λ e. up-to y (at-place z (h .0 e)) in
     record { read = k; behind = y }
 
-pub scale-behind : {s : List ℕ} {p q : ℕ} {x : Scale} → p ≤ 8 * length s → Reads scaleDec s p (found x q) → q ≡ p + 56
-unfolding scaleDec
-scale-behind {s} {p} {q} {x} i h =
-    let g = scale badHeader .back (drop p (bitsOf s)) x (drop q (bitsOf s)) (h .is) .1 in
-    let l : length (scale badHeader .enc x) ≡ 56 = simp (length-append, length-bits) in
-    let z : 8 * length s - p ≡ length (scale badHeader .enc x) + (8 * length s - q) =
-    sym (length-rest s p) ∙ ap length g ∙ length-append (scale badHeader .enc x) (drop q (bitsOf s)) ∙ ap (λ (m : ℕ). length (scale badHeader .enc x) + m) (length-rest s q) in
-    omega (arith, z, l, i, h .within)
+-- what always takes n bits ends n bits on
+pub behind : {A : Type 0} (c : Codec Bool A) (n : ℕ) → ((a : A) → length (c .enc a) ≡ n) → {s : List ℕ} {p q : ℕ} {x : A} → p ≤ 8 * length s
+    → Reads (c .dec) s p (found x q) → q ≡ p + n
+behind c n l {x = x} i h = same h (moved c n i (h .is) (λ f. l x) .0) .1
+
+pub scale-behind : (e : ℕ) {s : List ℕ} {p q : ℕ} {x : Scale} → p ≤ 8 * length s → Reads (scale e .dec) s p (found x q) → q ≡ p + 56
+scale-behind e i h = behind (scale e) 56 (λ x. simp (length-append, length-bits)) i h

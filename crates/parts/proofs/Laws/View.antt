@@ -7,13 +7,16 @@ use borrow.Author.Tests.{lt-leb, le-leb, eq-eqb, ne-eqb}
 use mathlib.Core.Bool.{Bool, true, false, not}
 use mathlib.Core.Option.{none, some}
 use mathlib.Core.List.{List}
-use lib.ListN.{length}
+use lib.ListN.{length, length-append}
+use Rattle.bits.specs.BitsLaws.{length-bits}
 use Rattle.bits.specs.Codec.{Codec, fieldDec}
 use Rattle.bits.specs.CodecLaws.{field, then}
 use Rattle.bits.specs.Reads.{found, fault, Reads}
 use Rattle.bits.proofs.Laws.Reads.{go-on, stop, made, fine, flawed, room-there, room-past}
 use Rattle.outcome.specs.Refusals.{past, badView}
-use Rattle.format.specs.View.{viewHeader, headFault, impressionOk}
+use Rattle.format.specs.View.{headFields, viewHeader, headFault, impressionOk}
+use Rattle.format.specs.declared.ViewHeader.{ViewHeader}
+use Rattle.parts.proofs.Laws.Header.{behind}
 
 -- ---- the first number that is not right
 
@@ -43,27 +46,39 @@ pub not-is : (b : Bool) {d : Bool} → not b ≡ d → b ≡ not d
 not-is true e = ap not e
 not-is false e = ap not e
 
--- ---- the header at place p
+-- ---- the header's fields at place p; e is the refusal of a value
+
+module _ (f : ℕ → ℕ) (s : List ℕ) (p e : ℕ) (i : p + 64 ≤ 8 * length s) {n p1 po p2 im p3 q p4 : ℕ}
+    (N : Reads (fieldDec e 8) s p (found n p1)) (P : Reads (fieldDec e 8) s p1 (found po p2))
+    (I : Reads (fieldDec e 8) s p2 (found im p3)) (Q : Reads (fieldDec e 8) s p3 (found q p4)) where
+  abbrev four : Codec Bool (ℕ × (ℕ × (ℕ × ℕ)))
+  four = then (field e 8) λ _. then (field e 8) λ _. then (field e 8) λ _. field e 8
+
+  fours : Reads (four .dec) s p (found (n, (po, (im, q))) p4)
+  fours = go-on _ _ N (go-on _ _ P (go-on _ _ I Q))
+
+  pub fields-bad : (k : ℕ) → k ≤ 64 → headFault f (n, (po, (im, q))) ≡ some k → Reads (headFields e f .dec) s p (fault e (p + k))
+  fields-bad k l z = made _ _ (stop _ _ (flawed four e (headFault f) k (omega arith) fours z))
+
+  pub fields-good : {w p5 h p6 : ℕ} → headFault f (n, (po, (im, q))) ≡ none → Reads (fieldDec e 16) s p4 (found w p5) → Reads (fieldDec e 16) s p5 (found h p6)
+      → Reads (headFields e f .dec) s p (found (record { number = n; position = po; impression = im; quality = q; width = w; height = h }) p6)
+  fields-good z W H = made _ _ (go-on _ _ (fine four e (headFault f) fours z) (go-on _ _ W H))
+
+pub fields-behind : (e : ℕ) (f : ℕ → ℕ) {s : List ℕ} {p q : ℕ} {x : ViewHeader} → p ≤ 8 * length s → Reads (headFields e f .dec) s p (found x q) → q ≡ p + 64
+fields-behind e f i h = behind (headFields e f) 64 (λ x. simp (length-append, length-bits)) i h
+
+-- ---- the header at place p: the fields, then the skeleton's length
 
 pub head-short : (f : ℕ → ℕ) (s : List ℕ) (p : ℕ) → p ≤ 8 * length s → 8 * length s - p < 80 → Reads (viewHeader f .dec) s p (fault past p)
 unfolding viewHeader
 head-short f s p i h = room-past _ past 80 i h
 
-abbrev four : Codec Bool (ℕ × (ℕ × (ℕ × ℕ)))
-four = then (field badView 8) λ _. then (field badView 8) λ _. then (field badView 8) λ _. field badView 8
-
-module _ (f : ℕ → ℕ) (s : List ℕ) (p : ℕ) (i : p + 80 ≤ 8 * length s) {n p1 po p2 im p3 q p4 : ℕ}
-    (N : Reads (fieldDec badView 8) s p (found n p1)) (P : Reads (fieldDec badView 8) s p1 (found po p2))
-    (I : Reads (fieldDec badView 8) s p2 (found im p3)) (Q : Reads (fieldDec badView 8) s p3 (found q p4)) where
-  fours : Reads (four .dec) s p (found (n, (po, (im, q))) p4)
-  fours = go-on _ _ N (go-on _ _ P (go-on _ _ I Q))
-
-  pub head-bad : (k : ℕ) → k ≤ 80 → headFault f (n, (po, (im, q))) ≡ some k → Reads (viewHeader f .dec) s p (fault badView (p + k))
+module _ (f : ℕ → ℕ) (s : List ℕ) (p : ℕ) (i : p + 80 ≤ 8 * length s) where
+  pub head-bad : {x : ℕ} → Reads (headFields badView f .dec) s p (fault badView x) → Reads (viewHeader f .dec) s p (fault badView x)
   unfolding viewHeader
-  head-bad k l e = room-there _ past 80 i (stop _ _ (made _ _ (stop _ _ (flawed four badView (headFault f) k (omega arith) fours e))))
+  head-bad h = room-there _ past 80 i (stop _ _ h)
 
-  pub head-good : {w p5 h p6 l p7 : ℕ} → headFault f (n, (po, (im, q))) ≡ none
-      → Reads (fieldDec badView 16) s p4 (found w p5) → Reads (fieldDec badView 16) s p5 (found h p6) → Reads (fieldDec past 16) s p6 (found l p7)
-      → Reads (viewHeader f .dec) s p (found (record { number = n; position = po; impression = im; quality = q; width = w; height = h }, l) p7)
+  pub head-good : {x : ViewHeader} {p1 l p2 : ℕ} → Reads (headFields badView f .dec) s p (found x p1) → Reads (fieldDec past 16) s p1 (found l p2)
+      → Reads (viewHeader f .dec) s p (found (x, l) p2)
   unfolding viewHeader
-  head-good e W H L = room-there _ past 80 i (go-on _ _ (made _ _ (go-on _ _ (fine four badView (headFault f) fours e) (go-on _ _ W H))) L)
+  head-good h l = room-there _ past 80 i (go-on _ _ h l)

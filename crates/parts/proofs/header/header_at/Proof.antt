@@ -8,12 +8,16 @@ use lib.ListN.{length}
 use Rattle.bits.specs.CodecLaws.{fixed, ranged}
 use Rattle.bits.specs.Reads.{Reads, found}
 use Rattle.bits.proofs.Laws.Reads.{known, at-place, up-to, go-on, stop, made, fixed-ok, fixed-bad, ranged-ok, ranged-low, below}
-use Rattle.format.specs.Record.{header}
-use Rattle.parts.specs.Answers.{scaleAt, headerDec, scaleDec}
+use Rattle.format.specs.Record.{scale, header}
+use Rattle.parts.specs.Answers.{scaleAt, headerDec}
 use Rattle.parts.proofs.Laws.Header.{FieldAt, field-from, scale-behind}
 use borrow.Author.Needs.{needs}
 use Rattle.parts.proofs.header.header_at.Statement.{statement}
 use Rattle.parts.proofs.header.header_at.Tie as tie
+use Rattle.parts.proofs.header.header_at.Reads as reads
+use Rattle.parts.proofs.header.header_at.Lts as lts
+use Rattle.bits.proofs.Cursor.sure.Reads as sure-reads
+use Rattle.parts.proofs.header.scale_at.Reads as scale-at-reads
 
 abbrev lent : tie.Start → List ℕ
 lent c = c .args .s .now
@@ -47,11 +51,11 @@ right-views c =
     let h = views (c .before .before) .read 5 in
     ranged-ok 5 8 h 1 255 (omega (arith, c .if4 .left)) (omega (arith, below 5 8 h))
 
-read-scale : (c : tie.After-scale) → Reads scaleDec (lent (c .before .before .before .before .before .before .before .before .before .before .before .before .before .before .before .before .before)) 120 (found (c .scale .given .0 .0) (c .scale .given .0 .1 .0 .at))
-read-scale c = at-place (views (c .before .before .before .before .before) .behind) (known (ap scaleAt (c .scale .given .1)) (c .before .before .scale-at .ensures))
+read-scale : (c : tie.After-scale) → Reads (scale 5 .dec) (lent (c .before .before .before .before .before .before .before .before .before .before .before .before .before .before .before .before .before)) 120 (found (c .scale .given .0 .0) (c .scale .given .0 .1 .0 .at))
+read-scale c = at-place (views (c .before .before .before .before .before) .behind) (known (ap (scaleAt 5) (c .scale .given .1)) (c .before .before .scale-at .ensures 5))
 
 behind-scale : (c : tie.After-scale) → c .scale .given .0 .1 .0 .at ≡ 176
-behind-scale c = scale-behind (omega (arith, c .before .before .before .before .before .before .before .before .before .before .before .before .before .before .before .before .before .pre)) (read-scale c)
+behind-scale c = scale-behind 5 (omega (arith, c .before .before .before .before .before .before .before .before .before .before .before .before .before .before .before .before .before .pre)) (read-scale c)
 
 reserved : (c : tie.After-sure6) → FieldAt (lent (c .before .before .before .before .before .before .before .before .before .before .before .before .before .before .before .before .before .before .before)) 176 16 (c .sure6 .result .value) (c .sure6 .result .next .at)
 reserved c = field-from (behind-scale (c .before .before)) (c .sure6 .ensures)
@@ -109,21 +113,21 @@ sure-requires-6 c κs =
     omega (arith, behind-scale (c .before), c .before .before .before .before .before .before .before .before .before .before .before .before .before .before .before .before .before .before .pre)
 
 returns-5 : tie.Need-returns-5
-unfolding headerDec header scaleDec
+unfolding headerDec header
 returns-5 c =
     made _ _ (go-on _ _ (right-identifier (c .before .before .before .before .before .before .before .before .before .before .before .before .before .before .before .before .before)) (go-on _ _ (right-version (c .before .before .before .before .before .before .before .before .before .before .before .before .before .before)) (go-on _ _ (right-length (c .before .before .before .before .before .before .before .before .before .before .before)) (go-on _ _ (device (c .before .before .before .before .before .before .before .before .before .before) .read 5)
     (go-on _ _ (right-views (c .before .before .before .before .before .before .before)) (go-on _ _ (up-to (behind-scale (c .before .before .before .before)) (read-scale (c .before .before .before .before)))
     (fixed-bad 5 16 (reserved (c .before .before) .read 5) 0 (omega (arith, c .before .before .before .before .before .before .before .before .before .before .before .before .before .before .before .before .before .before .before .before .before .pre)) (c .if5 .taken))))))))
 
 returns-6 : tie.Need-returns-6
-unfolding headerDec header scaleDec
+unfolding headerDec header
 returns-6 c =
     made _ _ (go-on _ _ (right-identifier (c .before .before .before .before .before .before .before .before .before .before .before .before .before .before)) (go-on _ _ (right-version (c .before .before .before .before .before .before .before .before .before .before .before)) (go-on _ _ (right-length (c .before .before .before .before .before .before .before .before)) (go-on _ _ (device (c .before .before .before .before .before .before .before) .read 5)
     (go-on _ _ (right-views (c .before .before .before .before))
-    (stop _ _ (at-place (views (c .before .before .before .before .before .before) .behind) (known (ap scaleAt (c .before .p .given .1)) (c .before .before .before .scale-at .ensures)))))))))
+    (stop _ _ (at-place (views (c .before .before .before .before .before .before) .behind) (known (ap (scaleAt 5) (c .before .p .given .1)) (c .before .before .before .scale-at .ensures 5)))))))))
 
 returns-7 : tie.Need-returns-7
-unfolding headerDec header scaleDec
+unfolding headerDec header
 returns-7 c =
     made _ _ (go-on _ _ (right-identifier (c .before .before .before .before .before .before .before .before .before .before .before .before .before .before .before .before .before)) (go-on _ _ (right-version (c .before .before .before .before .before .before .before .before .before .before .before .before .before .before)) (go-on _ _ (right-length (c .before .before .before .before .before .before .before .before .before .before .before)) (go-on _ _ (device (c .before .before .before .before .before .before .before .before .before .before) .read 5)
     (go-on _ _ (right-views (c .before .before .before .before .before .before .before)) (go-on _ _ (up-to (behind-scale (c .before .before .before .before)) (read-scale (c .before .before .before .before)))
