@@ -4,7 +4,7 @@ mod block; // a block behind its length
 pub mod header; // the record's header
 pub mod index; // the neighbour index
 pub mod line; // the ends of a line, and zero bits
-mod ranged; // a byte with a range
+pub mod ranged; // a byte with a range
 pub mod segments; // the extended data
 pub mod view; // a view's header
 

@@ -14,10 +14,6 @@ use Rattle.parts.proofs.Laws.Header.{FieldAt, field-from, scale-behind}
 use borrow.Author.Needs.{needs}
 use Rattle.parts.proofs.header.header_at.Statement.{statement}
 use Rattle.parts.proofs.header.header_at.Tie as tie
-use Rattle.parts.proofs.header.header_at.Reads as reads
-use Rattle.parts.proofs.header.header_at.Lts as lts
-use Rattle.bits.proofs.Cursor.sure.Reads as sure-reads
-use Rattle.parts.proofs.header.scale_at.Reads as scale-at-reads
 
 abbrev lent : tie.Start → List ℕ
 lent c = c .args .s .now

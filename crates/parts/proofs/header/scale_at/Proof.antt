@@ -11,10 +11,6 @@ use Rattle.parts.specs.Answers.{rangedAt}
 use borrow.Author.Needs.{needs}
 use Rattle.parts.proofs.header.scale_at.Statement.{statement}
 use Rattle.parts.proofs.header.scale_at.Tie as tie
-use Rattle.parts.proofs.header.scale_at.Reads as reads
-use Rattle.parts.proofs.header.scale_at.Lts as lts
-use Rattle.bits.proofs.Cursor.field.Reads as field-reads
-use Rattle.parts.proofs.ranged.ranged_at.Reads as ranged-at-reads
 
 read-points : (c : tie.After-points) (e : ℕ) → Reads (ranged e 8 1 255 .dec) (c .before .before .before .before .args .s .now) (c .before .before .before .before .args .p .at) (found (c .points .given .0 .0) (c .points .given .0 .1 .0 .at))
 read-points c e = known (ap (rangedAt e _) (c .points .given .1)) (c .before .before .ranged-at .ensures e)

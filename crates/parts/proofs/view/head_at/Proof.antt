@@ -2,7 +2,7 @@
 -- length stands behind them.
 use native.Mathlib.Omega.{arith}
 use Prim.Native.Nat.{_+_, _*_, _≤_}
-use mathlib.Core.Path.{_≡_, ap, _∙_}
+use mathlib.Core.Path.{_≡_, ap}
 use lib.ListN.{length}
 use Rattle.bits.specs.Reads.{Reads, found}
 use Rattle.bits.proofs.Laws.Reads.{known, up-to}
@@ -12,10 +12,6 @@ use Rattle.parts.proofs.Laws.View.{fields-behind, head-short, head-bad,
 use borrow.Author.Needs.{needs}
 use Rattle.parts.proofs.view.head_at.Statement.{statement}
 use Rattle.parts.proofs.view.head_at.Tie as tie
-use Rattle.parts.proofs.view.head_at.Reads as reads
-use Rattle.parts.proofs.view.head_at.Lts as lts
-use Rattle.bits.proofs.Cursor.sure.Reads as sure-reads
-use Rattle.parts.proofs.view.head_fields.Reads as head-fields-reads
 
 read-fields : (c : tie.After-head) → Reads (headFields 7 (earlierOf (c .before .before .before .before .before .args .seen .now)) .dec) (c .before .before .before .before .before .args .s .now) (8 * c .before .before .before .before .before .args .a) (found (c .head .given .0 .0) (c .head .given .0 .1 .0 .at))
 read-fields c = known (ap (fieldsAt 7) (c .head .given .1)) (c .before .before .head-fields .ensures 7)

@@ -16,11 +16,6 @@ use Rattle.parts.proofs.Laws.View.{not-is, fields-bad, fields-good, fau
 use borrow.Author.Needs.{needs}
 use Rattle.parts.proofs.view.head_fields.Statement.{statement}
 use Rattle.parts.proofs.view.head_fields.Tie as tie
-use Rattle.parts.proofs.view.head_fields.Reads as reads
-use Rattle.parts.proofs.view.head_fields.Lts as lts
-use Rattle.bits.proofs.Cursor.sure.Reads as sure-reads
-use Rattle.parts.proofs.view.earlier.Reads as earlier-reads
-use Rattle.parts.proofs.view.impression_bad.Reads as impression-bad-reads
 
 -- the bytes, the place and the counts lent
 abbrev lent : tie.After-sure4 → List ℕ

@@ -1,0 +1,4 @@
+-- The laws of the values, by topic.
+pub mod Ended
+pub mod Line
+pub mod List
