@@ -4,4 +4,6 @@ pub mod Run
 pub mod Puts
 pub mod Line
 pub mod Index
+pub mod Lists
+pub mod IndexBlock
 pub mod Segments

@@ -22,7 +22,7 @@ pub record FieldNext {A : Type 0} (t : ℕ) (value : A → List ℕ) (s : List �
   pub further : RunAt t value s (a + 3 + length (value one)) more rest
 
 module _ {A : Type 0} {t : ℕ} {value : A → List ℕ} where
-  field-here : {s : List ℕ} {a : ℕ} {x : A} {xs : List A} {rest : List ℕ} → RunAt t value s a (x ∷ xs) rest → FieldNext t value s a (x ∷ xs) rest
+  pub field-here : {s : List ℕ} {a : ℕ} {x : A} {xs : List A} {rest : List ℕ} → RunAt t value s a (x ∷ xs) rest → FieldNext t value s a (x ∷ xs) rest
   field-here {s} {a} {x} {xs} {rest} h =
       let n : ℕ = length (value x) in
       let more : List ℕ = joined (fieldOf t value) xs ++ rest in
