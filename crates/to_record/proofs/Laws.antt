@@ -7,3 +7,4 @@ pub mod Index
 pub mod Lists
 pub mod IndexBlock
 pub mod Segments
+pub mod View

@@ -3,3 +3,4 @@ pub mod Run
 pub mod Puts
 pub mod Lists
 pub mod Outs
+pub mod Views

@@ -50,7 +50,6 @@ pub record IndexThere (lines : ℕ) (s : List ℕ) (a : ℕ) (out : List ℕ) : 
   pub rest : List ℕ
   pub is : drop a s ≡ indexBytes value ++ rest
   pub behind : Other 4 rest × Other 5 rest
-  pub within : a ≤ length s
   pub fits : indexBlock lines .Fits value
   pub room : Room out 0 (length (indexBlock lines .enc value))
 

@@ -2,7 +2,7 @@
 -- it starts with another tag, or nothing follows.
 use mathlib.Core.Path.{_≡_}
 use mathlib.Core.Logic.{_≢_}
-use Prim.Native.Nat.{ℕ, _≤_, _<_}
+use Prim.Native.Nat.{ℕ, _<_}
 use mathlib.Core.List.{List, [], _∷_, _++_}
 use lib.ListN.{length, drop}
 use Rattle.bits.specs.Lists.{All}
@@ -21,4 +21,3 @@ pub record RunAt {A : Type 0} (t : ℕ) (value : A → List ℕ) (s : List ℕ) 
   pub is : drop a s ≡ joined (fieldOf t value) xs ++ rest
   pub small : All (λ x. length (value x) < 65536) xs
   pub other : Other t rest
-  pub within : a ≤ length s

@@ -3,6 +3,7 @@
 mod index; // 04 and 05 fields: the index block
 mod line; // 03 fields: the skeleton block
 mod segments; // 06 fields: the extended block
+mod view; // a view: its header and its blocks, each behind its length
 
 // The byte of the sheet behind the fields that were written, and how many bytes were written.
 pub struct Done {

@@ -1,15 +1,11 @@
 -- The lists of an index: the numbers of a list in its field's bytes, their differences one by one, and the list's bits put.
 use mathlib.Core.Path.{_≡_, refl, sym, ap, ap₂, _∙_}
-use Prim.Native.Nat.{ℕ, zero, suc, _+_, _-_, _*_, _/_, _%_, _^_, _≤_, _<_}
+use Prim.Native.Nat.{ℕ, zero, suc, _+_, _-_, _*_, _/_, _≤_, _<_}
 use native.Mathlib.Omega.{arith}
 use native.Mathlib.Numerals.{add-one}
-use native.Mathlib.Nat.{suc-mul, mul-le-mul-right}
-use mathlib.Core.Bool.{Bool}
-use mathlib.Core.List.{List, [], _∷_, _++_, append-assoc, append-nil}
-use lib.ListN.{length, take, drop, getD, length-append, length-drop}
+use mathlib.Core.List.{List, [], _∷_, _++_}
+use lib.ListN.{length, take, drop, getD, length-append}
 use lib.Seq.{drop-cons, take-suc, take-all, length-take-le, getD-drop}
-use Rattle.bits.specs.Lists.{All}
-use Rattle.bits.specs.ListsLaws.{all-at, first-left}
 use Rattle.bits.specs.Bits.{Bits, bitsOfNumber}
 use Rattle.bits.specs.BitsLaws.{length-bits}
 use Rattle.bits.specs.CodecLaws.{encAll, encAlong, field}
@@ -21,7 +17,7 @@ use Rattle.format.specs.DifferencesLaws.{length-diffs}
 use Rattle.format.specs.Index.{FitsList, neighbours}
 use Rattle.locate.proofs.Laws.Line.{codes-long}
 use Rattle.puts.specs.Put.{PutMore}
-use Rattle.to_record.specs.Puts.{Puts, Room}
+use Rattle.to_record.specs.Puts.{Puts}
 use Rattle.to_record.specs.Lists.{ListPut}
 use Rattle.to_record.proofs.Laws.Puts.{puts-one, puts-none, _then_, puts-as, enc-snoc}
 

@@ -1,6 +1,6 @@
 -- The index block from its fields: none, or a width and the lists behind it.
 use mathlib.Core.Path.{_≡_, refl, sym, ap, _∙_}
-use Prim.Native.Nat.{ℕ, suc, _+_, _*_, _^_, _≤_, _<_}
+use Prim.Native.Nat.{ℕ, suc, _+_, _≤_, _<_}
 use native.Mathlib.Omega.{arith}
 use mathlib.Core.Option.{Option, none, some}
 use mathlib.Core.List.{List, [], _∷_, _++_}
@@ -12,7 +12,7 @@ use Rattle.bits.specs.BitsLaws.{length-bits}
 use Rattle.bits.specs.Bytes.{bytesOf, inBytes}
 use Rattle.bits.specs.CodecLaws.{encAlong}
 use Rattle.lay.specs.Laid.{Laid}
-use Rattle.lay.specs.HighFirst.{two, start, joined}
+use Rattle.lay.specs.HighFirst.{two, joined}
 use Rattle.lay.proofs.Laws.{laid-none, twos-length}
 use Rattle.format.specs.DifferencesLaws.{falls-count}
 use Rattle.format.specs.Index.{Index, FitsList, FitsIndex, neighbours, up, index, indexBlock}
@@ -20,7 +20,7 @@ use Rattle.puts.specs.Put.{PutMore}
 use Rattle.puts.proofs.Laws.{put-none, put-laid}
 use Rattle.to_sheet.specs.Bytes.{listBytes, indexBytes}
 use Rattle.to_record.specs.Run.{Other, fieldOf, RunAt}
-use Rattle.to_record.specs.Puts.{Puts, Room}
+use Rattle.to_record.specs.Puts.{Room}
 use Rattle.to_record.specs.Lists.{ListsPut, IndexThere, IndexPut}
 use Rattle.to_record.specs.declared.Done.{Done}
 
@@ -74,7 +74,6 @@ module _ (lines : ℕ) (few : lines ≤ 1024) (s : List ℕ) (a : ℕ) (rest : L
         is = sym (drop-drop 4 a s) ∙ ap (drop 4) e ∙ ap (λ (xs : List ℕ). xs ++ rest) (lists-fields (i .lists));
         small = lists-small (i .width) 0 (i .lists) (omega (arith, index-fits .count)) (index-fits .lists);
         other = other;
-        within = index-there;
       }
 
 index-enc : (lines : ℕ) (i : Index) → indexBlock lines .enc (some i) ≡ filled (bitsOfNumber 8 (i .width) ++ encAlong (neighbours (i .width)) up 0 (i .lists))

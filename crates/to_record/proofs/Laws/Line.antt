@@ -74,7 +74,7 @@ module _ (w : Widths) (l : Line) (f : FitsLine w l) {s : List ℕ} (h : s ≡ li
 
 -- ---- the loop over the lines
 
-enc-long : (w : Widths) (ls : List Line) → length (encAll (line w) ls) ≡ total (λ l. length (line w .enc l)) ls
+pub enc-long : (w : Widths) (ls : List Line) → length (encAll (line w) ls) ≡ total (λ l. length (line w .enc l)) ls
 enc-long w [] = refl
 enc-long w (l ∷ ls) = length-append (line w .enc l) (encAll (line w) ls) ∙ ap (λ (n : ℕ). length (line w .enc l) + n) (enc-long w ls)
 

@@ -14,7 +14,7 @@ use Rattle.bits.specs.CodecLaws.{encAlong}
 use Rattle.bits.proofs.Laws.Parts.{part}
 use Rattle.lay.specs.HighFirst.{two, joined}
 use Rattle.format.specs.Index.{FitsList, neighbours, up}
-use Rattle.to_record.specs.Run.{fieldOf, RunAt}
+use Rattle.to_record.specs.Run.{RunAt}
 use Rattle.to_record.specs.Puts.{Puts, Room}
 use Rattle.to_record.specs.Lists.{ListPut, ListsPut}
 use Rattle.to_record.proofs.Laws.Puts.{puts-none, _then_, puts-as}

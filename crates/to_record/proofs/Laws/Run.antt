@@ -32,7 +32,7 @@ module _ {A : Type 0} {t : ℕ} {value : A → List ℕ} where
       let b1 : getD s (a + 1) 0 ≡ n / 256 = at 1 in
       let b2 : getD s (a + 1 + 1) 0 ≡ n % 256 = ap (λ (k : ℕ). getD s k 0) z ∙ at 2 in
       let d : drop (a + 3) s ≡ value x ++ more = sym (drop-drop 3 a s) ∙ ap (drop 3) e in
-      let w : a + 3 + n ≤ length s = omega (arith, h .within, length-drop a s, ap length e, length-append (fieldOf t value x) more) in
+      let w : a + 3 + n ≤ length s = omega (arith, length-drop a s, ap length e, length-append (fieldOf t value x) more) in
       record {
         one = x;
         more = xs;
@@ -45,7 +45,6 @@ module _ {A : Type 0} {t : ℕ} {value : A → List ℕ} where
           is = sym (drop-drop n (a + 3) s) ∙ ap (drop n) d ∙ drop-at (value x) more n refl;
           small = h .small .1;
           other = h .other;
-          within = w;
         };
       }
 

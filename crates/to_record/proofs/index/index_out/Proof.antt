@@ -1,17 +1,10 @@
 -- No index where no 04 is; else its width, then its lists.
 use native.Mathlib.Omega.{arith}
-use mathlib.Core.Path.{_≡_, sym, ap, _∙_}
-use Prim.Native.Nat.{_+_}
-use lib.ListN.{getD}
+use mathlib.Core.Path.{sym, _∙_}
 use Rattle.to_record.proofs.Laws.IndexBlock.{index-none, index-some, IndexHere, index-here}
 use borrow.Author.Needs.{needs}
 use Rattle.to_record.proofs.index.index_out.Statement.{statement}
 use Rattle.to_record.proofs.index.index_out.Tie as tie
-use Rattle.to_record.proofs.index.index_out.Reads as reads
-use Rattle.to_record.proofs.index.index_out.Lts as lts
-use Rattle.bits.proofs.wide.Reads as wide-reads
-use Rattle.puts.proofs.put_bits.Reads as put-bits-reads
-use Rattle.to_record.proofs.index.lists_put.Reads as lists-put-reads
 
 here : (c : tie.Else2) → IndexHere (c .before .before .before .before .before .before .args .lines) (c .before .before .before .before .before .before .args .s .now) (c .before .before .before .before .before .before .args .a) (c .before .before .before .before .before .before .args .out .now)
 here c = index-here (c .before .before .before .before .before .before .pre) (c .before .before .before .if1 .left) (sym (c .before .wide .ensures) ∙ c .if2 .left)
@@ -44,8 +37,8 @@ wide-requires-2 c κs = search needs
 put-bits-requires : tie.Need-put-bits-requires
 put-bits-requires c κs =
     let i = here (c .before .before .before) in
-        let e = c .before .wide2 .ensures ∙ i .width in
-        record { below = omega (arith, e, i .fits .high); narrow = omega arith; room = omega (arith, i .room .room); near = omega (arith, i .room .near) }
+    let e = c .before .wide2 .ensures ∙ i .width in
+    record { below = omega (arith, e, i .fits .high); narrow = omega arith; room = omega (arith, i .room .room); near = omega (arith, i .room .near) }
 
 add-lists-put : tie.Need-add-lists-put
 add-lists-put c =
@@ -54,17 +47,17 @@ add-lists-put c =
 lists-put-requires : tie.Need-lists-put-requires
 lists-put-requires c κs =
     let i = here (c .before .before .before .before .before .before .before) in
-        let e = c .before .before .before .before .before .wide2 .ensures ∙ i .width in
-        let first = c .before .before .before .put-bits .ensures in
-        rw e (record {
-          narrow = i .fits .high;
-          value = i .value .lists;
-          rest = i .rest;
-          run = i .lists;
-          count = i .fits .count;
-          fits = i .fits .lists;
-          room = record { room = omega (arith, i .room .room, first .place, first .same); near = omega (arith, i .room .near, first .place) };
-        })
+    let e = c .before .before .before .before .before .wide2 .ensures ∙ i .width in
+    let first = c .before .before .before .put-bits .ensures in
+    rw e (record {
+      narrow = i .fits .high;
+      value = i .value .lists;
+      rest = i .rest;
+      run = i .lists;
+      count = i .fits .count;
+      fits = i .fits .lists;
+      room = record { room = omega (arith, i .room .room, first .place, first .same); near = omega (arith, i .room .near, first .place) };
+    })
 
 same-length : tie.Need-same-length
 same-length c = search needs

@@ -1,8 +1,8 @@
 -- Number by number. The invariant holds of whatever list the bytes are: the differences of those passed are put.
 use native.Mathlib.Omega.{arith}
 use native.Mathlib.Nat.{mul-le-mul-right, suc-mul}
-use mathlib.Core.Path.{_≡_, refl, sym, ap, _∙_}
-use Prim.Native.Nat.{ℕ, suc, _+_, _-_, _*_, _/_, _^_, _≤_, _<_}
+use mathlib.Core.Path.{_≡_, refl, ap, _∙_}
+use Prim.Native.Nat.{ℕ, suc, _-_, _*_, _^_, _≤_, _<_}
 use lib.ListN.{length, getD}
 use Rattle.bits.specs.ListsLaws.{all-at}
 use Rattle.format.specs.Differences.{diffs}
@@ -11,10 +11,6 @@ use Rattle.to_record.proofs.Laws.Index.{ListGoing, ListSoFar, list-bits
 use borrow.Author.Needs.{needs}
 use Rattle.to_record.proofs.index.list_put.Statement.{statement}
 use Rattle.to_record.proofs.index.list_put.Tie as tie
-use Rattle.to_record.proofs.index.list_put.Reads as reads
-use Rattle.to_record.proofs.index.list_put.Lts as lts
-use Rattle.fields.proofs.two_at.Reads as two-at-reads
-use Rattle.puts.proofs.put_bits.Reads as put-bits-reads
 
 abbrev Inv-loop : tie.InvT-loop
 Inv-loop out₀ at s w l count p₀ before₀ i₀ out p before i =
@@ -41,9 +37,9 @@ next c =
 put-bits-requires : tie.Need-put-bits-requires Inv-loop μ-loop
 put-bits-requires c κs =
     let pre = c .before .before .before .pre in
-        let n = numbers (c .before .before .before .args .w) (c .before .before .before .args .l) (pre .value) (pre .held) in
-        let b = list-bits (c .before .before .before .args .w) (c .before .before .before .args .l) (pre .value) in
-        record { below = rw n (pre .fits .count); narrow = pre .narrow; room = omega (arith, b, pre .room .room); near = omega (arith, b, pre .room .near) }
+    let n = numbers (c .before .before .before .args .w) (c .before .before .before .args .l) (pre .value) (pre .held) in
+    let b = list-bits (c .before .before .before .args .w) (c .before .before .before .args .l) (pre .value) in
+    record { below = rw n (pre .fits .count); narrow = pre .narrow; room = omega (arith, b, pre .room .room); near = omega (arith, b, pre .room .near) }
 
 loop-holds : tie.Need-loop-holds Inv-loop μ-loop
 loop-holds c =
@@ -64,20 +60,20 @@ sub-put-bits c =
 put-bits-requires-2 : tie.Need-put-bits-requires-2 Inv-loop μ-loop
 put-bits-requires-2 c κs =
     let pre = c .before .before .before .before .before .before .before .before .before .before .pre in
-        let w = c .before .before .before .before .before .before .before .before .before .before .args .w in
-        let l = c .before .before .before .before .before .before .before .before .before .before .args .l in
-        let i = c .before .before .before .loop .i in
-        let (k, _, d) = next (c .before) in
-        let (place, same) = list-place w l (pre .value) (pre .held) (going (c .before .before .before)) (omega (arith, k)) in
-        let b = list-bits w l (pre .value) in
-        let first = c .before .before .before .before .before .before .put-bits .ensures in
-        let m : suc i * w ≤ length (pre .value) * w = mul-le-mul-right w (omega (arith, k)) in
-        record {
-          below = rw d (all-at (λ n. n < 2 ^ w) 0 (diffs l (pre .value)) i (omega (arith, k, length-diffs l (pre .value))) (pre .fits .diffs));
-          narrow = pre .narrow;
-          room = omega (arith, place, same, b, first .place, first .same, m, suc-mul i w, pre .room .room);
-          near = omega (arith, place, b, first .place, m, suc-mul i w, pre .room .near);
-        }
+    let w = c .before .before .before .before .before .before .before .before .before .before .args .w in
+    let l = c .before .before .before .before .before .before .before .before .before .before .args .l in
+    let i = c .before .before .before .loop .i in
+    let (k, _, d) = next (c .before) in
+    let (place, same) = list-place w l (pre .value) (pre .held) (going (c .before .before .before)) (omega (arith, k)) in
+    let b = list-bits w l (pre .value) in
+    let first = c .before .before .before .before .before .before .put-bits .ensures in
+    let m : suc i * w ≤ length (pre .value) * w = mul-le-mul-right w (omega (arith, k)) in
+    record {
+      below = rw d (all-at (λ n. n < 2 ^ w) 0 (diffs l (pre .value)) i (omega (arith, k, length-diffs l (pre .value))) (pre .fits .diffs));
+      narrow = pre .narrow;
+      room = omega (arith, place, same, b, first .place, first .same, m, suc-mul i w, pre .room .room);
+      near = omega (arith, place, b, first .place, m, suc-mul i w, pre .room .near);
+    }
 
 add-i : tie.Need-add-i Inv-loop μ-loop
 add-i c = search needs

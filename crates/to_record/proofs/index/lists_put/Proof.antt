@@ -1,16 +1,12 @@
 -- List by list. The invariant holds of whatever lists the fields are: those passed are put.
 use native.Mathlib.Omega.{arith}
 use mathlib.Core.Path.{_≡_, refl}
-use Prim.Native.Nat.{_+_, _-_, _≤_}
+use Prim.Native.Nat.{_-_, _≤_}
 use lib.ListN.{length}
 use Rattle.to_record.proofs.Laws.Lists.{ListsGoing, ListsSoFar, ListNext, lists-first, lists-next, lists-last, lists-end, list-here, list-held, list-space}
 use borrow.Author.Needs.{needs}
 use Rattle.to_record.proofs.index.lists_put.Statement.{statement}
 use Rattle.to_record.proofs.index.lists_put.Tie as tie
-use Rattle.to_record.proofs.index.lists_put.Reads as reads
-use Rattle.to_record.proofs.index.lists_put.Lts as lts
-use Rattle.fields.proofs.two_at.Reads as two-at-reads
-use Rattle.to_record.proofs.index.list_put.Reads as list-put-reads
 
 abbrev Inv-loop : tie.InvT-loop
 Inv-loop out₀ at s a w lines p₀ next₀ l₀ out p next l =
@@ -61,14 +57,14 @@ part-list-put-end c =
 list-put-requires : tie.Need-list-put-requires Inv-loop μ-loop
 list-put-requires c κs =
     let pre = c .before .before .before .before .before .before .before .pre in
-        let n = here (c .before .before .before) in
-        record {
-          narrow = pre .narrow;
-          value = n .field .one;
-          fits = n .fits;
-          held = list-held (c .before .before .before .before .before .before .before .args .w) (c .before .before .before .before .before .before .before .args .lines) (going (c .before .before .before .before)) n (c .before .before .two-at .ensures);
-          room = list-space (c .before .before .before .before .before .before .before .args .w) (c .before .before .before .before .before .before .before .args .lines) (going (c .before .before .before .before)) n (pre .room);
-        }
+    let n = here (c .before .before .before) in
+    record {
+      narrow = pre .narrow;
+      value = n .field .one;
+      fits = n .fits;
+      held = list-held (c .before .before .before .before .before .before .before .args .w) (c .before .before .before .before .before .before .before .args .lines) (going (c .before .before .before .before)) n (c .before .before .two-at .ensures);
+      room = list-space (c .before .before .before .before .before .before .before .args .w) (c .before .before .before .before .before .before .before .args .lines) (going (c .before .before .before .before)) n (pre .room);
+    }
 
 add-l : tie.Need-add-l Inv-loop μ-loop
 add-l c = search needs
