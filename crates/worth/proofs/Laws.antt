@@ -2,3 +2,4 @@
 pub mod Ended
 pub mod Line
 pub mod List
+pub mod Widths

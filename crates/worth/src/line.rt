@@ -60,6 +60,7 @@ fn codes_right(s: &[u8], k: usize) -> bool
     true
 }
 
+// The value of a 03, at the widths of the header.
 pub fn line_value(s: &[u8], w: Widths) -> bool
     requires { ⌜ (12 ≤ length (now s)) × (length (now s) ≤ 267) × (w .c ≤ 16) × (w .b ≤ 8) × (1 ≤ w .k) × (w .k ≤ 8) ⌝ }
     ensures { λ r. ⌜ Tested (lineValue w) (now (s .entry)) (λ l. length (l .codes) ≡ length (now (s .entry)) - 12) r ⌝ }

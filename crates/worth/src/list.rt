@@ -15,6 +15,7 @@ pub enum WidthWorth {
     Wrong,
 }
 
+// The value of a 04: 1 to 16.
 pub fn width_value(s: &[u8]) -> WidthWorth
     requires { ⌜ length (now s) ≡ 1 ⌝ }
     ensures { λ r. ⌜ Told widthValue (now (s .entry)) (widthIs r) ⌝ }
@@ -25,7 +26,7 @@ pub fn width_value(s: &[u8]) -> WidthWorth
     }
 }
 
-// The neighbours of line l at width w. The first may be the line itself; each other is below the one before.
+// The value of a 05: the neighbours of line l at width w. The first may be the line itself; each other is below the one before.
 pub fn list_value(s: &[u8], w: usize, l: usize) -> bool
     requires { ⌜ (length (now s) % 2 ≡ 0) × (length (now s) ≤ 65534) × (w ≤ 16) × (l < 1024) ⌝ }
     ensures { λ r. ⌜ Tested (listValue w l) (now (s .entry)) (λ ns. length ns ≡ length (now (s .entry)) / 2) r ⌝ }

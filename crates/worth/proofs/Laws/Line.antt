@@ -122,15 +122,19 @@ module _ {k : ℕ} {s : List ℕ} {i : ℕ} (g : CodesFrom k s i) (l : i < lengt
   pub code-good : q ≡ 8 * i + 8 → codeOk k v ≡ true → CodesFrom k s (i + 1)
   code-good y e =
       let d : Reads (codeValue k .dec) s (8 * i) (found (v % 2 ^ k) q) = made _ _ (pass (field badValue 8) badValue (codeOk k) h (rw e tt)) in
-      let z = fill-turn (codeValue k) badValue (8 * length s - 96) (i - 12) (drop (8 * i) (bitsOf s)) (λ xs. tt) (omega (arith, g .from)) some-left (d .is) in
       let a : i + 1 - 12 ≡ i - 12 + 1 = omega (arith, g .from) in
       let b : 8 * (i + 1) ≡ q = omega arith in
-      record { from = omega (arith, g .from); within = omega arith; reads = rw (a, b) (sym z ∙ g .reads) }
+      record {
+        from = omega (arith, g .from);
+        within = omega arith;
+        reads = rw (a, b)
+            (sym (fill-turn (codeValue k) badValue (8 * length s - 96) (i - 12) (drop (8 * i) (bitsOf s)) (λ xs. tt) (omega (arith, g .from)) some-left (d .is)) ∙ g .reads);
+      }
 
 pub codes-there : {k : ℕ} {s : List ℕ} {i : ℕ} → CodesFrom k s i → length s ≤ i → There (codesDec k) s 96 (8 * length s)
 codes-there {k} {s} {i} g l =
     let z = fill-done (codeValue k) badValue (8 * length s - 96 - (i - 12)) (drop (8 * i) (bitsOf s)) (drop-end s (8 * i) (omega arith)) in
-    kept-got _ _ (sym (g .reads) ∙ ap after z) λ cs e u.
+    kept-got (λ xs. tt) (codesDec k (drop 96 (bitsOf s))) (sym (g .reads) ∙ ap after z) λ cs e u.
     record { value = cs; reads = gives _ cs (8 * length s) (omega arith) (e ∙ ap (got cs) (sym (drop-end s (8 * length s) (omega arith)))) }
 
 -- ---- the line

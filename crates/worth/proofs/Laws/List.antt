@@ -29,7 +29,7 @@ use Rattle.worth.specs.Worth.{Wrong, Right}
 
 -- ---- k numbers of 16 bits fill 16 k bits
 
-pub numbers : (e k n : ℕ) (s : Bits) → length s ≡ 16 * k → k ≤ n → (ns : List ℕ) × (length ns ≡ k) × (fillDec (field e 16) e n s ≡ got ns [])
+numbers : (e k n : ℕ) (s : Bits) → length s ≡ 16 * k → k ≤ n → (ns : List ℕ) × (length ns ≡ k) × (fillDec (field e 16) e n s ≡ got ns [])
 numbers e zero n s h l = ([], refl, fill-done (field e 16) e n s (none s h))
   where
     none : (s : Bits) → length s ≡ 0 → s ≡ []
