@@ -8,3 +8,4 @@ pub mod Lists
 pub mod IndexBlock
 pub mod Segments
 pub mod View
+pub mod Record

@@ -4,3 +4,4 @@ pub mod Puts
 pub mod Lists
 pub mod Outs
 pub mod Views
+pub mod Records

@@ -2,6 +2,7 @@
 // the block before ended.
 mod index; // 04 and 05 fields: the index block
 mod line; // 03 fields: the skeleton block
+pub mod record; // the record: its header, then its views
 mod segments; // 06 fields: the extended block
 mod view; // a view: its header and its blocks, each behind its length
 
