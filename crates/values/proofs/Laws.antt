@@ -1,0 +1,4 @@
+-- The laws of a sheet's values, by topic.
+pub mod Stand
+pub mod Run
+pub mod Segments
