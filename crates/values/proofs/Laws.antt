@@ -2,3 +2,6 @@
 pub mod Stand
 pub mod Run
 pub mod Segments
+pub mod Told
+pub mod Lines
+pub mod Lists

@@ -1,8 +1,13 @@
 // The values of fields that may come several times, one behind the other: lines, neighbour lists, segments. Each function goes over
 // them as long as they come, and counts what they take in a record.
-ghost use Rattle.values.specs.Run.{Some, Segments, SegmentsAre};
+ghost use Prim.Native.Nat.{_≤_};
+ghost use Rattle.locate.specs.Stands.{Narrow};
+ghost use Rattle.values.specs.Run.{Some, Lines, LinesAre, Lists, ListsAre, Segments, SegmentsAre};
 use crate::field::starts;
 use fields::two_at;
+use format::Widths;
+use worth::line::line_value;
+use worth::list::list_value;
 
 // The byte behind them and the bits that they take; or a value is wrong.
 pub enum Counted {
@@ -29,4 +34,49 @@ pub fn segment_sizes(s: &[u8], p: usize) -> Extended
         end = end + 3 + size;
     }
     Extended { end, bytes }
+}
+
+// The 03s from byte p on, at the widths of the header.
+pub fn line_values(s: &[u8], p: usize, w: Widths) -> Counted
+    requires { ⌜ Some (Lines (now s) p) × Narrow w ⌝ }
+    ensures { λ r. ⌜ LinesAre w (now (s .entry)) p r ⌝ }
+{
+    let ends = 2 * (2 + w.b + 2 * w.c);
+    let mut next = p;
+    let mut bits: usize = 0;
+    while starts(s, next, 3) {
+        let size = two_at(s, next + 1);
+        let from = next + 3;
+        let end = from + size;
+        let value = &s[from..end];
+        if !line_value(value, w) {
+            return Counted::Wrong;
+        }
+        bits += ends + 8 + w.k * (size - 12);
+        next = end;
+    }
+    Counted::Right(next, bits)
+}
+
+// The 05s from byte p on, at the width w of their index; l is the line whose list comes next.
+pub fn list_values(s: &[u8], p: usize, w: usize) -> Counted
+    requires { ⌜ Some (Lists (now s) p) × (w ≤ 16) ⌝ }
+    ensures { λ r. ⌜ ListsAre w (now (s .entry)) p r ⌝ }
+{
+    let mut next = p;
+    let mut bits: usize = 0;
+    let mut l: usize = 0;
+    while starts(s, next, 5) {
+        let size = two_at(s, next + 1);
+        let from = next + 3;
+        let end = from + size;
+        let value = &s[from..end];
+        if !list_value(value, w, l) {
+            return Counted::Wrong;
+        }
+        bits += w + w * (size / 2);
+        next = end;
+        l += 1;
+    }
+    Counted::Right(next, bits)
 }
