@@ -5,3 +5,7 @@ pub mod Segments
 pub mod Told
 pub mod Lines
 pub mod Lists
+pub mod Blocks
+pub mod Index
+pub mod Seen
+pub mod View

@@ -1,0 +1,48 @@
+// The values of one view: its header, its lines, its index, its segments.
+ghost use Rattle.locate.specs.Stands.{Narrow};
+ghost use Rattle.values.specs.Run.{Some};
+ghost use Rattle.values.specs.View.{ViewThere, ViewIs};
+use crate::index::index_values;
+use crate::run::Counted;
+use crate::run::line_values;
+use crate::run::segment_sizes;
+use format::Widths;
+use worth::header::HeadWorth;
+use worth::header::head_value;
+
+// The byte behind a view's fields, the position in its header, and the bytes that it takes.
+pub struct Sized {
+    pub end: usize,
+    pub position: usize,
+    pub bytes: usize,
+}
+
+pub enum ViewWorth {
+    Right(Sized),
+    Wrong,
+}
+
+// The view whose 02 starts at byte p; seen counts the earlier views of each position. Two bytes of length stand before each block.
+pub fn view_values(s: &[u8], p: usize, w: Widths, seen: &[u8; 11]) -> ViewWorth
+    requires { ⌜ Some (ViewThere (now s) p) × Narrow w ⌝ }
+    ensures { λ r. ⌜ ViewIs w (now (seen .entry)) (now (s .entry)) p r ⌝ }
+{
+    let from = p + 3;
+    let lines = p + 11;
+    let head = &s[from..lines];
+    let HeadWorth::Right(h) = head_value(head, seen) else {
+        return ViewWorth::Wrong;
+    };
+    let Counted::Right(index, bits) = line_values(s, lines, w) else {
+        return ViewWorth::Wrong;
+    };
+    let Counted::Right(segments, listed) = index_values(s, index) else {
+        return ViewWorth::Wrong;
+    };
+    let extended = segment_sizes(s, segments);
+    ViewWorth::Right(Sized {
+        end: extended.end,
+        position: h.position,
+        bytes: 10 + (bits + 7) / 8 + 2 + listed + 2 + extended.bytes,
+    })
+}
