@@ -9,3 +9,5 @@ pub mod Blocks
 pub mod Index
 pub mod Seen
 pub mod View
+pub mod Views
+pub mod Sheet

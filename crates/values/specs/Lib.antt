@@ -1,3 +1,4 @@
 pub mod Run
 pub mod Index
 pub mod View
+pub mod Sheet

@@ -18,7 +18,6 @@ use Rattle.format.specs.declared.Widths.{Widths}
 use Rattle.locate.specs.Stands.{endBits, Narrow}
 use Rattle.locate.proofs.Laws.Line.{end-long, codes-long}
 use Rattle.sheet.specs.Fields.{Field}
-use Rattle.sheet.specs.Grammar.{front}
 use Rattle.sheet.specs.Values.{lineValue}
 use Rattle.sheet.specs.Sheet.{alike}
 use Rattle.shape.specs.Shape.{starts}

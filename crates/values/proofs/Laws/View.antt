@@ -1,10 +1,9 @@
 -- A view: its 02, its lines, its index and its segments apart, where they stand, and the view put together from what is told of them.
 use mathlib.Core.Path.{_≡_, refl, sym, ap, _∙_, subst}
-use Prim.Native.Nat.{ℕ, _+_, _-_, _*_, _/_, _≤_}
+use Prim.Native.Nat.{ℕ, _+_, _-_, _/_, _≤_}
 use native.Mathlib.Omega.{arith}
 use mathlib.Core.List.{List, [], _∷_}
 use lib.ListN.{length}
-use lib.Dec.{T}
 use Rattle.bits.specs.Bytes.{bitsOf}
 use Rattle.bits.specs.Codec.{got, refused}
 use Rattle.bits.proofs.Laws.Parts.{part}
@@ -14,14 +13,14 @@ use Rattle.format.specs.declared.Widths.{Widths}
 use Rattle.format.specs.declared.ViewHeader.{ViewHeader}
 use Rattle.format.proofs.Laws.Size.{view-length}
 use Rattle.sheet.specs.Fields.{Field}
-use Rattle.sheet.specs.Grammar.{RawView, front, rest, indexRest, viewIn}
+use Rattle.sheet.specs.Grammar.{front, rest, indexRest, viewIn}
 use Rattle.sheet.specs.Values.{viewHeadValue, lineValue, segmentValue}
 use Rattle.sheet.specs.Sheet.{alike, viewFrom}
 use Rattle.fields.specs.Fields.{FieldsAt}
 use Rattle.fields.proofs.Laws.{field-there, its-value, fields-behind}
 use Rattle.shape.specs.Shape.{viewRest}
-use Rattle.shape.proofs.Laws.Views.{Tests, view-tests}
-use Rattle.values.specs.Run.{lineBits, segmentBytes, segmentLong, Lines, Segments, RunRight, RunWrong}
+use Rattle.shape.proofs.Laws.Views.{view-tests}
+use Rattle.values.specs.Run.{lineBits, segmentBytes, Lines, Segments, RunRight, RunWrong}
 use Rattle.values.specs.Index.{IndexThere, IndexRight, IndexWrong}
 use Rattle.values.specs.View.{ViewThere, rawIn, ViewRight, ViewWrong}
 use Rattle.values.proofs.Laws.Blocks.{skeleton-bytes, segments-bytes}

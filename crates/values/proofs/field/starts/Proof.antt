@@ -3,9 +3,6 @@ use Rattle.shape.proofs.Laws.Stand.{tag-tells, none-starts}
 use borrow.Author.Needs.{needs}
 use Rattle.values.proofs.field.starts.Statement.{statement}
 use Rattle.values.proofs.field.starts.Tie as tie
-use Rattle.values.proofs.field.starts.Reads as reads
-use Rattle.values.proofs.field.starts.Lts as lts
-use Rattle.bits.proofs.wide.Reads as wide-reads
 
 shared-slice-read-wide : tie.Need-shared-slice-read-wide
 shared-slice-read-wide c = search needs

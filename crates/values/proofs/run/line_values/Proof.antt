@@ -1,23 +1,14 @@
 -- `values::run::line_values` meets its contract. The loop's invariant: the lines before this byte are right and take so many bits,
 -- whatever fields stand from byte p on. The measure is the bytes left.
-use Prim.Native.Nat.{ℕ, _+_, _-_, _≤_}
+use Prim.Native.Nat.{_+_, _-_, _≤_}
 use native.Mathlib.Omega.{arith}
-use mathlib.Core.List.{List}
 use lib.ListN.{length}
-use Rattle.sheet.specs.Fields.{Field}
 use Rattle.shape.proofs.Laws.Stand.{told, denied}
-use Rattle.values.specs.Run.{Lines}
 use Rattle.values.proofs.Laws.Stand.{three, next-field}
 use Rattle.values.proofs.Laws.Told.{told-right, told-wrong}
 use Rattle.values.proofs.Laws.Lines.{LinesGoing, LineNext, lines-first, line-next, lines-wrong, lines-small, lines-on, lines-all}
-use borrow.Author.Needs.{needs}
 use Rattle.values.proofs.run.line_values.Statement.{statement}
 use Rattle.values.proofs.run.line_values.Tie as tie
-use Rattle.values.proofs.run.line_values.Reads as reads
-use Rattle.values.proofs.run.line_values.Lts as lts
-use Rattle.fields.proofs.two_at.Reads as two-at-reads
-use Rattle.values.proofs.field.starts.Reads as starts-reads
-use Rattle.worth.proofs.line.line_value.Reads as line-value-reads
 
 abbrev Inv-loop : tie.InvT-loop
 Inv-loop s p w ends next₀ bits₀ next bits =

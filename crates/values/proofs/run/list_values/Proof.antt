@@ -3,22 +3,13 @@
 use Prim.Native.Nat.{ℕ, _+_, _-_, _%_, _≤_}
 use native.Mathlib.Omega.{arith}
 use mathlib.Core.Path.{ap, _∙_}
-use mathlib.Core.List.{List}
 use lib.ListN.{length}
-use Rattle.sheet.specs.Fields.{Field}
 use Rattle.shape.proofs.Laws.Stand.{told, denied}
-use Rattle.values.specs.Run.{Lists}
 use Rattle.values.proofs.Laws.Stand.{three, next-field}
 use Rattle.values.proofs.Laws.Told.{told-right, told-wrong}
 use Rattle.values.proofs.Laws.Lists.{ListsGoing, ListNext, lists-first, list-next, lists-wrong, lists-small, lists-on, lists-all}
-use borrow.Author.Needs.{needs}
 use Rattle.values.proofs.run.list_values.Statement.{statement}
 use Rattle.values.proofs.run.list_values.Tie as tie
-use Rattle.values.proofs.run.list_values.Reads as reads
-use Rattle.values.proofs.run.list_values.Lts as lts
-use Rattle.fields.proofs.two_at.Reads as two-at-reads
-use Rattle.values.proofs.field.starts.Reads as starts-reads
-use Rattle.worth.proofs.list.list_value.Reads as list-value-reads
 
 abbrev Inv-loop : tie.InvT-loop
 Inv-loop s p w next₀ bits₀ l₀ next bits l =

@@ -1,23 +1,17 @@
 -- `values::run::segment_sizes` meets its contract. The loop's invariant: what the segments before this byte take, whatever fields
 -- stand from byte p on. The measure is the bytes left.
-use Prim.Native.Nat.{ℕ, _+_, _-_, _≤_}
+use Prim.Native.Nat.{_+_, _-_, _≤_}
 use native.Mathlib.Omega.{arith}
 use mathlib.Core.List.{List}
 use lib.ListN.{length}
-use lib.Dec.{T}
 use Rattle.sheet.specs.Fields.{Field}
 use Rattle.shape.specs.Shape.{starts}
 use Rattle.shape.proofs.Laws.Stand.{told, denied}
 use Rattle.values.specs.Run.{Segments}
 use Rattle.values.proofs.Laws.Stand.{Next, three, next-field}
 use Rattle.values.proofs.Laws.Segments.{SegmentsGoing, segments-first, segments-next, segments-all}
-use borrow.Author.Needs.{needs}
 use Rattle.values.proofs.run.segment_sizes.Statement.{statement}
 use Rattle.values.proofs.run.segment_sizes.Tie as tie
-use Rattle.values.proofs.run.segment_sizes.Reads as reads
-use Rattle.values.proofs.run.segment_sizes.Lts as lts
-use Rattle.fields.proofs.two_at.Reads as two-at-reads
-use Rattle.values.proofs.field.starts.Reads as starts-reads
 
 abbrev Inv-loop : tie.InvT-loop
 Inv-loop s p end₀ bytes₀ end bytes =

@@ -10,26 +10,19 @@ use Rattle.bits.specs.Codec.{got}
 use Rattle.bits.proofs.Laws.Parts.{part}
 use Rattle.format.specs.View.{occurs}
 use Rattle.parts.specs.Answers.{earlierOf}
-use Rattle.sheet.specs.Fields.{Field}
 use Rattle.sheet.specs.Grammar.{rest, indexRest}
 use Rattle.sheet.specs.Values.{viewHeadValue}
 use Rattle.worth.specs.Worth.{Told, headIs}
 use Rattle.worth.specs.declared.header.HeadWorth.{HeadWorth}
-use Rattle.values.specs.Run.{Some, LinesAre}
+use Rattle.values.specs.Run.{LinesAre}
 use Rattle.values.specs.Index.{IndexIs}
-use Rattle.values.specs.View.{ViewThere, Seen}
+use Rattle.values.specs.View.{Seen}
 use Rattle.values.specs.declared.run.Counted.{Counted}
 use Rattle.values.proofs.Laws.Seen.{head-seen, position-le}
 use Rattle.values.proofs.Laws.View.{ViewParts, view-parts, head-wrong, lines-wrong, index-wrong, view-right}
 use borrow.Author.Needs.{needs}
 use Rattle.values.proofs.view.view_values.Statement.{statement}
 use Rattle.values.proofs.view.view_values.Tie as tie
-use Rattle.values.proofs.view.view_values.Reads as reads
-use Rattle.values.proofs.view.view_values.Lts as lts
-use Rattle.values.proofs.index.index_values.Reads as index-values-reads
-use Rattle.values.proofs.run.line_values.Reads as line-values-reads
-use Rattle.values.proofs.run.segment_sizes.Reads as segment-sizes-reads
-use Rattle.worth.proofs.header.head_value.Reads as head-value-reads
 
 parts : (c : tie.Start) → ViewParts (c .args .s .now) (c .args .p) (c .pre .0 .value)
 parts c = view-parts (c .pre .0 .value) (c .pre .0 .holds)
