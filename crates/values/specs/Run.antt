@@ -81,7 +81,7 @@ listBits w ns = w + w * length ns
 abbrev pub segmentBytes : Segment → ℕ
 segmentBytes g = 4 + length (g .payload)
 
--- an answer that says how many bits are at most so many
+-- an answer e, z: behind p or at it, and at most so much; what it says holds whatever fields stand there
 pub record RightAre (most p e z : ℕ) (P : List Field → Type 0) (Q : List Field → Type 0) : Type 0 where
   pub small : z ≤ most
   pub on : p ≤ e

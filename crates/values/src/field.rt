@@ -1,4 +1,4 @@
-// Which field starts at a byte of a sheet.
+// Which field starts at a byte of a sheet. The tag alone tells how a view goes on, since the grammar has been held against all fields.
 ghost use Rattle.shape.specs.Shape.{Standing, Starts};
 use bits::wide;
 

@@ -1,4 +1,4 @@
-// The values of a view's index: nothing, or the width and a list for each line.
+// The values of a view's index: nothing, or the width and a list for each line. The lists are judged at the width, so it comes first.
 ghost use Rattle.values.specs.Run.{Some};
 ghost use Rattle.values.specs.Index.{IndexThere, IndexIs};
 use crate::field::starts;

@@ -9,7 +9,7 @@ use format::Widths;
 use worth::line::line_value;
 use worth::list::list_value;
 
-// The byte behind them and the bits that they take; or a value is wrong.
+// The byte behind them, and what they take in a record: bits, or for a whole index the bytes of its block; or a value is wrong.
 pub enum Counted {
     Right(usize, usize),
     Wrong,

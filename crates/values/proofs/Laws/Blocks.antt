@@ -1,4 +1,5 @@
--- How many bytes the blocks of a view take in a record, by the bits or bytes of what they hold.
+-- How many bytes the blocks of a view take in a record, by the bits or bytes of what they hold. A skeleton and an index are filled up
+-- to whole bytes; segments are whole bytes already.
 use mathlib.Core.Path.{_≡_, refl, ap, _∙_}
 use Prim.Native.Nat.{ℕ, suc, _+_, _*_, _/_}
 use native.Mathlib.Omega.{arith}

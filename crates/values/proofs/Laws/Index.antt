@@ -1,4 +1,5 @@
--- The index of a view: its 04 and its 05s apart, where they stand, and the index put together from what is told of them.
+-- The index of a view: its 04 and its 05s apart, where they stand, and the index put together from what is told of them. The
+-- first of them that is wrong makes the index wrong.
 use mathlib.Core.Path.{_≡_, refl, sym, ap, _∙_, subst}
 use Prim.Native.Nat.{ℕ, _+_, _-_, _/_, _≤_}
 use native.Mathlib.Omega.{arith}

@@ -1,4 +1,5 @@
--- The values of lines: how many bits a line takes in a record, and how far a loop over the lines has come.
+-- The values of lines: how many bits a line takes in a record, and how far a loop over the lines has come. At most 1,024 lines of at
+-- most 2,132 bits come, so that no sum wraps.
 use mathlib.Core.Path.{_≡_, ap, _∙_, subst}
 use Prim.Native.Nat.{ℕ, _+_, _-_, _*_, _≤_, _<_}
 use native.Mathlib.Omega.{arith}

@@ -1,4 +1,5 @@
--- The values of an index's lists, one for each line in order: how far a loop over them has come, and how many bits they take.
+-- The values of an index's lists, one for each line in order: how far a loop over them has come, and how many bits they take. At most
+-- 1,024 lists of at most 524,288 bits come, so that no sum wraps.
 use mathlib.Core.Path.{_≡_, sym, ap, _∙_, subst}
 use Prim.Native.Nat.{ℕ, _+_, _-_, _*_, _/_, _%_, _≤_, _<_}
 use native.Mathlib.Omega.{arith}

@@ -1,4 +1,5 @@
--- The values of segments. One of two bytes or more is right: a type, and a byte for each byte of the payload.
+-- The values of segments, and how far a loop over them has come. One of two bytes or more is right: a type, and a byte for each byte
+-- of the payload.
 use mathlib.Core.Path.{_≡_, refl, ap, _∙_}
 use Prim.Native.Nat.{ℕ, zero, suc, _+_, _-_, _*_, _≤_}
 use native.Mathlib.Omega.{arith}

@@ -1,4 +1,5 @@
--- The sheet: its 01 and the views behind it apart, where they stand, and the record put together from what is told of them.
+-- The sheet: its 01 and the views behind it apart, where they stand, and the record put together from what is told of them. The
+-- record's bytes are its header's 24 and those of its views.
 use mathlib.Core.Path.{_≡_, refl, sym, ap, _∙_, subst}
 use Prim.Native.Nat.{ℕ, _+_, _-_, _≤_, _<_}
 use native.Mathlib.Omega.{arith}

@@ -1,4 +1,4 @@
--- What the judge of one value has told, once its answer is known.
+-- What the judge of one value has told, once its answer is known. Lines and lists are told by yes or no, so the answer picks the case.
 use mathlib.Core.Path.{_≡_}
 use Prim.Native.Nat.{ℕ}
 use native.Mathlib.Omega.{arith}

@@ -1,4 +1,5 @@
 -- A view: its 02, its lines, its index and its segments apart, where they stand, and the view put together from what is told of them.
+-- The first of them that is wrong makes the view wrong.
 use mathlib.Core.Path.{_≡_, refl, sym, ap, _∙_, subst}
 use Prim.Native.Nat.{ℕ, _+_, _-_, _/_, _≤_}
 use native.Mathlib.Omega.{arith}
