@@ -51,7 +51,7 @@ enum End {
 }
 
 // Whether a field with this tag starts at byte p.
-fn starts(s: &[u8], p: usize, tag: usize) -> bool
+pub fn starts(s: &[u8], p: usize, tag: usize) -> bool
     requires { ⌜ Standing (now s) p ⌝ }
     ensures { λ r. ⌜ Starts tag (now (s .entry)) p r ⌝ }
 {

@@ -3,9 +3,9 @@
 ghost use Prim.Native.Nat.{_≤_};
 ghost use Rattle.locate.specs.Stands.{Narrow};
 ghost use Rattle.values.specs.Run.{Some, Lines, LinesAre, Lists, ListsAre, Segments, SegmentsAre};
-use crate::field::starts;
 use fields::two_at;
 use format::Widths;
+use shape::starts;
 use worth::line::line_value;
 use worth::list::list_value;
 
