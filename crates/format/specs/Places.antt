@@ -2,11 +2,11 @@
 -- asks for one tests the place first.
 use Prim.Native.Nat.{ℕ, _+_}
 use mathlib.Core.Option.{none}
-use mathlib.Core.List.{[]}
+use mathlib.Core.List.{List, []}
 use lib.ListN.{length, take, getD}
 use Rattle.bits.specs.Lists.{total}
 use Rattle.format.specs.Line.{Line}
-use Rattle.format.specs.Segments.{Segment}
+use Rattle.format.specs.Segments.{Segment, segment}
 use Rattle.format.specs.View.{View, view}
 use Rattle.format.specs.Record.{Record}
 
@@ -36,3 +36,8 @@ segmentAt v i = getD (v .segments) i noSegmentThere
 
 abbrev pub bitsBefore : Record → ℕ → ℕ
 bitsBefore r i = 192 + total (λ v. length (view (r .head .scale .widths) [] .enc v)) (take i (r .views))
+
+-- ---- bits of segments
+
+abbrev pub segmentBits : List Segment → ℕ
+segmentBits gs = total (λ g. length (segment .enc g)) gs

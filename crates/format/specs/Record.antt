@@ -49,6 +49,13 @@ pub record FitsHeader (h : Header) : Type 0 where
   pub device : h .device < 2 ^ 16
   pub scale : FitsScale (h .scale)
 
+-- how wide a header's fields can be: what code counts on
+pub record Narrow (w : Widths) : Type 0 where
+  pub b : w .b ≤ 8
+  pub c : w .c ≤ 16
+  pub low : 1 ≤ w .k
+  pub k : w .k ≤ 8
+
 -- n: the bytes lent, which the stated length must be; the number read is how many views there are
 unfoldable pub header : ℕ → Codec Bool (Header × ℕ)
 header n =

@@ -8,4 +8,5 @@ pub mod Record
 pub mod Views
 pub mod Line
 pub mod Lines
+pub mod Lists
 pub mod Segments

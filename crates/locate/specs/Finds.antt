@@ -2,22 +2,23 @@
 -- whatever value the part reads as, its answer is where that value stands.
 use mathlib.Core.Path.{_≡_}
 use Prim.Native.Nat.{ℕ, _+_, _-_, _*_, _≤_, _<_}
-use mathlib.Core.List.{List, []}
+use mathlib.Core.List.{List, [], _++_}
 use lib.ListN.{length, take, drop}
 use Rattle.bits.specs.Bits.{Bits}
 use Rattle.bits.specs.Bytes.{bitsOf}
 use Rattle.bits.specs.Codec.{got, fieldDec}
 use Rattle.bits.specs.Block.{manyDec, fillDec}
-use Rattle.bits.specs.Lists.{total}
 use Rattle.bits.specs.Reads.{found, Reads}
+use Rattle.lay.specs.HighFirst.{two}
 use Rattle.outcome.specs.Refusals.{past, badLine, tooManyLines, badSegment}
 use Rattle.format.specs.Limits.{mostLines}
 use Rattle.format.specs.Line.{Line, line, skeleton}
 use Rattle.format.specs.Segments.{Segment, segment, segments}
 use Rattle.format.specs.View.{View}
-use Rattle.format.specs.Record.{Record, read}
+use Rattle.format.specs.Places.{segmentBits}
+use Rattle.format.specs.Record.{Record, read, Narrow}
 use Rattle.format.specs.declared.Widths.{Widths}
-use Rattle.locate.specs.Stands.{Narrow, BlocksAt, ViewIn}
+use Rattle.locate.specs.Stands.{BlocksAt, ViewIn}
 use Rattle.locate.specs.declared.view.Blocks.{Blocks}
 use Rattle.locate.specs.declared.Passed.{Passed}
 
@@ -80,6 +81,10 @@ pub record LinesPassed (w : Widths) (s : List ℕ) (most : ℕ) (r : Passed) : T
 
 -- ---- segments of the extended block s
 
+-- a segment's bytes
+abbrev pub segmentStored : Segment → List ℕ
+segmentStored g = two (g .kind) ++ (two (4 + length (g .payload)) ++ g .payload)
+
 pub record SegmentsThere (s : List ℕ) : Type 0 where
   pub short : length s ≤ 65535
   pub value : List Segment
@@ -91,9 +96,6 @@ pub record SegmentsLeft (s : List ℕ) (a : ℕ) (gs : List Segment) (u : Bits) 
   pub fuel : ℕ
   pub reads : fillDec segment badSegment fuel (drop (8 * a) (bitsOf s)) ≡ got gs u
   pub within : a ≤ length s
-
-abbrev pub segmentBits : List Segment → ℕ
-segmentBits gs = total (λ g. length (segment .enc g)) gs
 
 pub record SegmentsPassed (s : List ℕ) (most : ℕ) (r : Passed) : Type 0 where
   pub upto : r .count ≤ most

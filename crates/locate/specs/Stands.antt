@@ -18,13 +18,6 @@ use Rattle.format.specs.Record.{Record}
 use Rattle.format.specs.Places.{viewAt, bitsBefore}
 use Rattle.format.specs.declared.Widths.{Widths}
 
--- the widths of an accepted header
-pub record Narrow (w : Widths) : Type 0 where
-  pub b : w .b ≤ 8
-  pub c : w .c ≤ 16
-  pub low : 1 ≤ w .k
-  pub k : w .k ≤ 8
-
 -- bits of an end
 abbrev pub endBits : Widths → ℕ
 endBits w = 2 + (w .b + (w .c + w .c))

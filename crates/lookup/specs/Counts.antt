@@ -13,7 +13,8 @@ use Rattle.bits.specs.Codec.{got}
 use Rattle.format.specs.Index.{Index, indexBlock}
 use Rattle.format.specs.View.{View}
 use Rattle.format.specs.declared.Widths.{Widths}
-use Rattle.locate.specs.Stands.{Narrow, ViewAt}
+use Rattle.format.specs.Record.{Narrow}
+use Rattle.locate.specs.Stands.{ViewAt}
 use Rattle.lookup.specs.Listing.{Listed, listed}
 use Rattle.lookup.specs.declared.listing.Listed as d
 

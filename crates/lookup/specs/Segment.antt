@@ -6,17 +6,15 @@ use mathlib.Core.List.{List, []}
 use lib.ListN.{length, take}
 use lib.Dec.{ltb}
 use Rattle.bits.specs.Choice.{pick}
-use Rattle.bits.specs.Lists.{total}
 use Rattle.bits.specs.Codec as C
 use Rattle.outcome.specs.Refusals.{noView, noSegment}
 use Rattle.outcome.specs.Outcome.{Outcome, refused, given, told}
 use Rattle.outcome.specs.declared.Answer.{Answer}
 use Rattle.format.specs.Line.{skeleton}
 use Rattle.format.specs.Index.{indexBlock}
-use Rattle.format.specs.Segments.{segment}
 use Rattle.format.specs.View.{View}
 use Rattle.format.specs.Record.{Record, read}
-use Rattle.format.specs.Places.{bitsBefore, viewAt, segmentAt}
+use Rattle.format.specs.Places.{bitsBefore, viewAt, segmentAt, segmentBits}
 use Rattle.format.specs.Call.{onRecord}
 use Rattle.format.specs.declared.Widths.{Widths}
 
@@ -43,7 +41,7 @@ bitsAhead w v = 80 + length (skeleton w .enc (v .lines)) + 16 + length (indexBlo
 -- the first bit of a payload, behind its type and its length
 abbrev pub firstBit : (view place : ℕ) → Record → ℕ
 firstBit view place r =
-    bitsBefore r view + bitsAhead (r .head .scale .widths) (viewAt r view) + total (λ g. length (segment .enc g)) (take place (viewAt r view .segments)) + 32
+    bitsBefore r view + bitsAhead (r .head .scale .widths) (viewAt r view) + segmentBits (take place (viewAt r view .segments)) + 32
 
 abbrev pub firstBitRead : (view place : ℕ) → C.Read Bool Record → ℕ
 firstBitRead view place (C.got r rest) = firstBit view place r

@@ -4,3 +4,4 @@ pub mod Header
 pub mod Index
 pub mod Segments
 pub mod View
+pub mod Seen

@@ -16,7 +16,7 @@ use Rattle.outcome.specs.Refusals.{past, badLine}
 use Rattle.format.specs.Line.{end}
 use Rattle.format.specs.Index.{indexBlock}
 use Rattle.format.specs.Segments.{segments}
-use Rattle.format.specs.View.{viewHeader}
+use Rattle.format.specs.View.{viewHeader, occurs}
 use Rattle.format.specs.Record.{header}
 use Rattle.format.specs.SheetSize.{indexSize, segmentSize}
 use Rattle.format.specs.declared.Widths.{Widths}
@@ -125,6 +125,11 @@ segmentsAtDec s = kept (total segmentSize) (prefixed segments past .dec s)
 -- how many earlier views have a position, where seen counts them
 abbrev pub earlierOf : List ℕ → ℕ → ℕ
 earlierOf seen p = pick (leb p 10) (getD seen p 0) 0
+
+-- eleven counts stand for the positions ps of those views
+pub record Seen (seen ps : List ℕ) : Type 0 where
+  pub eleven : length seen ≡ 11
+  pub is : (p : ℕ) → earlierOf seen p ≡ occurs p ps
 
 unfoldable pub headDec : List ℕ → Bits → Read Bool (ViewHeader × ℕ)
 headDec seen s = viewHeader (earlierOf seen) .dec s

@@ -98,9 +98,6 @@ filled-length xs =
     let e : length (filled xs) ≡ n + pad n = length-append xs (zeros (pad n)) ∙ ap (λ (k : ℕ). n + k) (length-replicate (pad n) false) in
     length-in (filled xs) ∙ ap (λ (k : ℕ). k / 8) e ∙ omega arith
 
-pub filled-whole : (xs : Bits) → length xs % 8 ≡ 0 → filled xs ≡ xs
-filled-whole xs e = let z : pad (length xs) ≡ 0 = omega arith in ap (λ (n : ℕ). xs ++ zeros n) z ∙ append-nil xs
-
 -- filled up to n bytes
 pub filled-to : (xs : Bits) (n : ℕ) → (length xs + 7) / 8 ≡ n
     → (length (xs ++ zeros (8 * n - length xs)) ≡ 8 * n) × (inBytes (filled xs) ≡ bytesOf n (xs ++ zeros (8 * n - length xs)))

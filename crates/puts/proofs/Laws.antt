@@ -12,10 +12,10 @@ use Rattle.bits.specs.ChoiceLaws.{eq-split}
 use Rattle.bits.specs.Bits.{Bits, numberOf, bitsOfNumber, filled}
 use Rattle.bits.specs.BitsLaws.{length-bits}
 use Rattle.bits.specs.Bytes.{bytesOf, inBytes}
-use Rattle.bits.specs.BytesLaws.{length-bytesOf, length-in}
+use Rattle.bits.specs.BytesLaws.{length-bytesOf}
 use Rattle.lay.specs.Laid.{Laid}
 use Rattle.puts.specs.Put.{Put, PutMore}
-use Rattle.puts.proofs.Bytes.{number-none, bytes-take, filled-append, filled-length, filled-whole, one-byte}
+use Rattle.puts.proofs.Bytes.{number-none, bytes-take, filled-append, filled-length, one-byte}
 use Rattle.puts.proofs.ThreeBytes.{three, three-bytes, windowOf, length-window, number-window, bytes-window}
 
 -- ---- for users
@@ -25,25 +25,9 @@ pub put-none : (before : List ℕ) → Put [] before before 0
 unfolding bytesOf
 put-none before = record { count = refl; is = refl }
 
--- a buffer keeps its length
-pub put-same : {xs : Bits} {before now : List ℕ} {at : ℕ} → Put xs before now at → at ≤ 8 * length before → length now ≡ length before
-put-same {xs} {before} p l =
-    let n = length (inBytes (filled xs)) in
-    ap length (p .is) ∙ length-append (inBytes (filled xs)) (drop n before) ∙ omega (arith, length-drop n before, filled-length xs, p .count)
-
 -- bits put are bytes laid, filled up
 pub put-laid : {xs : Bits} {before now : List ℕ} {at n : ℕ} → Put xs before now at → n ≡ (at + 7) / 8 → Laid (inBytes (filled xs)) before now n
 put-laid {xs} p e = record { count = omega (arith, filled-length xs, p .count); is = p .is }
-
--- bits in whole bytes
-pub put-laid-whole : {xs : Bits} {before now : List ℕ} {at n : ℕ} → Put xs before now at → length xs % 8 ≡ 0 → n ≡ at / 8 → Laid (inBytes xs) before now n
-put-laid-whole {xs} {at = at} {n = n} p w e =
-    let z : n ≡ (at + 7) / 8 = omega (arith, p .count) in
-    rw (filled-whole xs w) at (put-laid p z)
-
--- and back: bits may follow bytes
-pub laid-put : {xs : Bits} {before now : List ℕ} {n : ℕ} → length xs % 8 ≡ 0 → Laid (inBytes xs) before now n → Put xs before now (8 * n)
-laid-put {xs} w h = record { count = omega (arith, length-in xs, h .count); is = rw (filled-whole xs w) (h .is) }
 
 -- ---- what a buffer with bits put is made of
 

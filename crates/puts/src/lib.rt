@@ -1,10 +1,8 @@
 // Writers of bits, high bit first, at the start of a lent buffer, one number behind the other. The last byte begun is filled up
 // with zero bits, and what lies behind it stays.
 ghost use mathlib.Core.Path.{_≡_};
-ghost use mathlib.Core.List.{_++_};
 ghost use Prim.Native.Nat.{_+_, _-_, _*_, _/_, _^_, _≤_, _<_};
 ghost use lib.ListN.{length, take, drop};
-ghost use Rattle.lay.specs.HighFirst.{two};
 ghost use Rattle.puts.specs.Put.{CanPut, PutMore};
 use bits::wide;
 
@@ -38,13 +36,4 @@ pub fn put_bits(out: &mut [u8], at: usize, value: usize, width: usize) -> usize
     }
     out[i + 2] = (word % 256) as u8;
     at + width
-}
-
-// A number of 16 bits, high byte first, over the bytes at place `at`: to patch a length in front of a block.
-pub fn put_two_at(out: &mut [u8], at: usize, value: usize)
-    requires { ⌜ (at + 2 ≤ length (now out)) × (value < 65536) ⌝ }
-    ensures { λ _. ⌜ now (out .exit) ≡ take at (now (out .entry)) ++ two value ++ drop (at + 2) (now (out .entry)) ⌝ }
-{
-    out[at] = (value / 256 % 256) as u8;
-    out[at + 1] = (value % 256) as u8;
 }

@@ -8,17 +8,15 @@ use Rattle.bits.specs.Lists.{All, total}
 use Rattle.lay.specs.Laid.{Laid}
 use Rattle.lay.specs.HighFirst.{two, joined}
 use Rattle.format.specs.Segments.{Segment, FitsSegment}
+use Rattle.locate.specs.Finds.{segmentStored}
 use Rattle.to_record.specs.Run.{RunAt}
 use Rattle.to_record.specs.declared.Done.{Done}
 
 -- ---- segments: fields 06 from byte a of the sheet s on; n bytes are lent
 
--- what a field holds, and what the record has
+-- what a field holds
 abbrev pub segmentHeld : Segment → List ℕ
 segmentHeld g = two (g .kind) ++ g .payload
-
-abbrev pub segmentStored : Segment → List ℕ
-segmentStored g = two (g .kind) ++ (two (4 + length (g .payload)) ++ g .payload)
 
 pub record SegmentsThere (s : List ℕ) (a n : ℕ) : Type 0 where
   pub value : List Segment

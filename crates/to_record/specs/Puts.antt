@@ -15,7 +15,8 @@ use Rattle.format.specs.Line.{Line, FitsEnd, FitsLine, end, line}
 use Rattle.format.specs.declared.End.{End}
 use Rattle.format.specs.declared.Widths.{Widths}
 use Rattle.sheet.specs.Code.{extended}
-use Rattle.locate.specs.Stands.{Narrow, endBits}
+use Rattle.format.specs.Record.{Narrow}
+use Rattle.locate.specs.Stands.{endBits}
 use Rattle.to_sheet.specs.Bytes.{endBytes}
 use Rattle.to_record.specs.Run.{RunAt}
 use Rattle.to_record.specs.declared.line.Lines.{Lines}

@@ -7,9 +7,8 @@ use Rattle.bits.specs.Lists.{All}
 use Rattle.lay.specs.Laid.{Laid}
 use Rattle.lay.specs.HighFirst.{two, joined}
 use Rattle.format.specs.View.{View}
-use Rattle.format.specs.Record.{Record, size, Allowed}
+use Rattle.format.specs.Record.{Record, size, Allowed, Narrow}
 use Rattle.format.specs.declared.Widths.{Widths}
-use Rattle.locate.specs.Stands.{Narrow}
 use Rattle.to_sheet.specs.Bytes.{viewBytes, recordBytes}
 use Rattle.to_record.specs.Bytes.{viewOut, recordOut}
 use Rattle.to_record.specs.Views.{RightView}

@@ -12,7 +12,7 @@ use Rattle.format.specs.Index.{Index, indexBlock}
 use Rattle.format.specs.Segments.{Segment, FitsSegment, segments}
 use Rattle.format.specs.View.{View}
 use Rattle.format.specs.declared.Widths.{Widths}
-use Rattle.locate.specs.Stands.{Narrow}
+use Rattle.format.specs.Record.{Narrow}
 use Rattle.to_sheet.specs.Bytes.{indexBytes, viewBytes}
 use Rattle.to_record.specs.Bytes.{sizedOut, viewOut}
 use Rattle.to_record.specs.Run.{Other, RunAt}

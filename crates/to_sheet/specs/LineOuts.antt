@@ -15,7 +15,7 @@ use Rattle.format.specs.Line.{Line, line, skeleton}
 use Rattle.format.specs.SheetSize.{lineSize}
 use Rattle.format.specs.declared.Widths.{Widths}
 use Rattle.lay.specs.HighFirst.{joined}
-use Rattle.locate.specs.Stands.{Narrow}
+use Rattle.format.specs.Record.{Narrow}
 use Rattle.to_sheet.specs.Bytes.{lineBytes}
 use Rattle.to_sheet.specs.declared.line.Lined.{Lined}
 use Rattle.to_sheet.specs.declared.line.Lines.{Lines}

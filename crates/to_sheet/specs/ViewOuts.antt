@@ -12,7 +12,8 @@ use Rattle.format.specs.SheetSize.{lineSize, indexSize, segmentSize, viewSize}
 use Rattle.format.specs.declared.Widths.{Widths}
 use Rattle.lay.specs.HighFirst.{joined}
 use Rattle.to_sheet.specs.Bytes.{lineBytes, indexBytes, segmentBytes, viewBytes}
-use Rattle.locate.specs.Stands.{Narrow, BlocksAt}
+use Rattle.format.specs.Record.{Narrow}
+use Rattle.locate.specs.Stands.{BlocksAt}
 use Rattle.to_sheet.specs.declared.view.ViewOut.{ViewOut}
 
 -- ---- the blocks of a view; the length of the first is at byte b

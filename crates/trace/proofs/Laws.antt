@@ -19,7 +19,7 @@ use Rattle.outcome.specs.Outcome.{Outcome, refused, given, AnswersAs}
 use Rattle.outcome.proofs.Laws.{answer-full, answer-given}
 use Rattle.lay.specs.Laid.{Laid}
 use Rattle.format.specs.Line.{Line, line}
-use Rattle.format.specs.Record.{Record, FitsHeader, read}
+use Rattle.format.specs.Record.{Record, FitsHeader, read, Narrow}
 use Rattle.format.specs.Places.{viewAt, count, lineAt}
 use Rattle.format.specs.declared.Scale.{Scale}
 use Rattle.format.specs.declared.Header.{Header}
@@ -30,7 +30,7 @@ use Rattle.trail.specs.Trail.{firstHeading, follow, trail, trailIn, trailing}
 use Rattle.trail.proofs.Laws.{first-small}
 use Rattle.follow.specs.Walk.{CodesThere, OfCodes, drawn, CanDraw}
 use Rattle.follow.proofs.Laws.{trail-length}
-use Rattle.locate.specs.Stands.{Narrow, endBits}
+use Rattle.locate.specs.Stands.{endBits}
 use Rattle.locate.proofs.Laws.Line.{LineAt, line-at, direction-at}
 use Rattle.trace.specs.Trace.{Draws, DrawsPart}
 use Rattle.trace.specs.declared.Walk.{Walk}

@@ -7,7 +7,7 @@ pub mod Lines
 pub mod Lists
 pub mod Blocks
 pub mod Index
-pub mod Seen
+pub mod Head
 pub mod View
 pub mod Views
 pub mod Sheet

@@ -7,9 +7,9 @@ use lib.ListN.{length}
 use lib.Dec.{T}
 use Rattle.bits.specs.Codec.{got, refused}
 use Rattle.outcome.specs.Refusals.{badValue}
-use Rattle.format.specs.View.{View, view, occurs}
+use Rattle.format.specs.View.{View, view}
 use Rattle.format.specs.declared.Widths.{Widths}
-use Rattle.parts.specs.Answers.{earlierOf}
+use Rattle.parts.specs.Answers.{Seen}
 use Rattle.sheet.specs.Fields.{Field}
 use Rattle.sheet.specs.Grammar.{RawView, viewIn}
 use Rattle.sheet.specs.Sheet.{viewFrom}
@@ -22,11 +22,6 @@ use Rattle.values.specs.declared.view.ViewWorth.the-variants as worth
 pub record ViewThere (s : List ℕ) (p : ℕ) (fs : List Field) : Type 0 where
   pub stand : FieldsAt s p fs
   pub right : T (viewRight fs)
-
--- eleven counts stand for the positions of the views before
-pub record Seen (seen ps : List ℕ) : Type 0 where
-  pub eleven : length seen ≡ 11
-  pub is : (p : ℕ) → earlierOf seen p ≡ occurs p ps
 
 -- the first view, whose 02 is the first field
 abbrev pub rawIn : List Field → RawView

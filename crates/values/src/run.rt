@@ -1,7 +1,7 @@
 // The values of fields that may come several times, one behind the other: lines, neighbour lists, segments. Each function goes over
 // them as long as they come, and counts what they take in a record.
 ghost use Prim.Native.Nat.{_≤_};
-ghost use Rattle.locate.specs.Stands.{Narrow};
+ghost use Rattle.format.specs.Record.{Narrow};
 ghost use Rattle.values.specs.Run.{Some, Lines, LinesAre, Lists, ListsAre, Segments, SegmentsAre};
 use fields::two_at;
 use format::Widths;

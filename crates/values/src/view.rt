@@ -1,6 +1,6 @@
 // The values of one view: its header, its lines, its index, its segments. Each part stands where the one before has ended; the first
 // that is wrong is the answer.
-ghost use Rattle.locate.specs.Stands.{Narrow};
+ghost use Rattle.format.specs.Record.{Narrow};
 ghost use Rattle.values.specs.Run.{Some};
 ghost use Rattle.values.specs.View.{ViewThere, ViewIs};
 use crate::index::index_values;

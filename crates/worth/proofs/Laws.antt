@@ -2,4 +2,3 @@
 pub mod Ended
 pub mod Line
 pub mod List
-pub mod Widths

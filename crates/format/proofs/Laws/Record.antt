@@ -6,7 +6,7 @@ use native.Mathlib.Omega.{arith}
 use mathlib.Core.List.{List, [], _∷_, append-nil}
 use lib.ListN.{length}
 use Rattle.bits.specs.Choice.{within}
-use Rattle.bits.specs.ChoiceLaws.{pick-yes, pick-split, within-high, within-yes}
+use Rattle.bits.specs.ChoiceLaws.{pick-yes, pick-split, within-low, within-high, within-yes}
 use Rattle.bits.specs.Lists.{All}
 use Rattle.bits.specs.Bits.{Bits}
 use Rattle.bits.specs.Bytes.{Byte, bitsOf}
@@ -14,7 +14,9 @@ use Rattle.bits.specs.BytesLaws.{length-bitsOf, length-bytesOf, bits-bytes, byt
 use Rattle.bits.specs.Codec.{got}
 use Rattle.bits.specs.CodecLaws.{not-got, next-got}
 use Rattle.format.specs.Limits.{leastBytes, mostBytes}
-use Rattle.format.specs.Record.{Record, FitsRecord, recordOf, read, allOf, size, write, Allowed}
+use Rattle.format.specs.Record.{Record, FitsHeader, Narrow, FitsRecord, recordOf, read, allOf, size, write, Allowed}
+use Rattle.format.specs.declared.Widths.{Widths}
+use Rattle.format.specs.declared.Header.{Header}
 use Rattle.format.proofs.Laws.Size.{size-is, views-length}
 
 record-there : (n : ℕ) (r : Record) → n < 2 ^ 32 → FitsRecord r → recordOf n .dec (recordOf n .enc r) ≡ got r []
@@ -57,3 +59,15 @@ unfolding write
 read-back bytes r q h p =
     let (a, s, g, y) = read-is bytes r q p in
     (a, rw (← s, ← g) (sym (bytes-bits bytes h)), y)
+
+-- what code counts on in a header that fits
+pub narrow : {h : Header} → FitsHeader h → Narrow (h .scale .widths)
+narrow {h} f =
+    let s = f .scale in
+    let w : Widths = h .scale .widths in
+    record {
+      b = within-high 4 8 (w .b) (s .b .1);
+      c = within-high 1 16 (w .c) (s .c .1);
+      low = omega (arith, within-low 2 8 (w .k) (s .k .1));
+      k = within-high 2 8 (w .k) (s .k .1);
+    }

@@ -1,7 +1,7 @@
 -- One byte after the other; the invariant is the copy so far.
 use borrow.Author.Needs.{needs}
 use native.Mathlib.Omega.{arith}
-use mathlib.Core.Path.{_≡_, sym, ap, _∙_}
+use mathlib.Core.Path.{_≡_, _∙_}
 use mathlib.Core.List.{_++_}
 use Prim.Native.Nat.{_≤_, _-_}
 use lib.ListN.{length, take, drop, length-set}
@@ -9,8 +9,6 @@ use lib.Seq.{take-all}
 use Rattle.lay.proofs.Laws.{copied-more}
 use Rattle.lay.proofs.copy.Statement.{statement}
 use Rattle.lay.proofs.copy.Tie as tie
-use Rattle.lay.proofs.copy.Reads as reads
-use Rattle.lay.proofs.copy.Lts as lts
 
 abbrev Inv-loop : tie.InvT-loop
 Inv-loop out₀ src i₀ out i = (i ≤ length src) × (length out ≡ length out₀) × (out ≡ take i src ++ drop i out₀)
@@ -18,37 +16,29 @@ Inv-loop out₀ src i₀ out i = (i ≤ length src) × (length out ≡ length ou
 abbrev μ-loop : tie.MeasureT-loop
 μ-loop out₀ src i₀ out i = length src - i
 
--- src/lib.rt:14:5
 loop-holds : tie.Need-loop-holds Inv-loop μ-loop
 loop-holds c = search needs
 
--- src/lib.rt:15:18
 shared-slice-read-out : tie.Need-shared-slice-read-out Inv-loop μ-loop
 shared-slice-read-out c = search needs
 
--- src/lib.rt:15:9
 slice-write-out : tie.Need-slice-write-out Inv-loop μ-loop
 slice-write-out c = search needs
 
--- src/lib.rt:16:9
 add-i : tie.Need-add-i Inv-loop μ-loop
 add-i c = search needs
 
--- src/lib.rt:14:5
 loop-less : tie.Need-loop-less Inv-loop μ-loop
 loop-less c = search needs
 
--- src/lib.rt:14:5
 loop-again : tie.Need-loop-again Inv-loop μ-loop
 loop-again c =
     let i = c .before .before .loop .inv in
     (search needs, simp length-set (i .1), rw (i .2) (copied-more _ _ _ (omega arith) (c .before .loop-test .taken)))
 
--- src/lib.rt:8:1
 same-length : tie.Need-same-length Inv-loop μ-loop
 same-length c = search needs
 
--- src/lib.rt:8:1
 returns : tie.Need-returns Inv-loop μ-loop
 returns c =
     let i = c .before .loop .inv in

@@ -1,7 +1,7 @@
 -- The tag, the high byte and the low one, stored one by one.
 use borrow.Author.Needs.{needs}
-use mathlib.Core.Path.{_≡_, refl, ap, ap₂}
-use mathlib.Core.List.{List, [], _∷_}
+use mathlib.Core.Path.{_≡_, refl, ap₂}
+use mathlib.Core.List.{[], _∷_}
 use Prim.Native.Nat.{ℕ, _/_, _%_}
 use native.Mathlib.Omega.{arith}
 use lib.ListN.{length-set}
@@ -9,38 +9,28 @@ use denote.Ref.{now}
 use Rattle.lay.proofs.Laws.{stored}
 use Rattle.lay.proofs.put_three.Statement.{statement}
 use Rattle.lay.proofs.put_three.Tie as tie
-use Rattle.lay.proofs.put_three.Reads as reads
-use Rattle.lay.proofs.put_three.Lts as lts
 
--- src/lib.rt:36:14
 cast-out : tie.Need-cast-out
 cast-out c = search needs
 
--- src/lib.rt:36:5
 slice-write-out : tie.Need-slice-write-out
 slice-write-out c = search needs
 
--- src/lib.rt:37:14
 cast-out-2 : tie.Need-cast-out-2
 cast-out-2 c = search needs
 
--- src/lib.rt:37:5
 slice-write-out-2 : tie.Need-slice-write-out-2
 slice-write-out-2 c = simp length-set (omega (arith, c .pre))
 
--- src/lib.rt:38:14
 cast-out-3 : tie.Need-cast-out-3
 cast-out-3 c = search needs
 
--- src/lib.rt:38:5
 slice-write-out-3 : tie.Need-slice-write-out-3
 slice-write-out-3 c = search needs
 
--- src/lib.rt:32:1
 same-length : tie.Need-same-length
 same-length c = search needs
 
--- src/lib.rt:32:1
 returns : tie.Need-returns
 returns c =
     let a = c .args in

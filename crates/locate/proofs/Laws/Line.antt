@@ -1,4 +1,4 @@
--- A line that was read, taken apart: its ends, its count and its codes, each at its place. A line that code passes ends where its
+-- How many bits a line takes; and a line that was read, taken apart: its ends, its count and its codes, each at its place. A line that code passes ends where its
 -- count of codes says.
 use mathlib.Core.Path.{_≡_, sym, ap, _∙_}
 use Prim.Native.Nat.{ℕ, _+_, _-_, _*_, _≤_}
@@ -27,6 +27,10 @@ end-long w x = simp (length-append, length-bits)
 pub codes-long : (e k : ℕ) (cs : List ℕ) → length (encAll (field e k) cs) ≡ length cs * k
 codes-long e k [] = omega arith
 codes-long e k (x ∷ cs) = simp (length-append, length-bits) (omega (arith, codes-long e k cs, suc-mul (length cs) k))
+
+pub line-bits : (w : Widths) (l : Line) → length (line w .enc l) ≡ endBits w + (8 + length (l .codes) * w .k) + endBits w
+unfolding line
+line-bits w l = simp (length-append, length-bits) (omega (arith, end-long w (l .start), end-long w (l .finish), codes-long badLine (w .k) (l .codes)))
 
 -- a line at place p of the block s, and its parts
 pub record LineAt (w : Widths) (s : List ℕ) (p : ℕ) (l : Line) (q : ℕ) : Type 0 where

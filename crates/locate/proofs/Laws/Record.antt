@@ -1,7 +1,6 @@
 -- A record that was read, taken apart: its header's bits, and its views behind them.
 use mathlib.Core.Path.{_≡_, refl, ap, _∙_, subst}
 use Prim.Native.Nat.{ℕ, _≤_}
-use native.Mathlib.Omega.{arith}
 use mathlib.Core.List.{List, [], _∷_, _++_}
 use lib.ListN.{length, drop, length-append}
 use lib.Seq.{drop-at}
@@ -16,9 +15,7 @@ use Rattle.bits.proofs.Laws.Apart.{then-got, via-got}
 use Rattle.format.specs.Limits.{leastBytes, mostBytes}
 use Rattle.format.specs.View.{view}
 use Rattle.format.specs.Record.{Record, FitsHeader, header, tellSeen, views, recordOf, allOf, read}
-use Rattle.format.specs.declared.Widths.{Widths}
 use Rattle.format.specs.declared.Header.{Header}
-use Rattle.locate.specs.Stands.{Narrow}
 
 -- behind x, which starts the bits
 pub behind : {s : Bits} (x r : Bits) (n : ℕ) → s ≡ x ++ r → length x ≡ n → drop n s ≡ r
@@ -75,14 +72,3 @@ record-apart s {r} p =
     let (x, y) = all-got u m in
     record-got s (within-low leastBytes mostBytes n t) (within-high leastBytes mostBytes n t) (rw (x, y) at e))
     (λ t k. not-got k)
-
-pub narrow : {h : Header} → FitsHeader h → Narrow (h .scale .widths)
-narrow {h} f =
-    let s = f .scale in
-    let w : Widths = h .scale .widths in
-    record {
-      b = within-high 4 8 (w .b) (s .b .1);
-      c = within-high 1 16 (w .c) (s .c .1);
-      low = omega (arith, within-low 2 8 (w .k) (s .k .1));
-      k = within-high 2 8 (w .k) (s .k .1);
-    }

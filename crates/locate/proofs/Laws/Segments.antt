@@ -1,6 +1,6 @@
 -- The segments of an extended block s, one by one: which are still to be read, and the next of them. A segment's bytes are its type,
 -- its length and its payload.
-use mathlib.Core.Path.{_≡_, refl, sym, ap, ap₂, _∙_}
+use mathlib.Core.Path.{_≡_, refl, sym, ap, _∙_}
 use Prim.Native.Nat.{ℕ, zero, suc, _+_, _*_, _^_, _≤_, _<_}
 use native.Mathlib.Omega.{arith}
 use mathlib.Core.Bool.{Bool}
@@ -12,7 +12,7 @@ use Rattle.bits.specs.ListsLaws.{first-left, total-more}
 use Rattle.bits.specs.Bits.{Bits, bitsOfNumber}
 use Rattle.bits.specs.Bytes.{Byte, bitsOf}
 use Rattle.bits.specs.Codec.{Codec, got, fieldDec}
-use Rattle.bits.specs.CodecLaws.{not-got, next-got, encAll, field, field-there}
+use Rattle.bits.specs.CodecLaws.{not-got, next-got, field-there}
 use Rattle.bits.specs.Block.{fillDec}
 use Rattle.bits.specs.BlockLaws.{fill-more}
 use Rattle.bits.specs.Reads.{Reads, found}
@@ -22,30 +22,15 @@ use Rattle.bits.proofs.Laws.Loops.{fill-done}
 use Rattle.bits.specs.BytesLaws.{bits-append}
 use Rattle.outcome.specs.Refusals.{badSegment}
 use Rattle.format.specs.Segments.{Segment, FitsSegment, segment, segment-length, segments}
-use Rattle.format.specs.Places.{noSegmentThere}
-use Rattle.locate.specs.Finds.{SegmentsLeft, segmentBits}
+use Rattle.format.specs.Places.{noSegmentThere, segmentBits}
+use Rattle.locate.specs.Finds.{segmentStored, SegmentsLeft}
 use Rattle.lay.specs.HighFirst.{two}
 use Rattle.locate.proofs.Laws.Front.{Front, front}
-use Rattle.locate.proofs.Laws.InBytes.{bits-two}
+use Rattle.locate.proofs.Laws.InBytes.{Spells, _⊕_, bits-two, spells-two, spells-bytes}
 
--- a segment's bytes in the record
-abbrev pub stored : Segment → List ℕ
-stored g = two (g .kind) ++ (two (4 + length (g .payload)) ++ g .payload)
-
-bits-all : (e : ℕ) (xs : List ℕ) → bitsOf xs ≡ encAll (field e 8) xs
-unfolding bitsOf
-bits-all e [] = refl
-bits-all e (x ∷ xs) = ap (λ (s : Bits). bitsOfNumber 8 x ++ s) (bits-all e xs)
-
-stored-bits : (g : Segment) → bitsOf (stored g) ≡ segment .enc g
+pub segment-spells : (g : Segment) → FitsSegment g → Spells (segmentStored g) (segment .enc g)
 unfolding segment
-stored-bits g =
-    bits-append (two (g .kind)) (two (4 + length (g .payload)) ++ g .payload)
-    ∙ ap₂ (λ (x y : Bits). x ++ y) (bits-two (g .kind))
-    (bits-append (two (4 + length (g .payload))) (g .payload) ∙ ap₂ (λ (x y : Bits). x ++ y) (bits-two (4 + length (g .payload))) (bits-all badSegment (g .payload)))
-
-stored-bytes : (g : Segment) → FitsSegment g → All Byte (stored g)
-stored-bytes g h = (omega (arith, h .kind), (omega arith, (omega (arith, h .length), (omega arith, h .payload))))
+segment-spells g f = spells-two (f .kind) ⊕ (spells-two (f .length) ⊕ spells-bytes badSegment (g .payload) (f .payload))
 
 -- the next segment of the block s, at byte a, and those behind it
 pub record SegmentAt (s : List ℕ) (a : ℕ) (rest : List Segment) (left : Bits) : Type 0 where
@@ -54,7 +39,7 @@ pub record SegmentAt (s : List ℕ) (a : ℕ) (rest : List Segment) (left : Bits
   pub is : rest ≡ value ∷ more
   pub small : 4 + length (value .payload) < 2 ^ 16
   pub tail : Bits
-  pub there : Front s a (stored value) tail
+  pub there : Front s a (segmentStored value) tail
   pub fuel : ℕ
   pub next : fillDec segment badSegment fuel (drop (8 * (a + (4 + length (value .payload)))) (bitsOf s)) ≡ got more left
 
@@ -71,8 +56,9 @@ unfolding segment
 segment-at s a k f h e =
     fill-next segment badSegment k (drop (8 * a) (bitsOf s)) (rw (length-rest s (8 * a)) (omega arith)) e λ j g gs r d more is.
     let (fits, bits) = segment .back (drop (8 * a) (bitsOf s)) g r d in
-    let there = front s a (stored g) r f (stored-bytes g fits) (omega arith) (rw (stored-bits g) bits) in
-    let l : length (stored g) ≡ 4 + length (g .payload) = omega arith in
+    let spells = segment-spells g fits in
+    let there = front s a (segmentStored g) r f (spells .bytes) (omega arith) (rw (spells .bits) at bits) in
+    let l : length (segmentStored g) ≡ 4 + length (g .payload) = omega arith in
     record {
       value = g;
       more = gs;
@@ -87,12 +73,12 @@ segment-at s a k f h e =
 module _ {s : List ℕ} {a : ℕ} {rest : List Segment} {left : Bits} (t : SegmentAt s a rest left) where
   -- the bytes behind it
   abbrev others : List ℕ
-  others = drop (length (stored (t .value))) (drop a s)
+  others = drop (length (segmentStored (t .value))) (drop a s)
 
-  here : drop a s ≡ stored (t .value) ++ others
-  here = sym (take-append-drop (length (stored (t .value))) (drop a s)) ∙ ap (λ (xs : List ℕ). xs ++ others) (t .there .is)
+  here : drop a s ≡ segmentStored (t .value) ++ others
+  here = sym (take-append-drop (length (segmentStored (t .value))) (drop a s)) ∙ ap (λ (xs : List ℕ). xs ++ others) (t .there .is)
 
-  behind : (k : ℕ) → drop (a + k) s ≡ drop k (stored (t .value) ++ others)
+  behind : (k : ℕ) → drop (a + k) s ≡ drop k (segmentStored (t .value) ++ others)
   behind k = sym (drop-drop k a s) ∙ ap (drop k) here
 
   -- its length is at its third byte

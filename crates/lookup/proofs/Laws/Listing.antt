@@ -25,7 +25,8 @@ use Rattle.format.specs.Segments.{Segment, segment-length, segments}
 use Rattle.format.specs.View.{View, FitsHead, headFields}
 use Rattle.format.specs.declared.Widths.{Widths}
 use Rattle.locate.specs.Stands.{BlockAt, ViewAt}
-use Rattle.locate.specs.Finds.{BlocksThere, BlocksFound, LinesThere, LinesPassed, SegmentsThere, segmentBits, SegmentsPassed}
+use Rattle.format.specs.Places.{segmentBits}
+use Rattle.locate.specs.Finds.{BlocksThere, BlocksFound, LinesThere, LinesPassed, SegmentsThere, SegmentsPassed}
 use Rattle.locate.specs.declared.view.Blocks.{Blocks}
 use Rattle.locate.specs.declared.Passed.{Passed}
 use Rattle.locate.proofs.Laws.Blocks.{cut, few-lines, lines-here, index-here, segments-here, no-index}

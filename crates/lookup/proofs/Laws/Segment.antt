@@ -20,13 +20,13 @@ use Rattle.outcome.specs.Outcome.{refused, given}
 use Rattle.outcome.proofs.Laws.{told-refused, told-given}
 use Rattle.format.specs.Segments.{Segment, segments}
 use Rattle.format.specs.Record.{Record, read}
-use Rattle.format.specs.Places.{noSegmentThere, viewAt, segmentAt, bitsBefore}
+use Rattle.format.specs.Places.{noSegmentThere, viewAt, segmentAt, bitsBefore, segmentBits}
 use Rattle.format.specs.declared.Header.{Header}
 use Rattle.judge.specs.Judge.{Judges}
 use Rattle.judge.specs.declared.Verdict.the-variants.{Accepted, Refused}
 use Rattle.judge.proofs.Laws.Calls.{call-refused, call-is, record-read}
 use Rattle.locate.specs.Stands.{BlockAt, ViewIn}
-use Rattle.locate.specs.Finds.{ViewThere, BlocksThere, BlocksFound, SegmentsThere, SegmentsLeft, segmentBits, SegmentsPassed}
+use Rattle.locate.specs.Finds.{ViewThere, BlocksThere, BlocksFound, SegmentsThere, SegmentsLeft, SegmentsPassed}
 use Rattle.locate.specs.declared.view.Blocks.{Blocks}
 use Rattle.locate.specs.declared.Passed.{Passed}
 use Rattle.locate.proofs.Laws.Record.{record-apart}

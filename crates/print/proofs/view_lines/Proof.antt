@@ -7,7 +7,8 @@ use lib.ListN.{length}
 use Rattle.format.specs.Places.{viewAt}
 use Rattle.format.specs.declared.Widths.{Widths}
 use Rattle.locate.specs.Stands.{ViewAt}
-use Rattle.locate.proofs.Laws.Record.{record-apart, narrow}
+use Rattle.format.proofs.Laws.Record.{narrow}
+use Rattle.locate.proofs.Laws.Record.{record-apart}
 use Rattle.locate.proofs.Laws.View.{position-few}
 use Rattle.locate.proofs.Laws.Views.{Sought, sought-first, sought-on, view-in, view-end}
 use Rattle.lookup.specs.Counts.{ListedAt}

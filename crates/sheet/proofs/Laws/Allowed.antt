@@ -21,7 +21,8 @@ use Rattle.format.specs.DifferencesLaws.{falls-count}
 use Rattle.format.specs.Index.{Index, FitsList, index, indexBlock, up}
 use Rattle.format.specs.Segments.{Segment, FitsSegment, segment, segment-length, segments}
 use Rattle.format.specs.View.{View, view, viewHeader, occurs}
-use Rattle.format.specs.Record.{Record, FitsRecord, Allowed, tellSeen, size}
+use Rattle.format.specs.Record.{Record, Narrow, FitsRecord, Allowed, tellSeen, size}
+use Rattle.format.proofs.Laws.Record.{narrow}
 use Rattle.format.specs.declared.Widths.{Widths}
 use Rattle.format.proofs.Laws.Size.{view-length, views-length}
 use Rattle.sheet.specs.Fields.{FitsField}
@@ -31,7 +32,7 @@ use Rattle.sheet.specs.Sheet.{alike, eachEnc, rawIndex, rawView, rawView
 use Rattle.sheet.proofs.Laws.Each.{each-make, length-each}
 use Rattle.sheet.proofs.Laws.Lengths.{value-bytes, length-header, length-viewHead, length-line, length-width, length-list, length-segment}
 use Rattle.sheet.proofs.Laws.Values.{RightView, RightValues}
-use Rattle.sheet.proofs.Laws.Fits.{Narrow, lineShape, lines-value, lines-shape, lines-fit, index-value, index-fits, index-shape}
+use Rattle.sheet.proofs.Laws.Fits.{lineShape, lines-value, lines-shape, lines-fit, index-value, index-fits, index-shape}
 
 -- ---- segments
 
@@ -190,15 +191,10 @@ module _ (w : Widths) where
 abbrev recordTests : Record → List Bool
 recordTests r = eqb (length (rawOf r .head)) 9 ∷ within 1 255 (length (rawOf r .views)) ∷ every viewShape (rawOf r .views) ∷ []
 
-narrow : (r : Record) → FitsRecord r → Narrow (r .head .scale .widths)
-narrow r f =
-    let s = f .head .scale in
-    record { b = within-high 4 8 _ (s .b .1); c = within-high 1 16 _ (s .c .1); k = within-high 2 8 _ (s .k .1) }
-
 module _ (r : Record) (f : FitsRecord r) where
   pub record-right : RightValues r
   unfolding headerValue
-  record-right = record { head = f .head; views = views-right (r .head .scale .widths) [] (r .views) (narrow r f) (f .views) }
+  record-right = record { head = f .head; views = views-right (r .head .scale .widths) [] (r .views) (narrow (f .head)) (f .views) }
 
   pub record-shape : T (sheetShape (rawOf r))
   unfolding rawOf

@@ -19,6 +19,7 @@ use Rattle.format.specs.Limits.{mostLines}
 use Rattle.format.specs.Line.{Line, FitsEnd, FitsLine}
 use Rattle.format.specs.Differences.{Falls, diffs}
 use Rattle.format.specs.Index.{Index, FitsList, index, indexBlock, up}
+use Rattle.format.specs.Record.{Narrow}
 use Rattle.format.specs.declared.Widths.{Widths}
 use Rattle.format.specs.declared.End.{End}
 use Rattle.sheet.specs.Code.{extended}
@@ -28,13 +29,6 @@ use Rattle.sheet.specs.Sheet.{alike, eachEnc, rawIndex}
 use Rattle.sheet.proofs.Laws.Each.{each-make, each-take, length-each}
 use Rattle.sheet.proofs.Laws.Lengths.{length-line, length-width, length-list}
 use Rattle.sheet.proofs.Laws.Values.{RightIndex}
-
--- ---- the widths of a header that fits
-
-pub record Narrow (w : Widths) : Type 0 where
-  pub b : w .b ≤ 8
-  pub c : w .c ≤ 16
-  pub k : w .k ≤ 8
 
 -- ---- a line
 

@@ -4,24 +4,24 @@ use Prim.Native.Nat.{ℕ, zero, suc, _+_, _-_, _*_, _/_, _≤_, _<_}
 use native.Mathlib.Omega.{arith}
 use native.Mathlib.Numerals.{add-one}
 use mathlib.Core.List.{List, [], _∷_, _++_}
-use lib.ListN.{length, take, drop, getD, length-append}
+use lib.ListN.{length, take, drop, getD}
 use lib.Seq.{drop-cons, take-suc, take-all, length-take-le, getD-drop}
-use Rattle.bits.specs.Bits.{Bits, bitsOfNumber}
-use Rattle.bits.specs.BitsLaws.{length-bits}
-use Rattle.bits.specs.CodecLaws.{encAll, encAlong, field}
+use Rattle.bits.specs.Bits.{bitsOfNumber}
+use Rattle.bits.specs.CodecLaws.{encAll, field}
 use Rattle.outcome.specs.Refusals.{badIndex}
 use Rattle.lay.specs.HighFirst.{two, joined}
 use Rattle.lay.proofs.Laws.{twos-length}
-use Rattle.format.specs.Differences.{Falls, diffs, diff, tell}
+use Rattle.format.specs.Differences.{Falls, diffs}
 use Rattle.format.specs.DifferencesLaws.{length-diffs}
-use Rattle.format.specs.Index.{FitsList, neighbours}
+use Rattle.format.specs.Index.{FitsList}
 use Rattle.locate.proofs.Laws.Line.{codes-long}
+use Rattle.locate.proofs.Laws.Lists.{list-is}
 use Rattle.puts.specs.Put.{PutMore}
 use Rattle.to_record.specs.Puts.{Puts}
 use Rattle.to_record.specs.Lists.{ListPut}
 use Rattle.to_record.proofs.Laws.Puts.{puts-one, puts-none, _then_, puts-as, enc-snoc}
 
--- ---- a list's bytes and bits
+-- ---- a list's bytes
 
 -- number i of the list is at bytes 2i and 2i + 1
 pub twos-at : (ns : List ℕ) (i : ℕ) → i < length ns → getD (joined two ns) (2 * i) 0 * 256 + getD (joined two ns) (2 * i + 1) 0 ≡ getD ns i 0
@@ -31,19 +31,6 @@ twos-at (n ∷ ns) (suc i) l =
     let a : 2 * suc i ≡ suc (suc (2 * i)) = omega arith in
     let b : 2 * suc i + 1 ≡ suc (suc (2 * i + 1)) = omega arith in
     ap₂ (λ (x y : ℕ). getD (joined two (n ∷ ns)) x 0 * 256 + getD (joined two (n ∷ ns)) y 0) a b ∙ twos-at ns i (omega arith)
-
--- what a difference is allowed to be does not change its bits
-diffs-bits : (w : ℕ) (t : ℕ × ℕ) (ds : List ℕ) → encAlong (diff w) tell t ds ≡ encAll (field badIndex w) ds
-diffs-bits w t [] = refl
-diffs-bits w t (d ∷ ds) = ap (λ (s : Bits). bitsOfNumber w d ++ s) (diffs-bits w (tell t d) ds)
-
-list-is : (w l : ℕ) (ns : List ℕ) → neighbours w l .enc ns ≡ bitsOfNumber w (length ns) ++ encAll (field badIndex w) (diffs l ns)
-list-is w l ns = ap (λ (s : Bits). bitsOfNumber w (length ns) ++ s) (diffs-bits w (0, l) (diffs l ns))
-
-pub list-bits : (w l : ℕ) (ns : List ℕ) → length (neighbours w l .enc ns) ≡ w + length ns * w
-list-bits w l ns =
-    ap length (list-is w l ns) ∙ length-append (bitsOfNumber w (length ns)) (encAll (field badIndex w) (diffs l ns))
-    ∙ omega (arith, length-bits w (length ns), codes-long badIndex w (diffs l ns) ∙ ap (λ (n : ℕ). n * w) (length-diffs l ns))
 
 -- ---- the loop over the numbers: i of them are put, and before is the one before the next
 

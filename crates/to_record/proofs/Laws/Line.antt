@@ -8,7 +8,6 @@ use lib.ListN.{length, take, drop, getD, length-append, length-map}
 use lib.Seq.{take-all}
 use Rattle.bits.specs.Lists.{All, total}
 use Rattle.bits.specs.ListsLaws.{total-append}
-use Rattle.bits.specs.BitsLaws.{length-bits}
 use Rattle.bits.specs.CodecLaws.{encAll, field}
 use Rattle.bits.proofs.Laws.Parts.{part}
 use Rattle.outcome.specs.Refusals.{badLine}
@@ -18,7 +17,8 @@ use Rattle.format.specs.Line.{Line, FitsLine, end, line, line-long}
 use Rattle.format.specs.declared.Widths.{Widths}
 use Rattle.sheet.specs.Code.{extended}
 use Rattle.locate.specs.Stands.{endBits}
-use Rattle.locate.proofs.Laws.Line.{end-long, codes-long}
+use Rattle.locate.proofs.Laws.Line.{end-long, codes-long, line-bits}
+use Rattle.locate.proofs.Laws.Lists.{all-long}
 use Rattle.to_sheet.specs.Bytes.{endBytes}
 use Rattle.to_record.specs.Run.{RunAt}
 use Rattle.to_record.specs.Puts.{Puts, Room, EndPut, CodesPut, lineHeld, LinePut, LinesPut}
@@ -26,10 +26,6 @@ use Rattle.to_record.proofs.Laws.Puts.{puts-one, _then_, enc-snoc}
 use Rattle.to_record.proofs.Laws.Run.{FieldNext, run-next, Going, going-first, going-fits, going-next, going-ends}
 
 -- ---- a line
-
-line-bits : (w : Widths) (l : Line) → length (line w .enc l) ≡ endBits w + (8 + length (l .codes) * w .k) + endBits w
-unfolding line
-line-bits w l = simp (length-append, length-bits) (omega (arith, end-long w (l .start), end-long w (l .finish), codes-long badLine (w .k) (l .codes)))
 
 module _ (k : ℕ) (l : Line) {s : List ℕ} (h : s ≡ lineHeld k l) where
   pub held-long : length s ≡ 12 + length (l .codes)
@@ -74,10 +70,6 @@ module _ (w : Widths) (l : Line) (f : FitsLine w l) {s : List ℕ} (h : s ≡ li
 
 -- ---- the loop over the lines
 
-pub enc-long : (w : Widths) (ls : List Line) → length (encAll (line w) ls) ≡ total (λ l. length (line w .enc l)) ls
-enc-long w [] = refl
-enc-long w (l ∷ ls) = length-append (line w .enc l) (encAll (line w) ls) ∙ ap (λ (n : ℕ). length (line w .enc l) + n) (enc-long w ls)
-
 few-lines : (w : Widths) (ls : List Line) → length ls ≤ length (encAll (line w) ls)
 few-lines w [] = omega arith
 few-lines w (l ∷ ls) = omega (arith, few-lines w ls, length-append (line w .enc l) (encAll (line w) ls), line-long w l)
@@ -113,7 +105,7 @@ module _ (w : Widths) {s : List ℕ} {p : ℕ} (l : p < length s) (t : getD s p 
         let f : Line → ℕ = λ l. length (line w .enc l) in
         let a : total f ls ≡ total f (g .done) + total f (g .more) = ap (total f) (g .is) ∙ total-append f (g .done) (g .more) in
         let b : total f (g .more) ≡ f (line-here .one) + total f (line-here .more) = ap (total f) (line-here .is) in
-        let c : at ≡ total f (g .done) = g .holds .0 .count ∙ enc-long w (g .done) in
+        let c : at ≡ total f (g .done) = g .holds .0 .count ∙ all-long (line w) (g .done) in
         record { room = omega (arith, r .room); near = omega (arith, r .near) }
 
   pub lines-next : {a : ℕ} {before now now′ : List ℕ} {at n m r : ℕ} → LinesGoing w s a before p now at n → m ≡ getD s (p + 1) 0 * 256 + getD s (p + 1 + 1) 0
@@ -131,7 +123,7 @@ module _ (w : Widths) {s : List ℕ} {p : ℕ} {before now : List ℕ} {at n : �
   lines-near r =
       let f : Line → ℕ = λ l. length (line w .enc l) in
       let a : total f ls ≡ total f (g .done) + total f (g .more) = ap (total f) (g .is) ∙ total-append f (g .done) (g .more) in
-      let c : at ≡ total f (g .done) = g .holds .0 .count ∙ enc-long w (g .done) in
+      let c : at ≡ total f (g .done) = g .holds .0 .count ∙ all-long (line w) (g .done) in
       (omega (arith, g .holds .1, g .holds .0 .count, few-lines w (g .done)), omega (arith, r .near))
 
 pub lines-end : (w : Widths) {s : List ℕ} {a : ℕ} {before now : List ℕ} {p at n : ℕ} → LinesGoing w s a before p now at n → (p < length s → getD s p 0 ≡ 3 → ⊥)

@@ -18,7 +18,7 @@ use Rattle.format.specs.Segments.{segment, segments}
 use Rattle.format.specs.View.{View, viewHeader, view}
 use Rattle.format.specs.Record.{Record, tellSeen, size, write, Allowed}
 use Rattle.format.specs.declared.Widths.{Widths}
-use Rattle.locate.proofs.Laws.Record.{narrow}
+use Rattle.format.proofs.Laws.Record.{narrow}
 use Rattle.to_sheet.specs.Bytes.{viewBytes, recordBytes}
 use Rattle.to_sheet.proofs.Laws.Blocks.{lent, back}
 use Rattle.to_record.specs.Bytes.{viewOut, headerOut, recordOut}

@@ -13,8 +13,9 @@ use Rattle.lay.proofs.Laws.{laid-none, laid-next, joined-snoc}
 use Rattle.format.specs.Segments.{Segment, FitsSegment}
 use Rattle.to_sheet.proofs.Laws.Sizes.{joined-size}
 use Rattle.to_sheet.proofs.Laws.Blocks.{lent, back}
+use Rattle.locate.specs.Finds.{segmentStored}
 use Rattle.to_record.specs.Run.{RunAt}
-use Rattle.to_record.specs.Outs.{segmentHeld, segmentStored, SegmentsOut}
+use Rattle.to_record.specs.Outs.{segmentHeld, SegmentsOut}
 use Rattle.to_record.proofs.Laws.Run.{FieldNext, run-next, Going, going-first, going-fits, going-next, going-ends}
 
 -- those of the segments gs that the loop has passed are laid

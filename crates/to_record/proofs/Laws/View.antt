@@ -13,7 +13,6 @@ use Rattle.bits.specs.BytesLaws.{length-in}
 use Rattle.bits.specs.CodecLaws.{encAll}
 use Rattle.bits.specs.Block.{Block}
 use Rattle.bits.proofs.Laws.Parts.{part}
-use Rattle.outcome.specs.Refusals.{badSegment}
 use Rattle.lay.specs.Laid.{Laid}
 use Rattle.lay.specs.HighFirst.{two, start, joined}
 use Rattle.lay.proofs.Laws.{laid-next}
@@ -22,18 +21,21 @@ use Rattle.format.specs.Index.{Index, indexBlock}
 use Rattle.format.specs.View.{View}
 use Rattle.format.specs.Segments.{Segment, FitsSegment, segment, segments}
 use Rattle.format.specs.declared.Widths.{Widths}
-use Rattle.locate.proofs.Laws.InBytes.{Spells, in-spelled, _⊕_, spells-two, spells-bytes, spells-all}
+use Rattle.locate.proofs.Laws.InBytes.{in-spelled, spells-all}
+use Rattle.locate.proofs.Laws.Lists.{all-long}
+use Rattle.locate.proofs.Laws.Segments.{segment-spells}
 use Rattle.to_sheet.proofs.Laws.Sizes.{joined-size}
 use Rattle.to_sheet.proofs.Laws.Blocks.{lent, back}
 use Rattle.to_sheet.specs.Bytes.{headBytes, lineBytes, indexBytes, segmentBytes, viewBytes}
+use Rattle.locate.specs.Finds.{segmentStored}
 use Rattle.to_record.specs.Run.{Other, fieldOf, RunAt}
 use Rattle.to_record.specs.Puts.{lineHeld}
-use Rattle.to_record.specs.Outs.{segmentHeld, segmentStored}
+use Rattle.to_record.specs.Outs.{segmentHeld}
 use Rattle.to_record.specs.Views.{SkeletonOut, IndexSized, SegmentsSized, NextView, RightView}
 use Rattle.to_record.specs.Bytes.{sizedOut, viewOut}
 use Rattle.to_record.specs.declared.Done.{Done}
 use Rattle.to_record.specs.declared.line.Lines.{Lines}
-use Rattle.to_record.proofs.Laws.Line.{enc-long, held-long}
+use Rattle.to_record.proofs.Laws.Line.{held-long}
 
 -- ---- a block behind its length
 
@@ -70,11 +72,7 @@ skeleton-bytes w ls = ap inBytes (sym (skeleton-is w ls))
 pub lines-bits : (w : Widths) (ls : List Line) → total (λ l. length (line w .enc l)) ls ≤ 8 * length (inBytes (skeleton w .enc ls))
 lines-bits w ls =
     let b : Bits = encAll (line w) ls in
-    omega (arith, block-long (skeleton w) ls, ap length (skeleton-is w ls), length-append b (zeros (pad (length b))), enc-long w ls)
-
-segment-spells : (g : Segment) → FitsSegment g → Spells (segmentStored g) (segment .enc g)
-unfolding segment
-segment-spells g f = spells-two (f .kind) ⊕ (spells-two (f .length) ⊕ spells-bytes badSegment (g .payload) (f .payload))
+    omega (arith, block-long (skeleton w) ls, ap length (skeleton-is w ls), length-append b (zeros (pad (length b))), all-long (line w) ls)
 
 pub segments-bytes : (gs : List Segment) → All FitsSegment gs → inBytes (segments .enc gs) ≡ joined segmentStored gs
 unfolding segments segment

@@ -27,7 +27,8 @@ use Rattle.sheet.specs.Code.{extended}
 use Rattle.lay.specs.HighFirst.{start}
 use Rattle.to_sheet.specs.Bytes.{endBytes, lineBytes}
 use Rattle.to_sheet.specs.LineParts.{SmallEnd, PartsThere, PartsOut}
-use Rattle.locate.specs.Stands.{Narrow, endBits}
+use Rattle.format.specs.Record.{Narrow}
+use Rattle.locate.specs.Stands.{endBits}
 use Rattle.locate.proofs.Laws.Line.{line-at}
 use Rattle.to_sheet.specs.LineOuts.{LineOut}
 use Rattle.to_sheet.specs.declared.line.Parts.{Parts}

@@ -11,7 +11,8 @@ use Rattle.format.specs.Places.{viewAt, lineAt}
 use Rattle.trail.specs.Trail.{trail}
 use Rattle.locate.specs.Stands.{BlockAt, ViewIn}
 use Rattle.locate.proofs.Laws.Blocks.{cut, lines-here}
-use Rattle.locate.proofs.Laws.Record.{record-apart, narrow}
+use Rattle.format.proofs.Laws.Record.{narrow}
+use Rattle.locate.proofs.Laws.Record.{record-apart}
 use Rattle.locate.proofs.Laws.Lines.{passed-within, passed-all, passed-next, passed-there}
 use Rattle.trace.specs.Trace.{Draws}
 use Rattle.trace.proofs.Laws.{half-is, no-line, has-line}

@@ -5,20 +5,17 @@ use Prim.Native.Nat.{ℕ, suc, _+_, _*_, _/_}
 use native.Mathlib.Omega.{arith}
 use native.Mathlib.Nat.{mul-comm}
 use mathlib.Core.Option.{none, some}
-use mathlib.Core.List.{List, [], _∷_, _++_}
+use mathlib.Core.List.{List, [], _∷_}
 use lib.ListN.{length, length-append, length-replicate}
 use Rattle.bits.specs.Lists.{total}
 use Rattle.bits.specs.Bits.{Bits, bitsOfNumber, filled}
 use Rattle.bits.specs.BitsLaws.{length-bits}
-use Rattle.bits.specs.CodecLaws.{encAll, encAlong, field}
-use Rattle.outcome.specs.Refusals.{badIndex}
-use Rattle.format.specs.Differences.{diffs, diff, tell}
-use Rattle.format.specs.DifferencesLaws.{length-diffs}
+use Rattle.bits.specs.CodecLaws.{encAll, encAlong}
 use Rattle.format.specs.Line.{Line, line, skeleton}
 use Rattle.format.specs.Index.{Index, neighbours, up, index, indexBlock}
 use Rattle.format.specs.Segments.{Segment, segment, segment-length, segments}
 use Rattle.format.specs.declared.Widths.{Widths}
-use Rattle.locate.proofs.Laws.Line.{codes-long}
+use Rattle.locate.proofs.Laws.Lists.{all-long, list-bits}
 use Rattle.values.specs.Run.{lineBits, listBits, segmentBytes}
 
 filled-long : (s : Bits) → length (filled s) ≡ 8 * ((length s + 7) / 8)
@@ -26,31 +23,19 @@ filled-long s = simp (length-append, length-replicate) (omega arith)
 
 -- ---- lines
 
-lines-long : (w : Widths) (ls : List Line) → length (encAll (line w) ls) ≡ total (lineBits w) ls
-lines-long w [] = refl
-lines-long w (l ∷ ls) = length-append (line w .enc l) (encAll (line w) ls) ∙ ap (λ (n : ℕ). lineBits w l + n) (lines-long w ls)
-
 pub skeleton-bytes : (w : Widths) (ls : List Line) (z : ℕ) → z ≡ total (lineBits w) ls → length (skeleton w .enc ls) ≡ 8 * ((z + 7) / 8)
 unfolding skeleton
-skeleton-bytes w ls z e = filled-long (encAll (line w) ls) ∙ ap (λ (n : ℕ). 8 * ((n + 7) / 8)) (omega (arith, lines-long w ls))
+skeleton-bytes w ls z e = filled-long (encAll (line w) ls) ∙ ap (λ (n : ℕ). 8 * ((n + 7) / 8)) (omega (arith, all-long (line w) ls))
 
 -- ---- lists
 
--- what a difference is allowed to be does not change its bits
-diffs-bits : (w : ℕ) (t : ℕ × ℕ) (ds : List ℕ) → encAlong (diff w) tell t ds ≡ encAll (field badIndex w) ds
-diffs-bits w t [] = refl
-diffs-bits w t (d ∷ ds) = ap (λ (s : Bits). bitsOfNumber w d ++ s) (diffs-bits w (tell t d) ds)
-
-list-bits : (w l : ℕ) (ns : List ℕ) → length (neighbours w l .enc ns) ≡ listBits w ns
-list-bits w l ns =
-    let e : neighbours w l .enc ns ≡ bitsOfNumber w (length ns) ++ encAll (field badIndex w) (diffs l ns) = ap (λ (s : Bits). bitsOfNumber w (length ns) ++ s) (diffs-bits w (0, l) (diffs l ns)) in
-    let d : length (encAll (field badIndex w) (diffs l ns)) ≡ w * length ns = codes-long badIndex w (diffs l ns) ∙ ap (λ (n : ℕ). n * w) (length-diffs l ns) ∙ mul-comm (length ns) w in
-    ap length e ∙ length-append (bitsOfNumber w (length ns)) (encAll (field badIndex w) (diffs l ns)) ∙ omega (arith, length-bits w (length ns), d)
+list-long : (w l : ℕ) (ns : List ℕ) → length (neighbours w l .enc ns) ≡ listBits w ns
+list-long w l ns = list-bits w l ns ∙ ap (λ (n : ℕ). w + n) (mul-comm (length ns) w)
 
 lists-long : (w l : ℕ) (xs : List (List ℕ)) → length (encAlong (neighbours w) up l xs) ≡ total (listBits w) xs
 lists-long w l [] = refl
 lists-long w l (x ∷ xs) =
-    length-append (neighbours w l .enc x) (encAlong (neighbours w) up (suc l) xs) ∙ omega (arith, list-bits w l x, lists-long w (suc l) xs)
+    length-append (neighbours w l .enc x) (encAlong (neighbours w) up (suc l) xs) ∙ omega (arith, list-long w l x, lists-long w (suc l) xs)
 
 index-long : (n : ℕ) (i : Index) → length (index n .enc i) ≡ 8 + length (encAlong (neighbours (i .width)) up 0 (i .lists))
 unfolding index

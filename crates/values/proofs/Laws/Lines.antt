@@ -6,18 +6,17 @@ use native.Mathlib.Omega.{arith}
 use native.Mathlib.Nat.{mul-comm, mul-le-mul}
 use mathlib.Core.Bool.{not}
 use mathlib.Core.List.{List, []}
-use lib.ListN.{length, length-append}
+use lib.ListN.{length}
 use lib.Dec.{T}
 use Rattle.bits.specs.ChoiceLaws.{within-low, within-high}
-use Rattle.bits.specs.BitsLaws.{length-bits}
 use Rattle.bits.specs.Bytes.{bitsOf}
 use Rattle.bits.specs.Codec.{got, refused}
 use Rattle.bits.proofs.Laws.Parts.{part}
-use Rattle.outcome.specs.Refusals.{badLine, badValue}
-use Rattle.format.specs.Line.{Line, line}
+use Rattle.outcome.specs.Refusals.{badValue}
+use Rattle.format.specs.Line.{Line}
 use Rattle.format.specs.declared.Widths.{Widths}
-use Rattle.locate.specs.Stands.{endBits, Narrow}
-use Rattle.locate.proofs.Laws.Line.{end-long, codes-long}
+use Rattle.format.specs.Record.{Narrow}
+use Rattle.locate.proofs.Laws.Line.{line-bits}
 use Rattle.sheet.specs.Fields.{Field}
 use Rattle.sheet.specs.Values.{lineValue}
 use Rattle.sheet.specs.Sheet.{alike}
@@ -28,10 +27,6 @@ use Rattle.values.proofs.Laws.Stand.{Next}
 use Rattle.values.proofs.Laws.Run.{Going, going-first, going-all, going-wrong, going-on, its-right, one-more}
 
 -- ---- one line
-
-line-bits : (w : Widths) (l : Line) → length (line w .enc l) ≡ endBits w + (8 + length (l .codes) * w .k) + endBits w
-unfolding line
-line-bits w l = simp (length-append, length-bits) (omega (arith, end-long w (l .start), end-long w (l .finish), codes-long badLine (w .k) (l .codes)))
 
 -- as code counts them
 abbrev pub counted : Widths → ℕ → ℕ

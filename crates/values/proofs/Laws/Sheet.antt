@@ -1,23 +1,23 @@
 -- The sheet: its 01 and the views behind it apart, where they stand, and the record put together from what is told of them. The
 -- record's bytes are its header's 24 and those of its views.
 use mathlib.Core.Path.{_≡_, refl, sym, ap, _∙_, subst}
-use Prim.Native.Nat.{ℕ, _+_, _-_, _≤_, _<_}
+use Prim.Native.Nat.{ℕ, _+_, _≤_, _<_}
 use native.Mathlib.Omega.{arith}
 use mathlib.Core.List.{List, [], _∷_}
 use lib.ListN.{length}
 use lib.Dec.{T, eqb}
 use mir.Facts.{and-yes, eqb-yes}
 use Rattle.bits.specs.Choice.{within}
-use Rattle.bits.specs.ChoiceLaws.{within-low, within-high}
+use Rattle.bits.specs.ChoiceLaws.{within-high}
 use Rattle.bits.specs.Bytes.{bitsOf}
 use Rattle.bits.specs.BytesLaws.{length-bitsOf}
 use Rattle.bits.specs.Codec.{got, refused}
 use Rattle.bits.proofs.Laws.Parts.{part}
 use Rattle.outcome.specs.Refusals.{badValue}
-use Rattle.format.specs.Record.{Record}
+use Rattle.format.specs.Record.{Record, Narrow}
 use Rattle.format.specs.declared.Header.{Header}
 use Rattle.format.proofs.Laws.Size.{views-length}
-use Rattle.locate.specs.Stands.{Narrow}
+use Rattle.format.proofs.Laws.Record.{narrow}
 use Rattle.sheet.specs.Fields.{Field, fields}
 use Rattle.sheet.specs.Grammar.{sheetIn, grammar}
 use Rattle.sheet.specs.Values.{headerValue}
@@ -61,14 +61,7 @@ sheet-parts {s} (f ∷ fs) h t =
 -- the widths of a header that is read
 pub widths-narrow : (v : List ℕ) (h : Header) → headerValue .dec (bitsOf v) ≡ got h [] → Narrow (h .scale .widths)
 unfolding headerValue
-widths-narrow v h e =
-    let f = headerValue .back (bitsOf v) h (omega (arith, length-bitsOf v)) e .0 .scale in
-    record {
-      b = within-high 4 8 (h .scale .widths .b) (f .b .1);
-      c = within-high 1 16 (h .scale .widths .c) (f .c .1);
-      low = omega (arith, within-low 2 8 (h .scale .widths .k) (f .k .1));
-      k = within-high 2 8 (h .scale .widths .k) (f .k .1);
-    }
+widths-narrow v h e = narrow (headerValue .back (bitsOf v) h (omega (arith, length-bitsOf v)) e .0)
 
 module _ {s : List ℕ} {fs : List Field} (D : SheetParts s fs) where
   pub head-wrong : Wrong headerValue (part s 3 9) → RecordWrong fs

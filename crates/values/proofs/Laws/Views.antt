@@ -23,9 +23,10 @@ use Rattle.fields.proofs.Laws.{no-fields, some-fields}
 use Rattle.shape.specs.Shape.{viewRight, viewRest}
 use Rattle.shape.proofs.Laws.Parted.{parted-at, rest-behind, view-parted}
 use Rattle.shape.proofs.Laws.Views.{viewsRight, views, views-on, views-more, views-wrong}
-use Rattle.values.specs.View.{ViewThere, Seen, rawIn, ViewRight, ViewWrong, SizedIs}
+use Rattle.values.specs.View.{ViewThere, rawIn, ViewRight, ViewWrong, SizedIs}
 use Rattle.values.specs.declared.view.Sized.{Sized}
-use Rattle.values.proofs.Laws.Seen.{seen-start, seen-more, seen-le}
+use Rattle.parts.specs.Answers.{Seen}
+use Rattle.parts.proofs.Laws.Seen.{seen-start, seen-more, seen-le}
 
 -- ---- the raw views
 

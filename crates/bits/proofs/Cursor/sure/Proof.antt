@@ -5,15 +5,12 @@ use Rattle.bits.proofs.Laws.Reads.{field-at}
 use Rattle.bits.proofs.Cursor.sure.Statement.{statement}
 use Rattle.bits.proofs.Cursor.sure.Tie as tie
 
--- src/lib.rt:83:20
 number-at-requires : tie.Need-number-at-requires
 number-at-requires c κs = search needs
 
--- src/lib.rt:84:32
 add-t6 : tie.Need-add-t6
 add-t6 c = search needs
 
--- src/lib.rt:77:5
 returns : tie.Need-returns
 returns c =
     let a = c .before .before .args in

@@ -22,11 +22,12 @@ use Rattle.format.specs.View.{viewHeader, occurs}
 use Rattle.format.specs.SheetSize.{lineSize}
 use Rattle.format.specs.declared.ViewHeader.{ViewHeader}
 use Rattle.parts.specs.declared.Reached.the-variants.{At}
-use Rattle.parts.specs.Answers.{ended, cleared, headAt, reached, endDec, indexAtDec, segmentsAtDec}
+use Rattle.parts.specs.Answers.{ended, cleared, headAt, reached, endDec, indexAtDec, segmentsAtDec, Seen}
 use Rattle.judge.specs.Judge.{viewsDec, headRefusal}
 use Rattle.judge.proofs.Laws.Bounds.{index-small, segments-small}
 use Rattle.judge.proofs.Laws.Line.{no-start, no-count, no-code, no-finish, line-is, Lines, lines-start, lines-over, lines-stop, lines-turn, lines-dirt, lines-done}
-use Rattle.judge.proofs.Laws.Seen.{Seen, seen-start, seen-more, seen-le, head-seen, position-le}
+use Rattle.parts.proofs.Laws.Seen.{seen-start, seen-more, seen-le}
+use Rattle.judge.proofs.Laws.Head.{head-seen, position-le}
 use Rattle.judge.proofs.Laws.View.{no-head, skeleton-past, skeleton-bad, index-bad, segments-bad, view-is, Views, views-start, views-stop, views-turn, views-done, exit}
 use borrow.Author.Needs.{needs}
 use Rattle.judge.proofs.views.judge_views.Statement.{statement}

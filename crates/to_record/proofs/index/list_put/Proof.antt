@@ -7,7 +7,8 @@ use lib.ListN.{length, getD}
 use Rattle.bits.specs.ListsLaws.{all-at}
 use Rattle.format.specs.Differences.{diffs}
 use Rattle.format.specs.DifferencesLaws.{length-diffs}
-use Rattle.to_record.proofs.Laws.Index.{ListGoing, ListSoFar, list-bits, numbers, number-at, list-place, next-is, list-first, list-next, list-all}
+use Rattle.locate.proofs.Laws.Lists.{list-bits}
+use Rattle.to_record.proofs.Laws.Index.{ListGoing, ListSoFar, numbers, number-at, list-place, next-is, list-first, list-next, list-all}
 use borrow.Author.Needs.{needs}
 use Rattle.to_record.proofs.index.list_put.Statement.{statement}
 use Rattle.to_record.proofs.index.list_put.Tie as tie

@@ -5,7 +5,8 @@ use mathlib.Core.Path.{_≡_, refl}
 use Prim.Native.Nat.{_-_}
 use native.Mathlib.Omega.{arith}
 use lib.ListN.{length, length-take, length-drop}
-use Rattle.locate.proofs.Laws.Record.{record-apart, narrow}
+use Rattle.format.proofs.Laws.Record.{narrow}
+use Rattle.locate.proofs.Laws.Record.{record-apart}
 use Rattle.locate.proofs.Laws.Views.{view-next}
 use Rattle.to_sheet.proofs.Laws.Views.{ViewsDone, views-start, view-room, view-fits, views-more, views-all}
 use Rattle.to_sheet.proofs.record.views_out.Statement.{statement}

@@ -9,16 +9,15 @@ use Rattle.bits.specs.Bytes.{bitsOf}
 use Rattle.bits.specs.Codec.{got}
 use Rattle.bits.proofs.Laws.Parts.{part}
 use Rattle.format.specs.View.{occurs}
-use Rattle.parts.specs.Answers.{earlierOf}
+use Rattle.parts.specs.Answers.{earlierOf, Seen}
 use Rattle.sheet.specs.Grammar.{rest, indexRest}
 use Rattle.sheet.specs.Values.{viewHeadValue}
 use Rattle.worth.specs.Worth.{Told, headIs}
 use Rattle.worth.specs.declared.header.HeadWorth.{HeadWorth}
 use Rattle.values.specs.Run.{LinesAre}
 use Rattle.values.specs.Index.{IndexIs}
-use Rattle.values.specs.View.{Seen}
 use Rattle.values.specs.declared.run.Counted.{Counted}
-use Rattle.values.proofs.Laws.Seen.{head-seen, position-le}
+use Rattle.values.proofs.Laws.Head.{head-seen, position-le}
 use Rattle.values.proofs.Laws.View.{ViewParts, view-parts, head-wrong, lines-wrong, index-wrong, view-right}
 use borrow.Author.Needs.{needs}
 use Rattle.values.proofs.view.view_values.Statement.{statement}

@@ -1,28 +1,20 @@
--- The positions of the views before: how an array of eleven counts stands for them, and that a header that is read has one of the
--- eleven.
-use mathlib.Core.Path.{_≡_, refl, sym, ap, _∙_, subst}
+-- The positions of the views before: an array of eleven counts stands for them, at the start and with one view more; where a header
+-- is read by the counts, it is read by the positions; and its own position is one of the eleven.
+use mathlib.Core.Path.{_≡_, refl, sym, ap, _∙_}
 use Prim.Native.Nat.{ℕ, suc, _+_, _≤_}
 use native.Mathlib.Omega.{arith}
 use native.Mathlib.Numerals.{add-one}
 use mathlib.Core.Bool.{Bool, true, false}
 use mathlib.Core.Option.{Option, none, some}
 use mathlib.Core.List.{List, [], _∷_}
-use lib.ListN.{length, drop, getD, set, length-set, replicate, getD-replicate}
+use lib.ListN.{length, getD, set, length-set, replicate, getD-replicate}
 use lib.Seq.{getD-set-same, getD-set-other}
 use lib.Dec.{leb, eqb}
 use borrow.Author.Tests.{lt-leb, le-leb, eq-eqb, ne-eqb}
 use Rattle.bits.specs.Choice.{pick}
 use Rattle.bits.specs.ChoiceLaws.{pick-case, split, eq-split}
-use Rattle.bits.specs.Bytes.{bitsOf}
-use Rattle.bits.specs.Reads.{Found, found, Reads}
-use Rattle.format.specs.View.{viewHeader, headFault, occurs}
-use Rattle.format.specs.declared.ViewHeader.{ViewHeader}
-use Rattle.parts.specs.Answers.{earlierOf, headDec}
-
--- seen counts the positions ps
-pub record Seen (seen ps : List ℕ) : Type 0 where
-  pub eleven : length seen ≡ 11
-  pub is : (p : ℕ) → earlierOf seen p ≡ occurs p ps
+use Rattle.format.specs.View.{headFault, occurs}
+use Rattle.parts.specs.Answers.{earlierOf, Seen}
 
 -- ---- at the start, and one more
 
@@ -50,22 +42,15 @@ occurs-le p (q ∷ ps) =
 pub seen-le : (seen ps : List ℕ) (po : ℕ) → po ≤ 10 → Seen seen ps → getD seen po 0 ≤ length ps
 seen-le seen ps po l h = omega (arith, at-position seen ps po l h, occurs-le po ps)
 
--- ---- a header read by the counts is one read by the positions
+-- ---- a header
 
-pub head-seen : {seen ps : List ℕ} (s : List ℕ) (p : ℕ) (r : Found (ViewHeader × ℕ)) → Seen seen ps → Reads (headDec seen) s p r
-    → Reads (viewHeader (λ q. occurs q ps) .dec) s p r
-unfolding headDec
-head-seen s p r h k = subst (λ (f : ℕ → ℕ). Reads (viewHeader f .dec) s p r) (λ i q. h .is q i) k
+-- the counts and the positions say the same of every position
+pub seen-is : {seen ps : List ℕ} → Seen seen ps → earlierOf seen ≡ (λ q. occurs q ps)
+seen-is h i q = h .is q i
 
-right-position : (f : ℕ → ℕ) (n po im q : ℕ) → headFault f (n, (po, (im, q))) ≡ none → po ≤ 10
+pub right-position : (f : ℕ → ℕ) (n po im q : ℕ) → headFault f (n, (po, (im, q))) ≡ none → po ≤ 10
 right-position f n po im q e = split po 10 (λ l. l) (λ l. absurd (bad (eqb n (f po)) (rw (lt-leb po 10 l) at e)))
   where
     bad : (b : Bool) → pick {A = Option ℕ} b (some 8) (some 0) ≡ none → ⊥
     bad true p = let z : _≡_ {A = ℕ} 0 1 = cc in omega arith
     bad false p = let z : _≡_ {A = ℕ} 0 1 = cc in omega arith
-
-pub position-le : (f : ℕ → ℕ) (s : List ℕ) (p : ℕ) (h : ViewHeader) (n q : ℕ) → Reads (viewHeader f .dec) s p (found (h, n) q) → h .position ≤ 10
-unfolding viewHeader
-position-le f s p h n q r =
-    let g = viewHeader f .back (drop p (bitsOf s)) (h, n) (drop q (bitsOf s)) (r .is) .0 .0 in
-    right-position f (h .number) (h .position) (h .impression) (h .quality) (g .right)
