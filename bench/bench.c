@@ -3,8 +3,8 @@
  * prints a table. First both are run once on every record: where they do not accept it with the
  * same answer and the same bytes, there is nothing to compare, and the program ends with 1.
  *
- * CALL_READ, CALL_TRAIL and CALL_SEGMENT say which calls the archive has. A further call is one
- * BOTH and one row.
+ * CALL_READ, CALL_WRITE, CALL_TRAIL and CALL_SEGMENT say which calls the archive has. A further
+ * call is one BOTH and one row.
  */
 #include <inttypes.h>
 #include <stdio.h>
@@ -46,6 +46,9 @@ static volatile size_t kept; /* so that no call can be left out */
 #ifdef CALL_READ
 BOTH(read, on->record, on->length, out, room)
 #endif
+#ifdef CALL_WRITE
+BOTH(write, on->sheet, on->sheet_length, out, room)
+#endif
 #ifdef CALL_TRAIL
 BOTH(trail, on->record, on->length, on->view, on->lines - 1, out, room)
 #endif
@@ -56,6 +59,9 @@ BOTH(segment, on->record, on->length, on->with_segments, on->segments - 1)
 static const row rows[] = {
 #ifdef CALL_READ
     {"read", library_read, by_hand_read, 0},
+#endif
+#ifdef CALL_WRITE
+    {"write", library_write, by_hand_write, 0},
 #endif
 #ifdef CALL_TRAIL
     {"trail", library_trail, by_hand_trail, 0},

@@ -1,16 +1,20 @@
 /*
  * The calls of fsk.h once more, written by hand in C and without proofs: what the library is
  * measured against. Signatures and answers are the host's, with the prefix plain_; the place of a
- * refusal is always 0. Behind the calls stands what the plain files share: a reader of fields, a
- * block behind its length, and the judge.
+ * refusal is always 0. Behind the calls stands what the plain files share: numbers, limits and
+ * tags, a reader of fields, writers of bytes, a block behind its length, and the judge.
  */
 #ifndef PLAIN_H
 #define PLAIN_H
+
+#include <string.h>
 
 #include "fsk.h"
 
 fsk_answer plain_read(const uint8_t *record, size_t record_length, uint8_t *sheet,
                       size_t sheet_length);
+fsk_answer plain_write(const uint8_t *sheet, size_t sheet_length, uint8_t *record,
+                       size_t record_length);
 fsk_answer plain_trail(const uint8_t *record, size_t record_length, uint32_t view, uint32_t line,
                        uint8_t *trail, size_t trail_length);
 fsk_answer plain_segment(const uint8_t *record, size_t record_length, uint32_t view,
@@ -32,8 +36,23 @@ enum {
     BYTES_OVER = 12,
     NO_VIEW = 13,
     NO_LINE = 15,
+    TOO_LONG = 19,
     NO_ROOM = 20,
+    BAD_SHEET = 21,
+    BAD_VALUE = 22,
     NO_SEGMENT = 23
+};
+
+enum { LARGEST_RECORD = 32768, MOST_LINES = 1024, POSITIONS = 11 };
+
+/* The sheet's tags. */
+enum {
+    TAG_RECORD = 1,
+    TAG_VIEW = 2,
+    TAG_LINE = 3,
+    TAG_INDEX = 4,
+    TAG_LIST = 5,
+    TAG_SEGMENT = 6
 };
 
 /* Sizes: bytes, but for the last, which counts bits. */
@@ -47,6 +66,20 @@ static inline fsk_answer plain_refused(uint32_t number)
 static inline uint32_t plain_two_bytes(const uint8_t *at)
 {
     return (uint32_t)at[0] << 8 | at[1];
+}
+
+/* A writer gives the place behind what it wrote. */
+static inline uint8_t *plain_put_two_bytes(uint8_t *out, uint32_t number)
+{
+    out[0] = (uint8_t)(number >> 8);
+    out[1] = (uint8_t)number;
+    return out + 2;
+}
+
+static inline uint8_t *plain_put_bytes(uint8_t *out, const uint8_t *from, size_t length)
+{
+    memcpy(out, from, length);
+    return out + length;
 }
 
 /* A reading place within some bytes: the next byte, and how many bits of the byte before it, the
@@ -121,5 +154,12 @@ typedef struct {
 /* Judges 1 to 12 and gives the number, 0 if the record is accepted. `record` then holds what is
  * said above; its view only if `wanted` is below the count of views. */
 uint32_t plain_judge(const uint8_t *bytes, size_t length, uint32_t wanted, plain_record *record);
+
+/* Record bytes 15 to 21, points per cm to N, are within their ranges. */
+int plain_is_scale(const uint8_t *bytes);
+
+/* A view header's values are allowed. `seen` counts the earlier views of each position; the view is
+ * then counted too. */
+int plain_is_view_header(const uint8_t *header, uint8_t *seen);
 
 #endif

@@ -6,8 +6,6 @@
 
 #include "plain.h"
 
-enum { LARGEST_RECORD = 32768, MOST_LINES = 1024, POSITIONS = 11 };
-
 /* Bytes of the sheet's fields, tag and length included, without what comes in varying number. */
 enum {
     SHEET_RECORD = 3 + 9,
@@ -17,6 +15,14 @@ enum {
     SHEET_LIST = 3,
     SHEET_SEGMENT = 3 + 2
 };
+
+int plain_is_scale(const uint8_t *bytes)
+{
+    const unsigned points = bytes[0], c = bytes[1], b = bytes[2], k = bytes[3];
+    const unsigned step = bytes[4], half_turn = bytes[6];
+    return points >= 1 && c >= 1 && c <= 16 && b >= 4 && b <= 8 && k >= 2 && k <= 8 && step >= 1
+        && half_turn >= 1;
+}
 
 static uint32_t judge_header(const uint8_t *bytes, size_t length)
 {
@@ -28,28 +34,21 @@ static uint32_t judge_header(const uint8_t *bytes, size_t length)
         return BAD_VERSION;
     if (plain_two_bytes(bytes + 8) != 0 || plain_two_bytes(bytes + 10) != length)
         return BAD_LENGTH;
-    if (bytes[14] < 1 || bytes[15] < 1)
-        return BAD_HEADER;
-    if (bytes[16] < 1 || bytes[16] > 16 || bytes[17] < 4 || bytes[17] > 8)
-        return BAD_HEADER;
-    if (bytes[18] < 2 || bytes[18] > 8 || bytes[19] < 1 || bytes[21] < 1)
-        return BAD_HEADER;
-    if (bytes[22] != 0 || bytes[23] != 0)
+    if (bytes[14] < 1 || !plain_is_scale(bytes + 15) || plain_two_bytes(bytes + 22) != 0)
         return BAD_HEADER;
     return 0;
 }
 
-/* `seen` counts the earlier views of each position. */
-static uint32_t judge_view_header(const uint8_t *header, uint8_t *seen)
+int plain_is_view_header(const uint8_t *header, uint8_t *seen)
 {
     const unsigned number = header[0], position = header[1];
     const unsigned impression = header[2], quality = header[3];
     if (position >= POSITIONS || number != seen[position])
-        return BAD_VIEW;
+        return 0;
     if ((impression > 3 && impression != 8 && impression != 9) || quality > 100)
-        return BAD_VIEW;
+        return 0;
     seen[position]++;
-    return 0;
+    return 1;
 }
 
 /* The last `left` bits of a block, 0 to 7, are zero. */
@@ -164,8 +163,8 @@ static uint32_t judge_view(plain_record *record, const uint8_t **at, uint8_t *se
     uint32_t number;
     if (record->end - *at < VIEW_HEADER)
         return PAST_END;
-    if ((number = judge_view_header(*at, seen)) != 0)
-        return number;
+    if (!plain_is_view_header(*at, seen))
+        return BAD_VIEW;
     record->sheet_length += SHEET_VIEW;
     *at += VIEW_HEADER - 2; /* its last field is the skeleton's length */
     if ((number = find_block(record, at, &view->skeleton)) != 0)

@@ -2,30 +2,15 @@
  * Reads a record as a sheet: judges it, which also says how long the sheet is, and only then goes
  * through the record once more and writes. The writers trust the judge and test nothing.
  */
-#include <string.h>
-
 #include "plain.h"
 
 /* Every writer gives the place behind what it wrote. */
-
-static uint8_t *put_two_bytes(uint8_t *out, uint32_t number)
-{
-    out[0] = (uint8_t)(number >> 8);
-    out[1] = (uint8_t)number;
-    return out + 2;
-}
-
-static uint8_t *put_bytes(uint8_t *out, const uint8_t *from, size_t length)
-{
-    memcpy(out, from, length);
-    return out + length;
-}
 
 /* A field's tag and the length of its value. */
 static uint8_t *put_tag(uint8_t *out, uint8_t tag, size_t length)
 {
     out[0] = tag;
-    return put_two_bytes(out + 1, (uint32_t)length);
+    return plain_put_two_bytes(out + 1, (uint32_t)length);
 }
 
 /* A line's start or end. */
@@ -33,8 +18,8 @@ static uint8_t *put_end(uint8_t *out, const plain_record *record, plain_reader *
 {
     out[0] = (uint8_t)plain_take(reader, 2);
     out[1] = (uint8_t)plain_take(reader, record->b);
-    out = put_two_bytes(out + 2, plain_take(reader, record->c));
-    return put_two_bytes(out, plain_take(reader, record->c));
+    out = plain_put_two_bytes(out + 2, plain_take(reader, record->c));
+    return plain_put_two_bytes(out, plain_take(reader, record->c));
 }
 
 static uint8_t *put_codes(uint8_t *out, plain_reader *reader, unsigned k, uint32_t count)
@@ -54,7 +39,7 @@ static uint8_t *put_line(uint8_t *out, const plain_record *record, plain_reader 
     uint32_t count;
     put_end(start, record, reader);
     count = plain_take(reader, COUNT_OF_CODES);
-    put_tag(out, 3, 12 + count);
+    put_tag(out, TAG_LINE, 12 + count);
     out = put_codes(codes, reader, record->k, count);
     put_end(end, record, reader);
     return out;
@@ -64,15 +49,15 @@ static uint8_t *put_index(uint8_t *out, plain_block index, uint32_t lines)
 {
     const unsigned w = index.bytes[0];
     plain_reader reader = plain_reader_at(index.bytes, 8);
-    out = put_tag(out, 4, 1);
+    out = put_tag(out, TAG_INDEX, 1);
     *out++ = (uint8_t)w;
     for (uint32_t line = 0; line < lines; line++) {
         const uint32_t count = plain_take(&reader, w);
         uint32_t neighbour = line;
-        out = put_tag(out, 5, 2 * (size_t)count);
+        out = put_tag(out, TAG_LIST, 2 * (size_t)count);
         for (uint32_t i = 0; i < count; i++) {
             neighbour -= plain_take(&reader, w);
-            out = put_two_bytes(out, neighbour);
+            out = plain_put_two_bytes(out, neighbour);
         }
     }
     return out;
@@ -84,9 +69,9 @@ static uint8_t *put_segments(uint8_t *out, plain_block extended)
     while (at < plain_block_end(extended)) {
         const size_t length = plain_two_bytes(at + 2);
         const size_t payload = length - SEGMENT_HEADER;
-        out = put_tag(out, 6, 2 + payload);
-        out = put_bytes(out, at, 2);
-        out = put_bytes(out, at + SEGMENT_HEADER, payload);
+        out = put_tag(out, TAG_SEGMENT, 2 + payload);
+        out = plain_put_bytes(out, at, 2);
+        out = plain_put_bytes(out, at + SEGMENT_HEADER, payload);
         at += length;
     }
     return out;
@@ -100,8 +85,8 @@ static uint8_t *put_view(uint8_t *out, const plain_record *record, const uint8_t
     const plain_block extended = plain_block_at(plain_block_end(index));
     plain_reader reader = plain_reader_at(skeleton.bytes, 0);
     uint32_t lines = 0;
-    out = put_tag(out, 2, VIEW_HEADER - 2);
-    out = put_bytes(out, *at, VIEW_HEADER - 2);
+    out = put_tag(out, TAG_VIEW, VIEW_HEADER - 2);
+    out = plain_put_bytes(out, *at, VIEW_HEADER - 2);
     for (; reader.next < plain_block_end(skeleton); lines++) /* 8 or more bits are left */
         out = put_line(out, record, &reader);
     if (index.length > 0)
@@ -113,9 +98,9 @@ static uint8_t *put_view(uint8_t *out, const plain_record *record, const uint8_t
 static void put_sheet(uint8_t *out, const plain_record *record)
 {
     const uint8_t *at = record->bytes + HEADER;
-    out = put_tag(out, 1, 9);
-    out = put_bytes(out, record->bytes + 12, 2);
-    out = put_bytes(out, record->bytes + 15, 7);
+    out = put_tag(out, TAG_RECORD, 9);
+    out = plain_put_bytes(out, record->bytes + 12, 2);
+    out = plain_put_bytes(out, record->bytes + 15, 7);
     for (uint32_t place = 0; place < record->views; place++)
         out = put_view(out, record, &at);
 }

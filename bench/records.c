@@ -1,14 +1,15 @@
 /*
  * Makes the benchmark's records: document 01's sample A, a record of about 30 KB with several views
  * of long lines, and one view with as many lines as a view can have. Nothing here is timed, so bits
- * are put one by one.
+ * are put one by one. The sheets are those that plain_read gives.
  */
 #include "records.h"
 
 #include <string.h>
 
-enum { LARGEST_RECORD = 32768, HEADER = 24, SIXTEEN = 16 };
-enum { MOST_NEIGHBOURS = 3, SEGMENTS = 3 };
+#include "plain.h"
+
+enum { SIXTEEN = 16, MOST_NEIGHBOURS = 3, SEGMENTS = 3, SHEET_ROOM = 1 << 17 };
 
 /* A record in the making, its widths, and the numbers drawn for it so far. */
 typedef struct {
@@ -25,6 +26,7 @@ static const uint8_t sample_a[] = {
     0x50, 0x02, 0x85, 0x00, 0x48, 0xC0, 0x0E, 0x14, 0x00, 0x02, 0x01, 0x60, 0x00, 0x00,
 };
 static maker long_lines, many_lines;
+static uint8_t sheets[SAMPLES][SHEET_ROOM];
 
 /* A number below `limit`, the next of a fixed sequence. */
 static uint32_t draw(maker *m, uint32_t limit)
@@ -145,13 +147,13 @@ static void put_header(maker *m, uint32_t views, uint32_t points_per_cm, uint32_
     put(m, SIXTEEN, 0);
 }
 
-/* Ends a record and describes it. */
+/* Ends a record and describes it; its sheet comes last, in add_sheet. */
 static sample made(maker *m, const char *name, uint32_t views, uint32_t lines, uint32_t segments)
 {
     const size_t length = m->bit / 8;
     m->bytes[10] = (uint8_t)(length >> 8);
     m->bytes[11] = (uint8_t)length;
-    return (sample){name, m->bytes, length, views - 1, lines, views - 1, segments};
+    return (sample){name, m->bytes, length, NULL, 0, views - 1, lines, views - 1, segments};
 }
 
 /* The standard's normal widths; two views are of the same finger, every second has segments. */
@@ -178,9 +180,17 @@ static sample make_many_lines(maker *m)
     return made(m, "1,024 lines", 1, LINES, 0);
 }
 
+static void add_sheet(sample *to, uint8_t *sheet)
+{
+    to->sheet = sheet;
+    to->sheet_length = plain_read(to->record, to->length, sheet, SHEET_ROOM).length;
+}
+
 void make_samples(sample samples[SAMPLES])
 {
-    samples[0] = (sample){"sample A", sample_a, sizeof sample_a, 0, 2, 0, 0};
+    samples[0] = (sample){"sample A", sample_a, sizeof sample_a, NULL, 0, 0, 2, 0, 0};
     samples[1] = make_long_lines(&long_lines);
     samples[2] = make_many_lines(&many_lines);
+    for (int i = 0; i < SAMPLES; i++)
+        add_sheet(&samples[i], sheets[i]);
 }

@@ -14,6 +14,8 @@ typedef struct {
     const char *name;
     const uint8_t *record;
     size_t length;
+    const uint8_t *sheet;          /* the record as a sheet */
+    size_t sheet_length;
     uint32_t view, lines;          /* the last view and its count of lines */
     uint32_t with_segments;        /* the last view that has segments */
     uint32_t segments;             /* how many it has; 0 where no view has any */

@@ -50,13 +50,19 @@ typedef struct {
  *   10  a neighbour index breaks a rule
  *   11  a segment's length is under 4 or passes its block, or 1 to 3 bytes are left over
  *   12  there are bytes after the last view
+ * The sheet:
+ *   21  a field is cut, or its tag, its place in the order or its length is wrong; no views or more than 255; a view with more than
+ *       1,024 lines; not one 05 for each line
+ *   22  a value is not one that a record can hold at the widths given
+ *   19  the record would have over 32,768 bytes
  * What is asked for:
  *   13  the record has no view with that place
  *   15  the view has no line with that number
  *   23  the view has no segment with that place
  * The output:
  *   20  it is too short for what would be written
- * A call that asks for something judges the record first, then 13, then 15 or 23, then 20.
+ * A call that asks for something judges the record first, then 13, then 15 or 23, then 20. Of a sheet 21 is judged over the whole of
+ * it, then 22 over the whole of it, then 19, then 20.
  */
 enum {
     FSK_ACCEPTED = 0,
@@ -74,7 +80,10 @@ enum {
     FSK_BYTES_OVER = 12,
     FSK_NO_VIEW = 13,
     FSK_BAD_LINES = 15,
+    FSK_TOO_LONG = 19,
     FSK_NO_ROOM = 20,
+    FSK_BAD_SHEET = 21,
+    FSK_BAD_VALUE = 22,
     FSK_NO_SEGMENT = 23
 };
 
@@ -93,6 +102,14 @@ enum {
  * Writes bytes. Refuses: 1 to 12, 20.
  */
 fsk_answer fsk_read(const uint8_t *record, size_t record_length, uint8_t *sheet, size_t sheet_length);
+
+/*
+ * The record of a sheet, which fsk_read explains. Identifier, version, lengths, the number of views and what fills blocks up are not
+ * in the sheet: they follow from it. Writing the sheet that reading gave gives the record's bytes back, and reading a written record
+ * gives its sheet back. 32,768 bytes always suffice.
+ * Writes bytes. Refuses: 21, 22, 19, 20.
+ */
+fsk_answer fsk_write(const uint8_t *sheet, size_t sheet_length, uint8_t *record, size_t record_length);
 
 /*
  * The TRAIL of a line: how it runs, step by step. A line starts at its start direction, which is turned into a heading from 0 to

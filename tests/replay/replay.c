@@ -372,6 +372,29 @@ static int run_is_wrong(uint32_t index, const test_case *c, placing run)
     return 0;
 }
 
+/* The way back of an accepted read or write: the other call, on what was
+ * written, must give the lent bytes back, in just the room that they take. */
+static int has_way_back(const test_case *c)
+{
+#if defined CALL_READ && defined CALL_WRITE
+    return c->number == 0 && (c->call == READ || c->call == WRITE);
+#else
+    (void)c;
+    return 0;
+#endif
+}
+
+static test_case way_back(const test_case *c)
+{
+    return (test_case){.call = c->call == READ ? WRITE : READ,
+                       .inputs_lent = 1,
+                       .inputs = {c->written},
+                       .out_size = c->inputs[0].length,
+                       .fill = c->fill,
+                       .length = c->inputs[0].length,
+                       .written = c->inputs[0]};
+}
+
 static int case_is_wrong(uint32_t index, const test_case *c)
 {
     int has_empty = c->out_size == 0;
@@ -383,7 +406,7 @@ static int case_is_wrong(uint32_t index, const test_case *c)
 
 int main(int argc, char **argv)
 {
-    uint32_t cases, wrong_cases = 0;
+    uint32_t cases, ways_back = 0, wrong_cases = 0;
     slice rest;
     if (argc != 2)
         stop("one argument is needed, the case file");
@@ -395,9 +418,15 @@ int main(int argc, char **argv)
     catch_faults();
     for (uint32_t index = 0; index < cases; index++) {
         test_case c = take_case(&rest);
-        if (case_is_wrong(index, &c))
-            wrong_cases++;
+        int is_wrong = case_is_wrong(index, &c);
+        if (has_way_back(&c)) {
+            test_case back = way_back(&c);
+            is_wrong |= case_is_wrong(index, &back);
+            ways_back++;
+        }
+        wrong_cases += is_wrong;
     }
-    printf("replay: %" PRIu32 " cases, %" PRIu32 " wrong\n", cases, wrong_cases);
+    printf("replay: %" PRIu32 " cases, %" PRIu32 " of them there and back, %" PRIu32 " wrong\n",
+           cases, ways_back, wrong_cases);
     return cases > 0 && wrong_cases == 0 ? 0 : 1;
 }

@@ -1,7 +1,7 @@
 // The calls that a host written in C links. Each is a call of the library under its C name; host/fsk.h explains them.
 ghost use mathlib.Core.Path.{_≡_};
 ghost use Rattle.outcome.specs.Outcome.{Answers};
-ghost use Rattle.sheet.specs.Sheet.{reading};
+ghost use Rattle.sheet.specs.Sheet.{reading, writing};
 ghost use Rattle.trail.specs.Trail.{trailing};
 ghost use Rattle.trace.specs.Trace.{AnswersInBytes};
 ghost use Rattle.lookup.specs.Segment.{segmentAnswer};
@@ -9,12 +9,20 @@ use lookup::segment::segment;
 use outcome::Answer;
 use reading::read;
 use trace::trail_as_bytes;
+use writing::write;
 
 #[no_mangle]
 pub extern "C" fn fsk_read(bytes: &[u8], sheet: &mut [u8]) -> Answer
     ensures { λ r. ⌜ Answers (reading (now (bytes .entry))) (now (sheet .entry)) (now (sheet .exit)) r ⌝ }
 {
     read(bytes, sheet)
+}
+
+#[no_mangle]
+pub extern "C" fn fsk_write(sheet: &[u8], bytes: &mut [u8]) -> Answer
+    ensures { λ r. ⌜ Answers (writing (now (sheet .entry))) (now (bytes .entry)) (now (bytes .exit)) r ⌝ }
+{
+    write(sheet, bytes)
 }
 
 #[no_mangle]

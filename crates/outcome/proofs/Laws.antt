@@ -1,15 +1,17 @@
 -- The laws of an outcome: what is given fits the lent buffer, and the statement of a call leaves one answer and one buffer;
 -- and how code that refuses or writes meets that statement.
-use mathlib.Core.Path.{_≡_, refl, sym, ap, _∙_}
+use mathlib.Core.Path.{_≡_, refl, sym, ap, ap₂, _∙_}
 use mathlib.Core.Logic.{_≢_}
 use Prim.Native.Nat.{ℕ, _≤_, _<_}
+use native.Mathlib.Omega.{arith}
 use mathlib.Core.List.{List, _++_}
-use lib.ListN.{length, drop}
+use lib.ListN.{length, take, drop, length-append}
+use lib.Seq.{take-append-seam}
 use lib.Dec.{leb, le→leb}
-use Rattle.bits.specs.ChoiceLaws.{pick-yes, pick-no}
+use Rattle.bits.specs.ChoiceLaws.{pick-yes, pick-no, pick-split}
 use mir.Facts.{no-leb}
 use Rattle.outcome.specs.Refusals.{noRoom}
-use Rattle.outcome.specs.Outcome.{Outcome, refused, given, room, numberOf, placeOf, lengthOf, laidAs, AnswersAs, told}
+use Rattle.outcome.specs.Outcome.{Outcome, refused, given, room, numberOf, placeOf, lengthOf, laidAs, AnswersAs, Answers, Gave, told}
 use Rattle.outcome.specs.declared.Answer.{Answer}
 
 -- two answers with the same three numbers are one
@@ -56,6 +58,39 @@ module _ {A B : Type 0} (form : List A → List B) (lent : ℕ) {o : Outcome A} 
     pub answer-given : (after : List B) (n : ℕ) → length xs ≤ lent → n ≡ length xs → after ≡ form xs ++ drop (length (form xs)) before
         → AnswersAs form lent o before after (record { number = 0; place = 0; length = n })
     answer-given after n l m b = answer-is (given xs) after n (ap (room lent) q ∙ room-enough lent xs l) m b
+
+-- ---- what an answer says, where elements stand as they are
+
+module _ {A : Type 0} {o : Outcome A} {before after : List A} {a : Answer} (h : Answers o before after a) where
+  given-there : (xs : List A) → room (length before) o ≡ given xs → Gave xs after a
+  given-there xs q =
+      let l : a .length ≡ length xs = h .written ∙ ap lengthOf q in
+      let b : after ≡ xs ++ drop (length xs) before = h .buffer ∙ ap (laidAs (λ ys. ys) before) q in
+      (h .number ∙ ap numberOf q, l, ap₂ (λ (n : ℕ) (ys : List A). take n ys) l b ∙ take-append-seam xs _)
+
+  -- given room, what is given is there
+  pub answer-there : (xs : List A) → o ≡ given xs → length xs ≤ length before → Gave xs after a
+  answer-there xs q l = given-there xs (ap (room (length before)) q ∙ room-enough (length before) xs l)
+
+  -- an answer of 0 is given something, where no refusal has that number
+  pub answer-accepted : {P : Type 0} → ((e p : ℕ) → o ≡ refused e p → e ≢ 0) → a .number ≡ 0
+      → ((xs : List A) → o ≡ given xs → take (a .length) after ≡ xs → P) → P
+  answer-accepted {P} never z k = go o refl
+    where
+      go : (x : Outcome A) → o ≡ x → P
+      go (refused e p) q = absurd (never e p q (sym (h .number ∙ ap (λ y. numberOf (room (length before) y)) q) ∙ z))
+      go (given xs) q =
+          pick-split (leb (length xs) (length before)) (given xs) (refused noRoom 0) refl
+          (λ t y. k xs q (given-there xs (ap (room (length before)) q ∙ sym y) .2))
+          (λ t y. let w : _≡_ {A = ℕ} 20 0 = ap numberOf y ∙ sym (h .number ∙ ap (λ x. numberOf (room (length before) x)) q) ∙ z in absurd (omega arith))
+
+  -- what it says is written is within the buffer
+  pub answer-fits : a .length ≤ length after
+  answer-fits = rw (h .written, h .buffer) (go (room (length before) o))
+    where
+      go : (x : Outcome A) → lengthOf x ≤ length (laidAs (λ ys. ys) before x)
+      go (refused e p) = omega arith
+      go (given xs) = omega (arith, length-append xs (drop (length xs) before))
 
 -- ---- the answers that say where something stands
 

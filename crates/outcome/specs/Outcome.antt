@@ -4,7 +4,7 @@
 use mathlib.Core.Path.{_≡_}
 use Prim.Native.Nat.{ℕ}
 use mathlib.Core.List.{List, _++_}
-use lib.ListN.{length, drop}
+use lib.ListN.{length, take, drop}
 use lib.Dec.{leb}
 use Rattle.bits.specs.Choice.{pick}
 use Rattle.outcome.specs.Refusals.{noRoom}
@@ -55,6 +55,10 @@ pub record AnswersAs {A B : Type 0} (form : List A → List B) (lent : ℕ) (o :
 -- elements that stand as they are
 abbrev pub Answers : {A : Type 0} → Outcome A → (before after : List A) → Answer → Type 0
 Answers o before after a = AnswersAs (λ xs. xs) (length before) o before after a
+
+-- the elements xs were given: accepted, so many, and they stand at the start of the buffer
+abbrev pub Gave : {A : Type 0} → List A → (after : List A) → Answer → Type 0
+Gave xs after a = (a .number ≡ 0) × (a .length ≡ length xs) × (take (a .length) after ≡ xs)
 
 -- The answer of a call that writes nothing and says where what it gives stands, which is at place p.
 abbrev pub told : {A : Type 0} → ℕ → Outcome A → Answer

@@ -1,12 +1,12 @@
 -- WHAT THE LIBRARY PROMISES. Each promise is a statement; its proof is one citation. Every name in a statement leads to one
--- definition: `read`, `write`, `Allowed` (format/specs/Record), `reading`, `writing` (sheet/specs/Sheet), `Outcome`, `AnswersAs`
--- (outcome/specs/Outcome), `Order`, `verdict`, `edited` (orders/specs/Order), `Call`, `run`, `Follows` (orders/specs/History).
+-- definition: `read`, `write`, `Allowed` (format/specs/Record), `reading`, `writing` (sheet/specs/Sheet), `Outcome`, `AnswersAs`,
+-- `Gave` (outcome/specs/Outcome), `Order`, `verdict`, `edited` (orders/specs/Order), `Call`, `run`, `Follows` (orders/specs/History).
 use mathlib.Core.Path.{_≡_}
 use mathlib.Core.Logic.{_≢_}
 use Prim.Native.Nat.{ℕ, _*_, _≤_}
 use mathlib.Core.Bool.{_||_}
 use mathlib.Core.List.{List, [], map}
-use lib.ListN.{length}
+use lib.ListN.{length, take}
 use lib.Dec.{T, eqb}
 use Rattle.bits.specs.Choice.{within}
 use Rattle.bits.specs.Lists.{All, Along}
@@ -14,7 +14,7 @@ use Rattle.bits.specs.Bits.{Bits}
 use Rattle.bits.specs.Bytes.{Byte}
 use Rattle.bits.specs.Codec as C
 use Rattle.outcome.specs.Refusals.{otherCount, tooLong, badSheet, badValue}
-use Rattle.outcome.specs.Outcome.{Outcome, refused, given, numberOf, lengthOf, laid, AnswersAs}
+use Rattle.outcome.specs.Outcome.{Outcome, refused, given, numberOf, lengthOf, laid, AnswersAs, Answers, Gave}
 use Rattle.outcome.specs.declared.Answer.{Answer}
 use Rattle.outcome.proofs.Laws as O
 use Rattle.format.specs.Index.{FitsList, up}
@@ -25,6 +25,7 @@ use Rattle.format.proofs.Laws.Record as R
 use Rattle.format.proofs.Laws.Refuses as F
 use Rattle.sheet.specs.Sheet.{readSheet, reading, writing}
 use Rattle.sheet.proofs.Laws.Calls as S
+use Rattle.sheet.proofs.Laws.BothWays as B
 use Rattle.sheet.proofs.Laws.Refuses as G
 use Rattle.orders.specs.Least.{leastWidth}
 use Rattle.orders.specs.Act.{remove}
@@ -68,6 +69,19 @@ write-after-read = S.write-after-read
 -- reading the record that writing gave gives the sheet back
 pub read-after-write : (sheet bytes : List ℕ) → All Byte sheet → writing sheet ≡ given bytes → reading bytes ≡ given sheet
 read-after-write = S.read-after-write
+
+-- the calls themselves, whose contracts `Answers (reading bytes)` and `Answers (writing sheet)` are: where the first answers 0, and
+-- the second is lent what it wrote and room enough, the second gives back what the first was lent. Functions that make the two calls
+-- one behind the other (src/) have that as their contracts (`RecordBack`, `SheetBack`).
+pub record-back : {before after before₂ after₂ : List ℕ} {a b : Answer} (bytes : List ℕ) → All Byte bytes
+    → Answers (reading bytes) before after a → a .number ≡ 0
+    → Answers (writing (take (a .length) after)) before₂ after₂ b → length bytes ≤ length before₂ → Gave bytes after₂ b
+record-back = B.written-back
+
+pub sheet-back : {before after before₂ after₂ : List ℕ} {a b : Answer} (sheet : List ℕ) → All Byte sheet
+    → Answers (writing sheet) before after a → a .number ≡ 0
+    → Answers (reading (take (a .length) after)) before₂ after₂ b → length sheet ≤ length before₂ → Gave sheet after₂ b
+sheet-back = B.read-back
 
 -- ---- DEMAND 3: orders
 

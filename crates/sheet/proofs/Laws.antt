@@ -7,4 +7,5 @@ pub mod Fits
 pub mod Allowed
 pub mod Sheet
 pub mod Calls
+pub mod BothWays
 pub mod Refuses

@@ -1,0 +1,376 @@
+/*
+ * Writes a sheet as a record: judges the shape of the whole sheet, then its values, which also says
+ * how long the record is, and only then goes through the sheet a third time and writes. Each walk
+ * trusts the one before it and tests nothing again.
+ */
+#include <string.h>
+
+#include "plain.h"
+
+enum { FIELD_HEAD = 3, LINE_ENDS = 12, MOST_CODES = 255, MOST_VIEWS = 255 };
+
+/* The fields of a sheet that are still to come: where the next one starts, and their bytes. */
+typedef struct {
+    const uint8_t *at;
+    size_t left;
+} fields;
+
+/* ---- 21: tag, order and length of the fields ---- */
+
+static inline int is_length(unsigned tag, size_t length)
+{
+    switch (tag) {
+    case TAG_RECORD:
+        return length == 9;
+    case TAG_VIEW:
+        return length == VIEW_HEADER - 2;
+    case TAG_LINE:
+        return length >= LINE_ENDS && length <= LINE_ENDS + MOST_CODES;
+    case TAG_INDEX:
+        return length == 1;
+    case TAG_LIST:
+        return length % 2 == 0;
+    default:
+        return length >= 2;
+    }
+}
+
+/* Whether the next field has this tag, is whole and has a length that the tag allows; only then it
+ * is passed. A field that nothing passes stands where a view must start, and is refused there. */
+static inline int pass(fields *rest, unsigned tag)
+{
+    size_t length;
+    if (rest->left < FIELD_HEAD || rest->at[0] != tag)
+        return 0;
+    length = plain_two_bytes(rest->at + 1);
+    if (length > rest->left - FIELD_HEAD || !is_length(tag, length))
+        return 0;
+    rest->at += FIELD_HEAD + length;
+    rest->left -= FIELD_HEAD + length;
+    return 1;
+}
+
+/* Passes the fields with this tag that follow one another, and counts them. */
+static inline size_t pass_all(fields *rest, unsigned tag)
+{
+    size_t count = 0;
+    while (pass(rest, tag))
+        count++;
+    return count;
+}
+
+static int pass_view(fields *rest)
+{
+    size_t lines;
+    if (!pass(rest, TAG_VIEW))
+        return 0;
+    lines = pass_all(rest, TAG_LINE);
+    if (lines > MOST_LINES)
+        return 0;
+    if (pass(rest, TAG_INDEX) && pass_all(rest, TAG_LIST) != lines)
+        return 0;
+    pass_all(rest, TAG_SEGMENT);
+    return 1;
+}
+
+/* How many views the sheet has; 0 if it does not have its fields as it must. */
+static uint32_t count_views(fields rest)
+{
+    uint32_t views = 0;
+    if (!pass(&rest, TAG_RECORD))
+        return 0;
+    for (; rest.left > 0; views++)
+        if (views == MOST_VIEWS || !pass_view(&rest))
+            return 0;
+    return views;
+}
+
+/* ---- behind 21: fields that are known to be right ---- */
+
+static inline int next_is(const fields *rest, unsigned tag)
+{
+    return rest->left > 0 && rest->at[0] == tag;
+}
+
+/* The value of the next field, which is passed. */
+static inline plain_block take_value(fields *rest)
+{
+    const plain_block value = plain_block_at(rest->at + 1);
+    rest->at += FIELD_HEAD + value.length;
+    rest->left -= FIELD_HEAD + value.length;
+    return value;
+}
+
+/* ---- 22: the values; 19: the length ---- */
+
+/* A judged sheet: its count of views, its widths, and how long its record is. */
+typedef struct {
+    uint32_t views;
+    unsigned c, b, k;
+    unsigned end_bits; /* of a line's start or end: type, direction, x, y */
+    size_t record_length;
+} judged_sheet;
+
+static size_t whole_bytes(size_t bits)
+{
+    return (bits + 7) / 8;
+}
+
+/* A line's start or end. */
+static int is_end(const uint8_t *end, const judged_sheet *sheet)
+{
+    return end[0] <= 3 && end[1] >> sheet->b == 0 && plain_two_bytes(end + 2) >> sheet->c == 0
+        && plain_two_bytes(end + 4) >> sheet->c == 0;
+}
+
+/* Each byte is a number of k bits in two's complement: from bit k on, no bit differs from the one
+ * below it. Of eight bytes at a time only bit 0 meets another byte's bit, and k is at least 2. */
+static int are_codes(const uint8_t *codes, size_t count, unsigned k)
+{
+    const uint64_t from_k = UINT64_C(0x0101010101010101) * (0xFFu << k & 0xFF);
+    uint64_t differing = 0, eight;
+    for (; count >= 8; count -= 8) {
+        memcpy(&eight, codes, 8);
+        differing |= eight ^ eight << 1;
+        codes += 8;
+    }
+    for (; count > 0; count--) {
+        differing |= *codes ^ (uint64_t)*codes << 1;
+        codes++;
+    }
+    return (differing & from_k) == 0;
+}
+
+static int judge_lines(fields *rest, judged_sheet *sheet)
+{
+    size_t bits = 0;
+    while (next_is(rest, TAG_LINE)) {
+        const plain_block line = take_value(rest);
+        const size_t codes = line.length - LINE_ENDS;
+        if (!is_end(line.bytes, sheet) || !is_end(line.bytes + LINE_ENDS / 2, sheet))
+            return 0;
+        if (!are_codes(line.bytes + LINE_ENDS, codes, sheet->k))
+            return 0;
+        bits += 2 * sheet->end_bits + COUNT_OF_CODES + codes * sheet->k;
+    }
+    sheet->record_length += whole_bytes(bits);
+    return 1;
+}
+
+/* A line's neighbours, from the line downwards: their count and the differences fit w bits, and
+ * only the first difference may be 0. Where a neighbour is above what stands before it, the
+ * difference wraps around and is too wide for any w. */
+static int are_neighbours(plain_block list, unsigned w, uint32_t line)
+{
+    const uint8_t *end = plain_block_end(list);
+    uint32_t before = line;
+    if (list.length / 2 >> w != 0)
+        return 0;
+    for (const uint8_t *at = list.bytes; at < end; at += 2) {
+        const uint32_t neighbour = plain_two_bytes(at), difference = before - neighbour;
+        if (difference >> w != 0 || (difference == 0 && at > list.bytes))
+            return 0;
+        before = neighbour;
+    }
+    return 1;
+}
+
+static int judge_index(fields *rest, judged_sheet *sheet)
+{
+    const unsigned w = *take_value(rest).bytes;
+    size_t numbers = 0; /* counts and differences */
+    if (w < 1 || w > 16)
+        return 0;
+    for (uint32_t line = 0; next_is(rest, TAG_LIST); line++) {
+        const plain_block list = take_value(rest);
+        if (!are_neighbours(list, w, line))
+            return 0;
+        numbers += 1 + list.length / 2;
+    }
+    sheet->record_length += 1 + whole_bytes(numbers * w);
+    return 1;
+}
+
+static int judge_view(fields *rest, judged_sheet *sheet, uint8_t *seen)
+{
+    if (!plain_is_view_header(take_value(rest).bytes, seen) || !judge_lines(rest, sheet))
+        return 0;
+    if (next_is(rest, TAG_INDEX) && !judge_index(rest, sheet))
+        return 0;
+    while (next_is(rest, TAG_SEGMENT))
+        sheet->record_length += SEGMENT_HEADER - 2 + take_value(rest).length;
+    sheet->record_length += VIEW_HEADER + 2 + 2; /* the lengths of index and extended block */
+    return 1;
+}
+
+static int judge_values(fields rest, judged_sheet *sheet)
+{
+    uint8_t seen[POSITIONS] = {0};
+    const uint8_t *scale = take_value(&rest).bytes + 2;
+    if (!plain_is_scale(scale))
+        return 0;
+    sheet->c = scale[1];
+    sheet->b = scale[2];
+    sheet->k = scale[3];
+    sheet->end_bits = 2 + sheet->b + 2 * sheet->c;
+    sheet->record_length = HEADER;
+    while (rest.left > 0)
+        if (!judge_view(&rest, sheet, seen))
+            return 0;
+    return 1;
+}
+
+/* ---- the record ---- */
+
+/* A writing place: the next byte, and how many bits, the low ones of `held`, are put but not yet
+ * written. They are always fewer than 32. */
+typedef struct {
+    uint8_t *next;
+    uint64_t held;
+    unsigned waiting;
+} bit_writer;
+
+/* Puts a number into the next `width` (1 to 32) bits, which hold it. */
+static inline void put(bit_writer *to, unsigned width, uint32_t number)
+{
+    to->held = to->held << width | number;
+    to->waiting += width;
+    if (to->waiting >= 32) {
+        uint32_t full;
+        to->waiting -= 32;
+        full = (uint32_t)(to->held >> to->waiting);
+        to->next = plain_put_two_bytes(to->next, full >> 16);
+        to->next = plain_put_two_bytes(to->next, full);
+    }
+}
+
+/* Writes what waits, filled up to a byte with zeros, and gives the place behind it. */
+static uint8_t *put_rest(bit_writer to)
+{
+    for (; to.waiting >= 8; to.waiting -= 8)
+        *to.next++ = (uint8_t)(to.held >> (to.waiting - 8));
+    if (to.waiting > 0)
+        *to.next++ = (uint8_t)(to.held << (8 - to.waiting));
+    return to.next;
+}
+
+static inline void put_end(bit_writer *to, const uint8_t *end, const judged_sheet *sheet)
+{
+    put(to, 2 + sheet->b, (uint32_t)end[0] << sheet->b | end[1]);
+    put(to, 2 * sheet->c, plain_two_bytes(end + 2) << sheet->c | plain_two_bytes(end + 4));
+}
+
+/* Four codes at a time: they have no more than 32 bits. */
+static inline void put_codes(bit_writer *to, const uint8_t *codes, size_t count, unsigned k)
+{
+    const uint32_t low = (1u << k) - 1;
+    for (; count >= 4; count -= 4) {
+        const uint32_t two = (codes[0] & low) << k | (codes[1] & low);
+        put(to, 4 * k, (two << k | (codes[2] & low)) << k | (codes[3] & low));
+        codes += 4;
+    }
+    for (; count > 0; count--)
+        put(to, k, *codes++ & low);
+}
+
+/* Every writer of a block gives the place behind it. */
+
+static uint8_t *put_lines(uint8_t *out, fields *rest, const judged_sheet *sheet)
+{
+    bit_writer to = {out, 0, 0};
+    while (next_is(rest, TAG_LINE)) {
+        const plain_block line = take_value(rest);
+        const size_t codes = line.length - LINE_ENDS;
+        put_end(&to, line.bytes, sheet);
+        put(&to, COUNT_OF_CODES, (uint32_t)codes);
+        put_codes(&to, line.bytes + LINE_ENDS, codes, sheet->k);
+        put_end(&to, line.bytes + LINE_ENDS / 2, sheet);
+    }
+    return put_rest(to);
+}
+
+static uint8_t *put_index(uint8_t *out, fields *rest)
+{
+    bit_writer to = {out, 0, 0};
+    unsigned w;
+    if (!next_is(rest, TAG_INDEX))
+        return out;
+    w = *take_value(rest).bytes;
+    put(&to, 8, w);
+    for (uint32_t line = 0; next_is(rest, TAG_LIST); line++) {
+        const plain_block list = take_value(rest);
+        uint32_t before = line;
+        put(&to, w, (uint32_t)(list.length / 2));
+        for (const uint8_t *at = list.bytes; at < plain_block_end(list); at += 2) {
+            const uint32_t neighbour = plain_two_bytes(at);
+            put(&to, w, before - neighbour);
+            before = neighbour;
+        }
+    }
+    return put_rest(to);
+}
+
+static uint8_t *put_segments(uint8_t *out, fields *rest)
+{
+    while (next_is(rest, TAG_SEGMENT)) {
+        const plain_block segment = take_value(rest);
+        const size_t payload = segment.length - 2;
+        out = plain_put_bytes(out, segment.bytes, 2);
+        out = plain_put_two_bytes(out, (uint32_t)(SEGMENT_HEADER + payload));
+        out = plain_put_bytes(out, segment.bytes + 2, payload);
+    }
+    return out;
+}
+
+/* Fills in the length field of the block that was written behind it, up to `end`. */
+static uint8_t *end_block(uint8_t *length_field, uint8_t *end)
+{
+    plain_put_two_bytes(length_field, (uint32_t)(end - length_field - 2));
+    return end;
+}
+
+static uint8_t *put_view(uint8_t *out, fields *rest, const judged_sheet *sheet)
+{
+    out = plain_put_bytes(out, take_value(rest).bytes, VIEW_HEADER - 2);
+    out = end_block(out, put_lines(out + 2, rest, sheet));
+    out = end_block(out, put_index(out + 2, rest));
+    return end_block(out, put_segments(out + 2, rest));
+}
+
+/* `value` is that of the 01. */
+static uint8_t *put_header(uint8_t *out, const uint8_t *value, const judged_sheet *sheet)
+{
+    memcpy(out, "FSK", 4);
+    memcpy(out + 4, "010", 4);
+    out = plain_put_two_bytes(out + 8, 0); /* of the length's four bytes the upper two */
+    out = plain_put_two_bytes(out, (uint32_t)sheet->record_length);
+    out = plain_put_bytes(out, value, 2);
+    *out++ = (uint8_t)sheet->views;
+    out = plain_put_bytes(out, value + 2, 7);
+    return plain_put_two_bytes(out, 0);
+}
+
+static void put_record(uint8_t *out, fields rest, const judged_sheet *sheet)
+{
+    out = put_header(out, take_value(&rest).bytes, sheet);
+    while (rest.left > 0)
+        out = put_view(out, &rest, sheet);
+}
+
+fsk_answer plain_write(const uint8_t *sheet, size_t sheet_length, uint8_t *record,
+                       size_t record_length)
+{
+    const fields all = {sheet, sheet_length};
+    judged_sheet judged;
+    judged.views = count_views(all);
+    if (judged.views == 0)
+        return plain_refused(BAD_SHEET);
+    if (!judge_values(all, &judged))
+        return plain_refused(BAD_VALUE);
+    if (judged.record_length > LARGEST_RECORD)
+        return plain_refused(TOO_LONG);
+    if (judged.record_length > record_length)
+        return plain_refused(NO_ROOM);
+    put_record(record, all, &judged);
+    return (fsk_answer){0, 0, judged.record_length};
+}

@@ -1,0 +1,72 @@
+// A sheet's record: the sheet is judged first, with the views and bytes that its record has; then the record is put together, where
+// there is room.
+ghost use Rattle.outcome.specs.Outcome.{Answers};
+ghost use Rattle.sheet.specs.Sheet.{writing};
+ghost use Rattle.writing.specs.Judged.{InOrder, SheetIs};
+use fields::whole;
+use format::Header;
+use outcome::Answer;
+use shape::shape;
+use to_record::record::record_out;
+use values::Valued;
+use values::values;
+
+// The views and the bytes of the sheet's record; or the number of its refusal.
+enum Judged {
+    Right(usize, usize),
+    Refused(u32),
+}
+
+// Whether no field is cut and the fields obey the grammar.
+fn in_order(s: &[u8]) -> bool
+    ensures { λ r. ⌜ InOrder (now (s .entry)) r ⌝ }
+{
+    if whole(s) { shape(s) } else { false }
+}
+
+// 21 over the whole sheet, 22 over the whole sheet, 19.
+fn judge_sheet(s: &[u8]) -> Judged
+    ensures { λ r. ⌜ SheetIs (now (s .entry)) r ⌝ }
+{
+    if !in_order(s) {
+        return Judged::Refused(21);
+    }
+    match values(s) {
+        Valued::Wrong => Judged::Refused(22),
+        Valued::Right(views, size) => {
+            if Header::MOST_BYTES < size {
+                Judged::Refused(19)
+            } else {
+                Judged::Right(views, size)
+            }
+        }
+    }
+}
+
+pub fn write(sheet: &[u8], bytes: &mut [u8]) -> Answer
+    ensures { λ r. ⌜ Answers (writing (now (sheet .entry))) (now (bytes .entry)) (now (bytes .exit)) r ⌝ }
+{
+    match judge_sheet(sheet) {
+        Judged::Refused(number) => Answer {
+            number,
+            place: 0,
+            length: 0,
+        },
+        Judged::Right(views, size) => {
+            if bytes.len() < size {
+                Answer {
+                    number: 20,
+                    place: 0,
+                    length: 0,
+                }
+            } else {
+                let length = record_out(bytes, sheet, size, views);
+                Answer {
+                    number: 0,
+                    place: 0,
+                    length,
+                }
+            }
+        }
+    }
+}
