@@ -11,6 +11,8 @@ use Rattle.bits.specs.Bytes.{bitsOf}
 use Rattle.bits.specs.Codec.{Read, got, refused}
 use Rattle.bits.specs.declared.Taken.{Taken}
 use Rattle.bits.specs.declared.Taken.the-variants as tk
+use Rattle.bits.specs.declared.ranged.RangedAt.{RangedAt}
+use Rattle.bits.specs.declared.ranged.RangedAt.the-variants as rg
 
 pub data Found (A : Type 0) : Type 0 where
   found : A → ℕ → Found A
@@ -34,6 +36,11 @@ pub record Reads {A : Type 0} (d : Bits → Read Bool A) (s : List ℕ) (p : ℕ
 abbrev pub taken : ℕ → Taken → Found ℕ
 taken e (tk.Bits n c) = found n (c .at)
 taken e (tk.Short p) = fault e p
+
+-- the same of a byte at place p; n is the refusal of one outside its range
+abbrev pub rangedAt : ℕ → ℕ → RangedAt → Found ℕ
+rangedAt n p (rg.At x q) = found x (q .at)
+rangedAt n p rg.Outside = fault n p
 
 -- ---- what is kept of a value
 

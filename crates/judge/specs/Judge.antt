@@ -2,36 +2,14 @@
 -- the place of its refusal.
 use mathlib.Core.Path.{_≡_}
 use Prim.Native.Nat.{ℕ, _*_, _≤_}
-use mathlib.Core.Bool.{Bool}
 use mathlib.Core.List.{List}
 use lib.ListN.{length}
-use Rattle.bits.specs.Bits.{Bits}
-use Rattle.bits.specs.Codec.{Read}
-use Rattle.bits.specs.Lists.{total}
 use Rattle.bits.specs.Reads.{Found, found, fault, placed, placeOf, kept}
 use Rattle.format.specs.Record.{Record, views, read}
-use Rattle.format.specs.SheetSize.{viewSize, sheetSize}
-use Rattle.format.specs.declared.Widths.{Widths}
+use Rattle.format.specs.SheetSize.{sheetSize}
 use Rattle.format.specs.declared.Header.{Header}
-use Rattle.parts.specs.declared.Reached.{Reached}
-use Rattle.parts.specs.declared.Reached.the-variants as r
-use Rattle.parts.specs.declared.view.Headed.{Headed}
-use Rattle.parts.specs.declared.view.Headed.the-variants as h
 use Rattle.judge.specs.declared.Verdict.{Verdict}
 use Rattle.judge.specs.declared.Verdict.the-variants as v
-
--- of the views, their bytes in the sheet are kept
-unfoldable pub viewsDec : Widths → ℕ → Bits → Read Bool ℕ
-viewsDec w n s = kept (total viewSize) (views w n .dec s)
-
--- the bytes that the views take in the sheet
-abbrev pub sheetBytes : Reached → ℕ
-sheetBytes (r.At a z) = z
-sheetBytes (r.Refused e p) = 0
-
-abbrev pub headRefusal : Headed → Reached
-headRefusal (h.At x n) = r.At 0 0
-headRefusal (h.Refused e p) = r.Refused e p
 
 -- what is kept of a record
 abbrev pub Summary : Type 0

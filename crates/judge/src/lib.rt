@@ -1,12 +1,11 @@
 // The judge of a record: refused, by its number and place; or accepted, with what every call needs of it.
 ghost use mathlib.Core.Path.{_≡_};
 ghost use Rattle.judge.specs.Judge.{Judges};
+use blocks::Reached;
 use format::Header;
-use parts::Reached;
-use parts::header::HeaderAt;
-use parts::header::header_at;
-
-pub mod views; // the nest over views, lines and codes
+use heads::header::HeaderAt;
+use heads::header::header_at;
+use views::judge_views;
 
 // An accepted record's header, how many views it has, and the bytes of its sheet.
 pub enum Verdict {
@@ -28,7 +27,7 @@ pub fn judge(s: &[u8]) -> Verdict
         HeaderAt::At(h, count) => {
             let scale = h.scale;
             let widths = scale.widths;
-            match views::judge_views(s, widths, count) {
+            match judge_views(s, widths, count) {
                 Reached::Refused(e, p) => Verdict::Refused(e, p),
                 Reached::At(a, size) => {
                     if a < s.len() {

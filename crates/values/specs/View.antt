@@ -9,7 +9,7 @@ use Rattle.bits.specs.Codec.{got, refused}
 use Rattle.outcome.specs.Refusals.{badValue}
 use Rattle.format.specs.View.{View, view}
 use Rattle.format.specs.declared.Widths.{Widths}
-use Rattle.parts.specs.Answers.{Seen}
+use Rattle.heads.specs.Answers.{Seen}
 use Rattle.sheet.specs.Fields.{Field}
 use Rattle.sheet.specs.Grammar.{RawView, viewIn}
 use Rattle.sheet.specs.Sheet.{viewFrom}

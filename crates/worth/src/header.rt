@@ -2,15 +2,15 @@
 ghost use mathlib.Core.Path.{_≡_};
 ghost use lib.ListN.{length};
 ghost use Rattle.sheet.specs.Values.{headerValue, viewHeadValue};
-ghost use Rattle.parts.specs.Answers.{earlierOf};
+ghost use Rattle.heads.specs.Answers.{earlierOf};
 ghost use Rattle.worth.specs.Worth.{Told, headerIs, headIs};
 use bits::Cursor;
 use format::Header;
 use format::ViewHeader;
-use parts::header::ScaleAt;
-use parts::header::scale_at;
-use parts::view::FieldsAt;
-use parts::view::head_fields;
+use heads::header::ScaleAt;
+use heads::header::scale_at;
+use heads::view::FieldsAt;
+use heads::view::head_fields;
 
 pub enum HeaderWorth {
     Right(Header),

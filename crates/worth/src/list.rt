@@ -7,8 +7,8 @@ ghost use Rattle.sheet.specs.Values.{widthValue, listValue};
 ghost use Rattle.worth.specs.Worth.{Told, Tested, widthIs};
 use crate::narrow::narrow;
 use bits::Cursor;
-use parts::ranged::RangedAt;
-use parts::ranged::ranged_at;
+use bits::ranged::RangedAt;
+use bits::ranged::ranged_at;
 
 pub enum WidthWorth {
     Right(usize),

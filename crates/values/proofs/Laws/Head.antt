@@ -10,8 +10,8 @@ use Rattle.bits.specs.BytesLaws.{length-bitsOf}
 use Rattle.bits.specs.Codec.{Read, got}
 use Rattle.format.specs.View.{occurs}
 use Rattle.format.specs.declared.ViewHeader.{ViewHeader}
-use Rattle.parts.specs.Answers.{earlierOf, Seen}
-use Rattle.parts.proofs.Laws.Seen.{seen-is, right-position}
+use Rattle.heads.specs.Answers.{earlierOf, Seen}
+use Rattle.heads.proofs.Laws.Seen.{seen-is, right-position}
 use Rattle.sheet.specs.Values.{viewHeadValue}
 
 pub head-seen : {seen ps : List ℕ} (v : List ℕ) (r : Read Bool ViewHeader) → Seen seen ps → viewHeadValue (earlierOf seen) .dec (bitsOf v) ≡ r

@@ -25,8 +25,8 @@ use Rattle.shape.proofs.Laws.Parted.{parted-at, rest-behind, view-parted}
 use Rattle.shape.proofs.Laws.Views.{viewsRight, views, views-on, views-more, views-wrong}
 use Rattle.values.specs.View.{ViewThere, rawIn, ViewRight, ViewWrong, SizedIs}
 use Rattle.values.specs.declared.view.Sized.{Sized}
-use Rattle.parts.specs.Answers.{Seen}
-use Rattle.parts.proofs.Laws.Seen.{seen-start, seen-more, seen-le}
+use Rattle.heads.specs.Answers.{Seen}
+use Rattle.heads.proofs.Laws.Seen.{seen-start, seen-more, seen-le}
 
 -- ---- the raw views
 

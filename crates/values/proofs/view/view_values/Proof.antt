@@ -9,7 +9,7 @@ use Rattle.bits.specs.Bytes.{bitsOf}
 use Rattle.bits.specs.Codec.{got}
 use Rattle.bits.proofs.Laws.Parts.{part}
 use Rattle.format.specs.View.{occurs}
-use Rattle.parts.specs.Answers.{earlierOf, Seen}
+use Rattle.heads.specs.Answers.{earlierOf, Seen}
 use Rattle.sheet.specs.Grammar.{rest, indexRest}
 use Rattle.sheet.specs.Values.{viewHeadValue}
 use Rattle.worth.specs.Worth.{Told, headIs}

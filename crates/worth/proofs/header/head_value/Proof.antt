@@ -5,8 +5,8 @@ use Rattle.bits.specs.Reads.{Reads, found}
 use Rattle.bits.proofs.Laws.Reads.{known, at-place}
 use Rattle.outcome.specs.Refusals.{badValue}
 use Rattle.format.specs.View.{headFields}
-use Rattle.parts.specs.Answers.{earlierOf, fieldsAt}
-use Rattle.parts.proofs.Laws.View.{fields-behind}
+use Rattle.heads.specs.Answers.{earlierOf, fieldsAt}
+use Rattle.heads.proofs.Laws.View.{fields-behind}
 use Rattle.sheet.specs.Values.{viewHeadValue}
 use Rattle.worth.proofs.Laws.Ended.{ends, fails}
 use borrow.Author.Needs.{needs}

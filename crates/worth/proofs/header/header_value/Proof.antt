@@ -6,8 +6,8 @@ use Rattle.bits.specs.Reads.{Reads, found}
 use Rattle.bits.proofs.Laws.Reads.{known, at-place, go-on, made}
 use Rattle.outcome.specs.Refusals.{badValue}
 use Rattle.format.specs.Record.{scale}
-use Rattle.parts.specs.Answers.{scaleAt}
-use Rattle.parts.proofs.Laws.Header.{scale-behind}
+use Rattle.heads.specs.Answers.{scaleAt}
+use Rattle.heads.proofs.Laws.Header.{scale-behind}
 use Rattle.sheet.specs.Values.{headerValue}
 use Rattle.worth.proofs.Laws.Ended.{ends, fails}
 use borrow.Author.Needs.{needs}

@@ -6,8 +6,8 @@ use Rattle.bits.specs.CodecLaws.{ranged}
 use Rattle.bits.specs.Reads.{Reads, found}
 use Rattle.bits.proofs.Laws.Reads.{known, at-place}
 use Rattle.outcome.specs.Refusals.{badValue}
-use Rattle.parts.specs.Answers.{rangedAt}
-use Rattle.parts.proofs.Laws.Header.{behind}
+use Rattle.bits.specs.Reads.{rangedAt}
+use Rattle.heads.proofs.Laws.Header.{behind}
 use Rattle.sheet.specs.Values.{widthValue}
 use Rattle.worth.proofs.Laws.Ended.{ends, fails}
 use borrow.Author.Needs.{needs}

@@ -1,0 +1,31 @@
+// A byte that has a range, as the scale's fields and the width of a neighbour index. One that passes the end is refused as one
+// outside its range is, at the byte's own place.
+ghost use Prim.Native.Nat.{ℕ, _*_, _≤_};
+ghost use lib.ListN.{length};
+ghost use Rattle.bits.specs.CodecLaws.{ranged};
+ghost use Rattle.bits.specs.Reads.{Reads, rangedAt};
+use crate::Cursor;
+use crate::Taken;
+
+// The byte's value and the cursor behind it.
+pub enum RangedAt {
+    At(usize, Cursor),
+    Outside,
+}
+
+// The byte at the cursor, which may be low to high.
+pub fn ranged_at(p: Cursor, s: &[u8], low: usize, high: usize) -> RangedAt
+    requires { ⌜ (length (now s) ≤ 65535) × (p .at ≤ 8 * length (now s)) ⌝ }
+    ensures { λ r. ⌜ ((e : ℕ) → Reads (ranged e 8 low high .dec) (now (s .entry)) (p .at) (rangedAt e (p .at) r)) ⌝ }
+{
+    let Taken::Bits(x, next) = p.field(s, 8) else {
+        return RangedAt::Outside;
+    };
+    if x < low {
+        return RangedAt::Outside;
+    }
+    if high < x {
+        return RangedAt::Outside;
+    }
+    RangedAt::At(x, next)
+}

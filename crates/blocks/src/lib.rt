@@ -1,0 +1,18 @@
+// Readers and judges of a view's blocks: the ends of a line, the neighbour index, the extended data. A judge says how many bytes its
+// block takes in the sheet, or the number of its refusal and the place, in bits.
+mod block; // a block behind its length
+pub mod index; // the neighbour index
+pub mod line; // the ends of a line, and zero bits
+pub mod segments; // the extended data
+
+// What the judge of a whole block answers.
+pub enum Judged {
+    Fine(usize),
+    Refused(u32, usize),
+}
+
+// The same of a block behind its length: the byte behind it, and its bytes in the sheet.
+pub enum Reached {
+    At(usize, usize),
+    Refused(u32, usize),
+}

@@ -1,0 +1,4 @@
+-- The laws of the headers, by topic.
+pub mod Header
+pub mod View
+pub mod Seen

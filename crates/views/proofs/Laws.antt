@@ -1,0 +1,5 @@
+-- The laws of the nest, by topic.
+pub mod Bounds
+pub mod Line
+pub mod Head
+pub mod View
