@@ -1,4 +1,5 @@
 -- The laws of an accepted record's parts and their places, by topic.
+pub mod Standing
 pub mod InBytes
 pub mod Front
 pub mod Prefixed

@@ -1,5 +1,4 @@
 -- The laws of what is looked up, by topic.
-pub mod Parts
 pub mod Segment
 pub mod Index
 pub mod Listing

@@ -1,4 +1,5 @@
 pub mod Survive
+pub mod Listed
 pub mod Least
 pub mod Act
 pub mod Order

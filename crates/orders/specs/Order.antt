@@ -38,9 +38,13 @@ abbrev pub risesOk : ℕ → ℕ → List ℕ → Bool
 risesOk m n [] = true
 risesOk m n (r ∷ rs) = leb m r && ltb r n && risesOk (suc r) n rs
 
+-- "removal list empty, not rising, or a line number not below the count": 15 where it is not so; n is the count
+abbrev pub linesOk : ℕ → List ℕ → Bool
+linesOk n rs = not (empty? rs) && risesOk 0 n rs
+
 -- "removal 15, 16; pair 17, 15, 18"
 unfoldable pub tests : Act → View → List (Bool × ℕ)
-tests (remove rs) v = (not (empty? rs) && risesOk 0 (count v) rs, badLines) ∷ (empty? (v .segments), extended) ∷ []
+tests (remove rs) v = (linesOk (count v) rs, badLines) ∷ (empty? (v .segments), extended) ∷ []
 tests (join a b) v = (indexed? v, noIndex) ∷ (ltb a (count v) && ltb b (count v), badLines) ∷ (not (near v a b), alreadySo) ∷ []
 tests (part a b) v = (indexed? v, noIndex) ∷ (ltb a (count v) && ltb b (count v), badLines) ∷ (near v a b, alreadySo) ∷ []
 

@@ -1,3 +1,4 @@
 pub mod Bytes
 pub mod ThreeBytes
 pub mod Laws
+pub mod Chain

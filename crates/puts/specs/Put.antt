@@ -24,3 +24,16 @@ pub record PutMore (old : List ℕ) (at value width : ℕ) (now : List ℕ) (r :
   pub is : (xs : Bits) (before : List ℕ) → Put xs before old at → Put (xs ++ bitsOfNumber width value) before now r
   pub same : length now ≡ length old
   pub place : r ≡ at + width
+
+-- ---- several numbers, one behind the other
+
+-- the bits are put behind any others, from place at to place r
+pub record Puts (bits : Bits) (old : List ℕ) (at : ℕ) (now : List ℕ) (r : ℕ) : Type 0 where
+  pub is : (xs : Bits) (before : List ℕ) → Put xs before old at → Put (xs ++ bits) before now r
+  pub same : length now ≡ length old
+  pub place : r ≡ at + length bits
+
+-- there is room for n bits at place at
+pub record Room (out : List ℕ) (at n : ℕ) : Type 0 where
+  pub room : at + n ≤ 8 * length out
+  pub near : at + n ≤ 8 * 65535

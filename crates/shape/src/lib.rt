@@ -3,8 +3,8 @@
 ghost use Prim.Native.Nat.{_<_};
 ghost use Rattle.fields.specs.Fields.{Fields};
 ghost use Rattle.shape.specs.Shape.{Standing, Starts, Begins, Passes, IndexEnds, ViewEnds, Shape};
+use bits::two_at;
 use bits::wide;
-use fields::two_at;
 use format::ViewHeader;
 
 // Fields that may come several times: their tag, and the lengths that their values may have, from least to most by step.

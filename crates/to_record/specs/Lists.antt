@@ -12,7 +12,7 @@ use Rattle.lay.specs.HighFirst.{two, joined}
 use Rattle.format.specs.Index.{Index, FitsList, neighbours, up, indexBlock}
 use Rattle.to_sheet.specs.Bytes.{indexBytes}
 use Rattle.to_record.specs.Run.{Other, RunAt}
-use Rattle.to_record.specs.Puts.{Puts, Room}
+use Rattle.puts.specs.Put.{Puts, Room}
 use Rattle.to_record.specs.declared.Done.{Done}
 
 -- ---- line l's neighbours at width w, whose field has the value s

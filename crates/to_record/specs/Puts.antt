@@ -1,16 +1,15 @@
--- What the writers of bits ask and leave: they put bits behind whatever bits were put before, so that what they leave chains; and
--- what the lines of a sheet hold.
+-- What the writers of lines ask and leave: what the lines of a sheet hold is put, in bits.
 use mathlib.Core.Path.{_≡_}
 use Prim.Native.Nat.{ℕ, _+_, _*_, _^_, _≤_, _<_}
 use mathlib.Core.List.{List, _++_, map}
 use lib.ListN.{length, take, drop}
 use Rattle.bits.specs.Lists.{All, total}
-use Rattle.bits.specs.Bits.{Bits, filled}
+use Rattle.bits.specs.Bits.{filled}
 use Rattle.bits.specs.Bytes.{inBytes}
 use Rattle.bits.specs.CodecLaws.{encAll, field}
 use Rattle.outcome.specs.Refusals.{badLine}
 use Rattle.lay.specs.Laid.{Laid}
-use Rattle.puts.specs.Put.{Put}
+use Rattle.puts.specs.Put.{Puts, Room}
 use Rattle.format.specs.Line.{Line, FitsEnd, FitsLine, end, line}
 use Rattle.format.specs.declared.End.{End}
 use Rattle.format.specs.declared.Widths.{Widths}
@@ -20,19 +19,6 @@ use Rattle.locate.specs.Stands.{endBits}
 use Rattle.to_sheet.specs.Bytes.{endBytes}
 use Rattle.to_record.specs.Run.{RunAt}
 use Rattle.to_record.specs.declared.line.Lines.{Lines}
-
--- ---- bits
-
--- the bits are put behind any others, from place at to place r
-pub record Puts (bits : Bits) (old : List ℕ) (at : ℕ) (now : List ℕ) (r : ℕ) : Type 0 where
-  pub is : (xs : Bits) (before : List ℕ) → Put xs before old at → Put (xs ++ bits) before now r
-  pub same : length now ≡ length old
-  pub place : r ≡ at + length bits
-
--- there is room for n bits at place at
-pub record Room (out : List ℕ) (at n : ℕ) : Type 0 where
-  pub room : at + n ≤ 8 * length out
-  pub near : at + n ≤ 8 * 65535
 
 -- ---- an end, at byte a of the value s
 

@@ -1,8 +1,8 @@
 // The index block, from the sheet's 04 and 05 fields: its width, then each line's count of neighbours and their differences, in bits.
 ghost use Rattle.to_record.specs.Lists.{ListThere, ListPut, ListsThere, ListsPut, IndexThere, IndexPut};
 use crate::Done;
+use bits::two_at;
 use bits::wide;
-use fields::two_at;
 use puts::put_bits;
 
 // Line l's neighbours, whose numbers are s, as differences of w bits.

@@ -1,8 +1,8 @@
 // The skeleton block, from the sheet's 03 fields: each line's ends, its count of codes and its codes, in bits.
 ghost use Rattle.to_record.specs.Puts.{EndThere, EndPut, CodesThere, CodesPut, LineThere, LinePut, LinesThere, LinesPut};
 use bits::pow2;
+use bits::two_at;
 use bits::wide;
-use fields::two_at;
 use format::Widths;
 use puts::put_bits;
 

@@ -7,8 +7,8 @@ ghost use Rattle.lay.specs.Laid.{Laid};
 ghost use Rattle.lay.specs.HighFirst.{two};
 ghost use Rattle.to_record.specs.Outs.{SegmentsThere, SegmentsOut};
 use crate::Done;
+use bits::two_at;
 use bits::wide;
-use fields::two_at;
 use lay::copy;
 use lay::put_two;
 

@@ -3,7 +3,7 @@
 ghost use Prim.Native.Nat.{_≤_};
 ghost use Rattle.format.specs.Record.{Narrow};
 ghost use Rattle.values.specs.Run.{Some, Lines, LinesAre, Lists, ListsAre, Segments, SegmentsAre};
-use fields::two_at;
+use bits::two_at;
 use format::Widths;
 use shape::starts;
 use worth::line::line_value;

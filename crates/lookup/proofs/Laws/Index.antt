@@ -23,7 +23,7 @@ use Rattle.format.specs.Differences.{diffs, diff, tell}
 use Rattle.format.specs.DifferencesLaws.{length-diffs}
 use Rattle.format.specs.Index.{FitsList, neighbours, Index, up, FitsIndex, index, indexBlock}
 use Rattle.lookup.specs.Counts.{entries}
-use Rattle.lookup.proofs.Laws.Parts.{stands-behind, stands-within, number-there}
+use Rattle.locate.proofs.Laws.Standing.{stands-behind, stands-within, number-there}
 
 -- ---- the block
 

@@ -17,9 +17,9 @@ use Rattle.format.specs.Index.{FitsList}
 use Rattle.locate.proofs.Laws.Line.{codes-long}
 use Rattle.locate.proofs.Laws.Lists.{list-is}
 use Rattle.puts.specs.Put.{PutMore}
-use Rattle.to_record.specs.Puts.{Puts}
+use Rattle.puts.specs.Put.{Puts}
 use Rattle.to_record.specs.Lists.{ListPut}
-use Rattle.to_record.proofs.Laws.Puts.{puts-one, puts-none, _then_, puts-as, enc-snoc}
+use Rattle.puts.proofs.Chain.{puts-one, puts-none, _then_, puts-as, enc-snoc}
 
 -- ---- a list's bytes
 

@@ -20,7 +20,7 @@ use Rattle.puts.specs.Put.{PutMore}
 use Rattle.puts.proofs.Laws.{put-none, put-laid}
 use Rattle.to_sheet.specs.Bytes.{listBytes, indexBytes}
 use Rattle.to_record.specs.Run.{Other, fieldOf, RunAt}
-use Rattle.to_record.specs.Puts.{Room}
+use Rattle.puts.specs.Put.{Room}
 use Rattle.to_record.specs.Lists.{ListsPut, IndexThere, IndexPut}
 use Rattle.to_record.specs.declared.Done.{Done}
 

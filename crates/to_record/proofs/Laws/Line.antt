@@ -21,8 +21,9 @@ use Rattle.locate.proofs.Laws.Line.{end-long, codes-long, line-bits}
 use Rattle.locate.proofs.Laws.Lists.{all-long}
 use Rattle.to_sheet.specs.Bytes.{endBytes}
 use Rattle.to_record.specs.Run.{RunAt}
-use Rattle.to_record.specs.Puts.{Puts, Room, EndPut, CodesPut, lineHeld, LinePut, LinesPut}
-use Rattle.to_record.proofs.Laws.Puts.{puts-one, _then_, enc-snoc}
+use Rattle.puts.specs.Put.{Puts, Room}
+use Rattle.to_record.specs.Puts.{EndPut, CodesPut, lineHeld, LinePut, LinesPut}
+use Rattle.puts.proofs.Chain.{puts-one, _then_, enc-snoc}
 use Rattle.to_record.proofs.Laws.Run.{FieldNext, run-next, Going, going-first, going-fits, going-next, going-ends}
 
 -- ---- a line

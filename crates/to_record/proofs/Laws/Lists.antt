@@ -15,9 +15,9 @@ use Rattle.bits.proofs.Laws.Parts.{part}
 use Rattle.lay.specs.HighFirst.{two, joined}
 use Rattle.format.specs.Index.{FitsList, neighbours, up}
 use Rattle.to_record.specs.Run.{RunAt}
-use Rattle.to_record.specs.Puts.{Puts, Room}
+use Rattle.puts.specs.Put.{Puts, Room}
 use Rattle.to_record.specs.Lists.{ListPut, ListsPut}
-use Rattle.to_record.proofs.Laws.Puts.{puts-none, _then_, puts-as}
+use Rattle.puts.proofs.Chain.{puts-none, _then_, puts-as}
 use Rattle.to_record.proofs.Laws.Run.{FieldNext, field-here}
 
 -- ---- values one behind the other, each by its line's codec

@@ -1,46 +1,24 @@
--- Bits put one behind the other, and the parts of a line put as its format has them.
-use mathlib.Core.Path.{_≡_, refl, sym, ap, ap₂, _∙_}
+-- The parts of a line, put as its format has them.
+use mathlib.Core.Path.{_≡_, sym, ap, ap₂, _∙_}
 use Prim.Native.Nat.{ℕ, _+_, _*_, _/_, _%_, _^_, _≤_, _<_}
 use native.Mathlib.Omega.{arith}
-use mathlib.Core.List.{List, [], _∷_, _++_, map, append-assoc, append-nil}
-use lib.ListN.{length, take, drop, getD, length-append, length-map}
+use mathlib.Core.List.{List, [], _∷_, _++_, map}
+use lib.ListN.{length, take, drop, getD, length-map}
 use lib.Seq.{getD-drop, getD-take, take-suc, take-all, length-take-le}
 use native.Mathlib.Numerals.{add-one}
-use mathlib.Core.Bool.{Bool}
 use Rattle.bits.specs.Lists.{All}
 use Rattle.bits.specs.ListsLaws.{all-at, map-at}
-use Rattle.bits.specs.Codec.{Codec}
 use Rattle.bits.specs.CodecLaws.{encAll, field}
 use Rattle.outcome.specs.Refusals.{badLine}
 use Rattle.sheet.specs.Code.{extended, extended-low}
 use Rattle.locate.proofs.Laws.Line.{codes-long}
-use Rattle.bits.specs.Bits.{Bits, bitsOfNumber}
-use Rattle.bits.specs.BitsLaws.{length-bits}
-use Rattle.puts.specs.Put.{PutMore}
+use Rattle.puts.specs.Put.{PutMore, Puts}
+use Rattle.puts.proofs.Chain.{puts-one, puts-none, _then_, puts-as, enc-snoc}
 use Rattle.format.specs.Line.{end}
 use Rattle.format.specs.declared.End.{End}
 use Rattle.format.specs.declared.Widths.{Widths}
 use Rattle.to_sheet.specs.Bytes.{endBytes}
-use Rattle.to_record.specs.Puts.{Puts, CodesPut}
-
-pub puts-one : {old now : List ℕ} {at value width r : ℕ} → PutMore old at value width now r → Puts (bitsOfNumber width value) old at now r
-puts-one {value = value} {width = width} h = record { is = h .is; same = h .same; place = omega (arith, h .place, length-bits width value) }
-
--- none, and more behind others
-pub puts-none : (old : List ℕ) (at : ℕ) → Puts [] old at old at
-puts-none old at = record { is = λ xs before p. rw append-nil p; same = refl; place = omega arith }
-
-infixr 50 _then_
-pub _then_ : {a b : Bits} {old mid now : List ℕ} {at p r : ℕ} → Puts a old at mid p → Puts b mid p now r → Puts (a ++ b) old at now r
-_then_ {a} {b} h k =
-    record {
-      is = λ xs before p. rw (append-assoc xs a b) at (k .is (xs ++ a) before (h .is xs before p));
-      same = k .same ∙ h .same;
-      place = omega (arith, h .place, k .place, length-append a b);
-    }
-
-pub puts-as : {a b : Bits} {old now : List ℕ} {at r : ℕ} → a ≡ b → Puts a old at now r → Puts b old at now r
-puts-as e h = rw e at h
+use Rattle.to_record.specs.Puts.{CodesPut}
 
 -- ---- an end
 
@@ -63,11 +41,7 @@ pub end-put : (w : Widths) (e : End) {o o1 o2 o3 o4 : List ℕ} {at p q r t k d 
 unfolding end
 end-put w e ek ed ex ey hk hd hx hy = puts-one (rw ek at hk) then puts-one (rw ed at hd) then puts-one (rw ex at hx) then puts-one (rw ey at hy)
 
--- ---- values one behind the other
-
-pub enc-snoc : {A : Type 0} (c : Codec Bool A) (xs : List A) (x : A) → encAll c (xs ++ x ∷ []) ≡ encAll c xs ++ c .enc x
-enc-snoc c [] x = append-nil (c .enc x)
-enc-snoc c (y ∷ xs) x = ap (λ (s : Bits). c .enc y ++ s) (enc-snoc c xs x) ∙ sym (append-assoc (c .enc y) (encAll c xs) (c .enc x))
+-- ---- codes
 
 -- codes of k bits, of which i are put; s has their bytes
 abbrev pub CodesSoFar : ℕ → List ℕ → List ℕ → ℕ → List ℕ → ℕ → ℕ → Type 0

@@ -2,8 +2,8 @@
 use borrow.Author.Needs.{needs}
 use Prim.Native.Nat.{_+_}
 use native.Mathlib.Omega.{arith}
-use Rattle.fields.proofs.two_at.Statement.{statement}
-use Rattle.fields.proofs.two_at.Tie as tie
+use Rattle.bits.proofs.two_at.Statement.{statement}
+use Rattle.bits.proofs.two_at.Tie as tie
 
 shared-slice-read-wide : tie.Need-shared-slice-read-wide
 shared-slice-read-wide c = search needs

@@ -1,0 +1,37 @@
+-- Bits put one behind the other: what several writers leave is what one would that puts all their bits.
+use mathlib.Core.Path.{_≡_, refl, sym, ap, _∙_}
+use Prim.Native.Nat.{ℕ}
+use native.Mathlib.Omega.{arith}
+use mathlib.Core.Bool.{Bool}
+use mathlib.Core.List.{List, [], _∷_, _++_, append-assoc, append-nil}
+use lib.ListN.{length-append}
+use Rattle.bits.specs.Bits.{Bits, bitsOfNumber}
+use Rattle.bits.specs.BitsLaws.{length-bits}
+use Rattle.bits.specs.Codec.{Codec}
+use Rattle.bits.specs.CodecLaws.{encAll}
+use Rattle.puts.specs.Put.{PutMore, Puts}
+
+pub puts-one : {old now : List ℕ} {at value width r : ℕ} → PutMore old at value width now r → Puts (bitsOfNumber width value) old at now r
+puts-one {value = value} {width = width} h = record { is = h .is; same = h .same; place = omega (arith, h .place, length-bits width value) }
+
+-- none, and more behind others
+pub puts-none : (old : List ℕ) (at : ℕ) → Puts [] old at old at
+puts-none old at = record { is = λ xs before p. rw append-nil p; same = refl; place = omega arith }
+
+infixr 50 _then_
+pub _then_ : {a b : Bits} {old mid now : List ℕ} {at p r : ℕ} → Puts a old at mid p → Puts b mid p now r → Puts (a ++ b) old at now r
+_then_ {a} {b} h k =
+    record {
+      is = λ xs before p. rw (append-assoc xs a b) at (k .is (xs ++ a) before (h .is xs before p));
+      same = k .same ∙ h .same;
+      place = omega (arith, h .place, k .place, length-append a b);
+    }
+
+pub puts-as : {a b : Bits} {old now : List ℕ} {at r : ℕ} → a ≡ b → Puts a old at now r → Puts b old at now r
+puts-as e h = rw e at h
+
+-- ---- values one behind the other
+
+pub enc-snoc : {A : Type 0} (c : Codec Bool A) (xs : List A) (x : A) → encAll c (xs ++ x ∷ []) ≡ encAll c xs ++ c .enc x
+enc-snoc c [] x = append-nil (c .enc x)
+enc-snoc c (y ∷ xs) x = ap (λ (s : Bits). c .enc y ++ s) (enc-snoc c xs x) ∙ sym (append-assoc (c .enc y) (encAll c xs) (c .enc x))

@@ -1,0 +1,3 @@
+-- The laws of lists under an order, by topic.
+pub mod Walk
+pub mod List

@@ -1,0 +1,194 @@
+-- Going over a list: the lines that stay so far, and those still to come.
+use mathlib.Core.Path.{_≡_, refl, sym, ap, _∙_}
+use Prim.Native.Nat.{ℕ, _+_, _-_, _*_, _^_, _≤_, _<_, max}
+use native.Mathlib.Omega.{arith}
+use native.Mathlib.Nat.{mul-comm, mul-suc}
+use mathlib.Core.Bool.{Bool, not}
+use mathlib.Core.List.{List, [], _∷_, _++_, append-assoc, append-nil}
+use lib.ListN.{length, length-append}
+use lib.Dec.{T}
+use Rattle.bits.specs.ChoiceLaws.{pick-yes, pick-no}
+use Rattle.bits.specs.Lists.{All}
+use Rattle.bits.specs.Bits.{Bits, bitsOfNumber}
+use Rattle.bits.specs.CodecLaws.{encAll, field}
+use Rattle.outcome.specs.Refusals.{badIndex}
+use Rattle.puts.specs.Put.{PutMore, Puts}
+use Rattle.puts.proofs.Chain.{puts-one, puts-none, _then_, puts-as}
+use Rattle.format.specs.Differences.{Falls, diffs}
+use Rattle.format.specs.DifferencesLaws.{length-diffs}
+use Rattle.format.specs.Index.{FitsList}
+use Rattle.locate.proofs.Laws.Line.{codes-long}
+use Rattle.locate.proofs.Laws.Lists.{list-is}
+use Rattle.orders.specs.Least.{maxOf}
+use Rattle.orders.specs.Listed.{listed}
+use Rattle.survivors.specs.Rank.{below}
+use Rattle.relist.specs.Walk.{putIn, gone, stayed, WalkAt, StepTo, Steps}
+use Rattle.relist.specs.List.{become, Numbered, ListPut}
+use Rattle.relist.specs.declared.walk.Walk.{Walk}
+use Rattle.relist.specs.declared.walk.Step.{Step}
+use Rattle.relist.specs.declared.list.Numbers.{Numbers}
+
+-- ---- one step: the line goes or stays
+
+module _ {w : ℕ} {s : List ℕ} {k : Walk} {low : ℕ} (drop : ℕ) (lines : List ℕ) {ns : List ℕ} {u : Bits} {r : Step} (t : StepTo w s k low ns u r) where
+  pub one-gone : T (gone (listed lines) drop (r .line)) → become k low drop lines ns ≡ become (r .next) low drop lines (t .lines)
+  one-gone g = ap (stayed (listed lines) drop) (t .is) ∙ pick-yes (gone (listed lines) drop (r .line)) _ _ g
+
+  pub one-stays : T (not (gone (listed lines) drop (r .line)))
+      → become k low drop lines ns ≡ (r .line - below (listed lines) (r .line)) ∷ become (r .next) low drop lines (t .lines)
+  one-stays g = ap (stayed (listed lines) drop) (t .is) ∙ pick-no (gone (listed lines) drop (r .line)) _ _ g
+
+-- ---- the end
+
+pub nothing-left : {w : ℕ} {s : List ℕ} (k : Walk) (low drop : ℕ) (lines ms : List ℕ) {u : Bits} → WalkAt w s k ms u → k .left + k .waiting ≤ 0
+    → become k low drop lines ms ≡ []
+nothing-left k low drop lines [] a z = let e : k .waiting ≡ 0 = omega arith in rw e refl
+nothing-left k low drop lines (m ∷ ms) a z = absurd (omega (arith, a .left))
+
+-- ---- measuring
+
+-- of the list new, at line l: the lines ms are still to come
+pub record Measuring (w : ℕ) (s : List ℕ) (low drop : ℕ) (lines new : List ℕ) (l : ℕ) (k : Walk) (u : Bits) (before count most : ℕ) : Type 0 where
+  pub ms : List ℕ
+  pub at : WalkAt w s k ms u
+  pub least : ℕ
+  pub falls : Falls least before (become k low drop lines ms)
+  pub counts : count + length (become k low drop lines ms) ≡ length new
+  pub largest : max most (maxOf (diffs before (become k low drop lines ms))) ≡ maxOf (diffs l new)
+
+abbrev pub MeasuringAll : (w : ℕ) (s : List ℕ) (low drop : ℕ) (lines : List ℕ) (l : ℕ) (from k : Walk) (before count most : ℕ) → Type 0
+MeasuringAll w s low drop lines l from k before count most =
+    (ns : List ℕ) (u : Bits) → WalkAt w s from ns u → Falls 0 l (become from low drop lines ns)
+    → Measuring w s low drop lines (become from low drop lines ns) l k u before count most
+
+module _ {w : ℕ} {s : List ℕ} {low drop : ℕ} {lines : List ℕ} {l : ℕ} {from : Walk} where
+  pub measuring-first : MeasuringAll w s low drop lines l from from l 0 0
+  measuring-first ns u h f = record { ms = ns; at = h; least = 0; falls = f; counts = omega arith; largest = omega arith }
+
+  module _ {k : Walk} {before count most : ℕ} {r : Step} (M : MeasuringAll w s low drop lines l from k before count most) (S : Steps w s k low r) where
+    pub measuring-gone : T (gone (listed lines) drop (r .line)) → MeasuringAll w s low drop lines l from (r .next) before count most
+    measuring-gone g ns u h f =
+        let m = M ns u h f in
+        let t = S .is (m .ms) u (m .at) in
+        let e = one-gone drop lines t g in
+        record { ms = t .lines; at = t .at; least = m .least; falls = rw e at (m .falls); counts = rw e at (m .counts); largest = rw e at (m .largest) }
+
+    module _ (x : ℕ) (q : x ≡ r .line - below (listed lines) (r .line)) (g : T (not (gone (listed lines) drop (r .line)))) where
+      pub next-falls : {new : List ℕ} {u : Bits} → (m : Measuring w s low drop lines new l k u before count most) → x ≤ before
+      next-falls {u = u} m =
+          let t = S .is (m .ms) u (m .at) in
+          let e = one-stays drop lines t g in
+          let f : Falls (m .least) before ((r .line - below (listed lines) (r .line)) ∷ become (r .next) low drop lines (t .lines)) = rw e at (m .falls) in
+          omega (arith, f .0)
+
+      pub measuring-stays : {bigger : ℕ} → bigger ≡ max most (before - x) → MeasuringAll w s low drop lines l from (r .next) x (count + 1) bigger
+      measuring-stays z ns u h f =
+          let m = M ns u h f in
+          let t = S .is (m .ms) u (m .at) in
+          let e : become k low drop lines (m .ms) ≡ x ∷ become (r .next) low drop lines (t .lines) = rw q (one-stays drop lines t g) in
+          let F : Falls (m .least) before (x ∷ become (r .next) low drop lines (t .lines)) = rw e at (m .falls) in
+          let C : count + length (x ∷ become (r .next) low drop lines (t .lines)) ≡ length (become from low drop lines ns) = rw e at (m .counts) in
+          let L : max most (maxOf (diffs before (x ∷ become (r .next) low drop lines (t .lines)))) ≡ maxOf (diffs l (become from low drop lines ns)) = rw e at (m .largest) in
+          record { ms = t .lines; at = t .at; least = 1; falls = F .1; counts = omega (arith, C); largest = omega (arith, L) }
+
+  pub measured : {k : Walk} {before count most : ℕ} → MeasuringAll w s low drop lines l from k before count most → k .left + k .waiting ≤ 0
+      → Numbered w s from low drop lines l (record { count = count; most = most })
+  measured {k} {before} {count} {most} M z =
+      record {
+        is = λ ns u h f.
+            let m = M ns u h f in
+            let e = nothing-left k low drop lines (m .ms) (m .at) z in
+            (omega (arith, rw e at (m .counts)), omega (arith, rw e at (m .largest)));
+      }
+
+-- ---- putting
+
+-- the differences of the list new, at line l: those of the lines before are put, from place q on
+pub record Putting (w : ℕ) (s : List ℕ) (low drop : ℕ) (lines new : List ℕ) (l width : ℕ) (k : Walk) (u : Bits) (before : ℕ) (old : List ℕ) (q : ℕ) (now : List ℕ) (p : ℕ) : Type 0 where
+  pub ms : List ℕ
+  pub at : WalkAt w s k ms u
+  pub least : ℕ
+  pub falls : Falls least before (become k low drop lines ms)
+  pub small : All (λ d. d < 2 ^ width) (diffs before (become k low drop lines ms))
+  pub done : Bits
+  pub puts : Puts done old q now p
+  pub all : done ++ encAll (field badIndex width) (diffs before (become k low drop lines ms)) ≡ encAll (field badIndex width) (diffs l new)
+
+abbrev pub PuttingAll : (w : ℕ) (s : List ℕ) (low drop : ℕ) (lines : List ℕ) (l width : ℕ) (from k : Walk) (before : ℕ) (old : List ℕ) (q : ℕ) (now : List ℕ) (p : ℕ) → Type 0
+PuttingAll w s low drop lines l width from k before old q now p =
+    (ns : List ℕ) (u : Bits) → WalkAt w s from ns u → FitsList width l (become from low drop lines ns)
+    → Putting w s low drop lines (become from low drop lines ns) l width k u before old q now p
+
+-- how far it is: what is put is a front of all
+pub putting-place : {w : ℕ} {s : List ℕ} {low drop : ℕ} {lines : List ℕ} {l width : ℕ} {old : List ℕ} {q : ℕ} {new : List ℕ} {k : Walk} {u : Bits} {before : ℕ} {now : List ℕ} {p : ℕ} → (m : Putting w s low drop lines new l width k u before old q now p)
+    → (p + width * length (become k low drop lines (m .ms)) ≡ q + width * length new) × (length now ≡ length old)
+putting-place {low = low} {drop} {lines} {l} {width} {new = new} {k} {before = before} m =
+    let a = ap length (m .all) in
+    let b = length-append (m .done) (encAll (field badIndex width) (diffs before (become k low drop lines (m .ms)))) in
+    let c = codes-long badIndex width (diffs before (become k low drop lines (m .ms))) ∙ ap (λ (n : ℕ). n * width) (length-diffs before (become k low drop lines (m .ms))) in
+    let d = codes-long badIndex width (diffs l new) ∙ ap (λ (n : ℕ). n * width) (length-diffs l new) in
+    (omega (arith, a, b, c, d, m .puts .place, mul-comm width (length (become k low drop lines (m .ms))), mul-comm width (length new)), m .puts .same)
+
+module _ {w : ℕ} {s : List ℕ} {low drop : ℕ} {lines : List ℕ} {l width : ℕ} {from : Walk} {old : List ℕ} {q : ℕ} where
+  pub putting-first : PuttingAll w s low drop lines l width from from l old q old q
+  putting-first ns u h f =
+      record { ms = ns; at = h; least = 0; falls = f .falls; small = f .diffs; done = []; puts = puts-none old q; all = refl }
+
+  module _ {k : Walk} {before : ℕ} {now : List ℕ} {p : ℕ} {r : Step} (M : PuttingAll w s low drop lines l width from k before old q now p) (S : Steps w s k low r) where
+    pub putting-gone : T (gone (listed lines) drop (r .line)) → PuttingAll w s low drop lines l width from (r .next) before old q now p
+    putting-gone g ns u h f =
+        let m = M ns u h f in
+        let t = S .is (m .ms) u (m .at) in
+        let e = one-gone drop lines t g in
+        record { ms = t .lines; at = t .at; least = m .least; falls = rw e at (m .falls); small = rw e at (m .small); done = m .done; puts = m .puts; all = rw e at (m .all) }
+
+    module _ (x : ℕ) (z : x ≡ r .line - below (listed lines) (r .line)) (g : T (not (gone (listed lines) drop (r .line)))) where
+      -- the line that stays is at most the one before, and their difference fits
+      pub put-fits : {new : List ℕ} {u : Bits} → (m : Putting w s low drop lines new l width k u before old q now p) → (x ≤ before) × (before - x < 2 ^ width)
+      put-fits {u = u} m =
+          let t = S .is (m .ms) u (m .at) in
+          let e : become k low drop lines (m .ms) ≡ x ∷ become (r .next) low drop lines (t .lines) = rw z (one-stays drop lines t g) in
+          let F : Falls (m .least) before (x ∷ become (r .next) low drop lines (t .lines)) = rw e at (m .falls) in
+          let D : All (λ d. d < 2 ^ width) (diffs before (x ∷ become (r .next) low drop lines (t .lines))) = rw e at (m .small) in
+          (omega (arith, F .0), D .0)
+
+      pub put-room : {new : List ℕ} {u : Bits} → (m : Putting w s low drop lines new l width k u before old q now p) → p + width ≤ q + width * length new
+      put-room {u = u} m =
+          let t = S .is (m .ms) u (m .at) in
+          let e : become k low drop lines (m .ms) ≡ x ∷ become (r .next) low drop lines (t .lines) = rw z (one-stays drop lines t g) in
+          let n : ℕ = length (become (r .next) low drop lines (t .lines)) in
+          let b : width * length (become k low drop lines (m .ms)) ≡ width * n + width = ap (λ (ys : List ℕ). width * length ys) e ∙ mul-suc width n in
+          omega (arith, putting-place m .0)
+
+      pub putting-stays : {after : List ℕ} {a : ℕ} → PutMore now p (before - x) width after a → PuttingAll w s low drop lines l width from (r .next) x old q after a
+      putting-stays P ns u h f =
+          let m = M ns u h f in
+          let t = S .is (m .ms) u (m .at) in
+          let e : become k low drop lines (m .ms) ≡ x ∷ become (r .next) low drop lines (t .lines) = rw z (one-stays drop lines t g) in
+          let F : Falls (m .least) before (x ∷ become (r .next) low drop lines (t .lines)) = rw e at (m .falls) in
+          let D : All (λ d. d < 2 ^ width) (diffs before (x ∷ become (r .next) low drop lines (t .lines))) = rw e at (m .small) in
+          let A : m .done ++ encAll (field badIndex width) (diffs before (x ∷ become (r .next) low drop lines (t .lines))) ≡ encAll (field badIndex width) (diffs l (become from low drop lines ns)) = rw e at (m .all) in
+          record {
+            ms = t .lines;
+            at = t .at;
+            least = 1;
+            falls = F .1;
+            small = D .1;
+            done = m .done ++ bitsOfNumber width (before - x);
+            puts = m .puts then puts-one P;
+            all = append-assoc (m .done) (bitsOfNumber width (before - x)) _ ∙ A;
+          }
+
+-- behind the count
+pub put-all : {w : ℕ} {s : List ℕ} {low drop : ℕ} {lines : List ℕ} {l width : ℕ} {from k : Walk} {before count : ℕ} {old mid now : List ℕ} {at q p : ℕ}
+    → PutMore old at count width mid q → PuttingAll w s low drop lines l width from k before mid q now p → k .left + k .waiting ≤ 0
+    → ListPut w s from low drop lines l count width old at now p
+put-all {low = low} {drop} {lines} {l} {width} {from} {k} {before} P M z =
+    record {
+      is = λ ns u h f c.
+          let m = M ns u h f in
+          let e = nothing-left k low drop lines (m .ms) (m .at) z in
+          let n : List ℕ = become from low drop lines ns in
+          let a : m .done ≡ encAll (field badIndex width) (diffs l n) = sym (append-nil (m .done)) ∙ rw e at (m .all) in
+          puts-as (sym (list-is width l n)) (puts-one (rw c at P) then puts-as a (m .puts));
+    }

@@ -1,0 +1,138 @@
+-- The count, then line by line. The invariant holds of whatever lines the list has: the differences of those that stay are put.
+use native.Mathlib.Omega.{arith}
+use native.Mathlib.Nat.{mul-comm}
+use mathlib.Core.Path.{_≡_, refl, subst}
+use Prim.Native.Nat.{ℕ, _+_, _-_, _*_, _≤_}
+use mathlib.Core.Bool.{not}
+use mathlib.Core.List.{List}
+use lib.ListN.{length}
+use lib.Dec.{T}
+use Rattle.locate.proofs.Laws.Lists.{list-bits}
+use Rattle.orders.specs.Listed.{listed}
+use Rattle.survivors.specs.Rank.{below}
+use Rattle.relist.specs.Walk.{gone, Fares}
+use Rattle.relist.specs.List.{become}
+use Rattle.relist.specs.declared.walk.Fate.{Fate}
+use Rattle.relist.proofs.Laws.List.{Putting, PuttingAll, putting-first, putting-gone, put-fits, put-room, putting-stays, putting-place, put-all}
+use borrow.Author.Needs.{needs}
+use Rattle.relist.proofs.list.list_put.Statement.{statement}
+use Rattle.relist.proofs.list.list_put.Tie as tie
+use Rattle.relist.proofs.list.list_put.Reads as reads
+use Rattle.relist.proofs.list.list_put.Lts as lts
+use Rattle.puts.proofs.put_bits.Reads as put-bits-reads
+use Rattle.relist.proofs.walk.fate_of.Reads as fate-of-reads
+use Rattle.relist.proofs.walk.step_on.Reads as step-on-reads
+
+abbrev Inv-loop : tie.InvT-loop
+Inv-loop out₀ at s w low drop lines l count width p₀ k₀ before₀ out p k before =
+    (k .left + k .waiting ≤ 65536) × (length out ≡ length out₀) × PuttingAll w s low drop lines l width k₀ k before out₀ p₀ out p
+
+abbrev μ-loop : tie.MeasureT-loop
+μ-loop out₀ at s w low drop lines l count width p₀ k₀ before₀ out p k before =
+    k .left + k .waiting
+
+abbrev new : (c : tie.Start Inv-loop μ-loop) → List ℕ
+new c = become (c .args .from) (c .args .low) (c .args .drop) (c .args .lines .now) (c .pre .there .value)
+
+going : (c : tie.At-loop Inv-loop μ-loop) → Putting (c .before .before .before .before .before .before .before .before .args .w) (c .before .before .before .before .before .before .before .before .args .s .now) (c .before .before .before .before .before .before .before .before .args .low) (c .before .before .before .before .before .before .before .before .args .drop) (c .before .before .before .before .before .before .before .before .args .lines .now) (new (c .before .before .before .before .before .before .before .before)) (c .before .before .before .before .before .before .before .before .args .l) (c .before .before .before .before .before .before .before .before .args .width) (c .loop .k) (c .before .before .before .before .before .before .before .before .pre .there .behind) (c .loop .before) (c .before .before .before .put-bits .last .0) (c .before .before .before .put-bits .result) (c .loop .out) (c .loop .p)
+going c = let p = c .before .before .before .before .before .before .before .before .pre in c .loop .inv .2 (p .there .value) (p .there .behind) (p .there .at) (p .fits)
+
+fares : (c : tie.After-fate-of Inv-loop μ-loop) (r : Fate) → c .fate-of .result ≡ r → Fares (listed (c .before .before .before .before .before .before .before .before .before .before .before .before .before .args .lines .now)) (c .before .before .before .before .before .before .before .before .before .before .before .before .before .args .drop) (c .before .before .step-on .result .line) r
+fares c r e = subst (λ (x : Fate). Fares (listed (c .before .before .before .before .before .before .before .before .before .before .before .before .before .args .lines .now)) (c .before .before .before .before .before .before .before .before .before .before .before .before .before .args .drop) (c .before .before .step-on .result .line) x) e (c .fate-of .ensures)
+
+stays : (c : tie.After-line Inv-loop μ-loop) → T (not (gone (listed (c .before .before .before .before .before .before .before .before .before .before .before .before .before .before .before .args .lines .now)) (c .before .before .before .before .before .before .before .before .before .before .before .before .before .before .before .args .drop) (c .before .before .before .before .step-on .result .line))) × (c .line .given .0 .0 ≡ c .before .before .before .before .step-on .result .line - below (listed (c .before .before .before .before .before .before .before .before .before .before .before .before .before .before .before .args .lines .now)) (c .before .before .before .before .step-on .result .line))
+stays c = fares (c .before .before) _ (c .line .given .1)
+
+put-bits-requires : tie.Need-put-bits-requires Inv-loop μ-loop
+put-bits-requires c κs =
+    let p = c .before .before .before .before .pre in
+    let b = list-bits (c .before .before .before .before .args .width) (c .before .before .before .before .args .l) (new (c .before .before .before .before)) in
+    record { below = rw (p .counts) (p .fits .count); narrow = p .narrow; room = omega (arith, b, p .room .room); near = omega (arith, b, p .room .near) }
+
+loop-holds : tie.Need-loop-holds Inv-loop μ-loop
+loop-holds c =
+    (omega (arith, c .before .before .before .before .before .before .before .pre .there .few, c .before .before .before .before .before .before .before .pre .there .at .one), refl, putting-first)
+
+add-if1 : tie.Need-add-if1 Inv-loop μ-loop
+add-if1 c =
+    omega (arith, c .before .loop .inv .0)
+
+step-on-requires : tie.Need-step-on-requires Inv-loop μ-loop
+step-on-requires c κs =
+    let p = c .before .before .before .before .before .before .before .before .before .before .pre .there in
+    let m = going (c .before .before) in
+    record { narrow = p .narrow; short = p .short; more = omega (arith, c .if1 .taken); lines = m .ms; behind = p .behind; at = m .at }
+
+fate-of-requires : tie.Need-fate-of-requires Inv-loop μ-loop
+fate-of-requires c κs =
+    c .before .before .before .before .before .before .before .before .before .before .before .before .pre .there .rising
+
+enum-known-line : tie.Need-enum-known-line Inv-loop μ-loop
+enum-known-line c = search needs
+
+enum-told : tie.Need-enum-told Inv-loop μ-loop
+enum-told c = search needs
+
+loop-less : tie.Need-loop-less Inv-loop μ-loop
+loop-less c =
+    c .before .before .before .before .step-on .ensures .less
+
+loop-again : tie.Need-loop-again Inv-loop μ-loop
+loop-again c =
+    (omega (arith, c .before .before .before .before .before .before .before .loop .inv .0, c .before .before .before .before .step-on .ensures .less), c .before .before .before .before .before .before .before .loop .inv .1, putting-gone (c .before .before .before .before .before .before .before .loop .inv .2) (c .before .before .before .before .step-on .ensures) (fares (c .before .before) _ (c .enum-told .given .1)))
+
+sub-put-bits : tie.Need-sub-put-bits Inv-loop μ-loop
+sub-put-bits c =
+    omega (arith, put-fits (c .before .before .before .before .before .before .before .before .before .loop .inv .2) (c .before .before .before .before .before .before .step-on .ensures) (c .before .before .line .given .0 .0) (stays (c .before .before) .1) (stays (c .before .before) .0) (going (c .before .before .before .before .before .before .before .before .before)) .0)
+
+put-bits-requires-2 : tie.Need-put-bits-requires-2 Inv-loop μ-loop
+put-bits-requires-2 c κs =
+    let p = c .before .before .before .before .before .before .before .before .before .before .before .before .before .before .before .before .before .pre in
+    let m = going (c .before .before .before .before .before .before .before .before .before) in
+    let b = list-bits (c .before .before .before .before .before .before .before .before .before .before .before .before .before .before .before .before .before .args .width) (c .before .before .before .before .before .before .before .before .before .before .before .before .before .before .before .before .before .args .l) (new (c .before .before .before .before .before .before .before .before .before .before .before .before .before .before .before .before .before)) in
+    let z = mul-comm (c .before .before .before .before .before .before .before .before .before .before .before .before .before .before .before .before .before .args .width) (length (new (c .before .before .before .before .before .before .before .before .before .before .before .before .before .before .before .before .before))) in
+    let r = put-room (c .before .before .before .before .before .before .before .before .before .loop .inv .2) (c .before .before .before .before .before .before .step-on .ensures) (c .before .before .line .given .0 .0) (stays (c .before .before) .1) (stays (c .before .before) .0) m in
+    let first = c .before .before .before .before .before .before .before .before .before .before .before .before .put-bits .ensures in
+    record {
+      below = put-fits (c .before .before .before .before .before .before .before .before .before .loop .inv .2) (c .before .before .before .before .before .before .step-on .ensures) (c .before .before .line .given .0 .0) (stays (c .before .before) .1) (stays (c .before .before) .0) m .1;
+      narrow = p .narrow;
+      room = omega (arith, r, z, b, first .place, first .same, putting-place m .1, p .room .room);
+      near = omega (arith, r, z, b, first .place, p .room .near);
+    }
+
+loop-less-2 : tie.Need-loop-less-2 Inv-loop μ-loop
+loop-less-2 c =
+    c .before .before .before .before .before .before .before .before .before .step-on .ensures .less
+
+loop-again-2 : tie.Need-loop-again-2 Inv-loop μ-loop
+loop-again-2 c =
+    (omega (arith, c .before .before .before .before .before .before .before .before .before .before .before .before .loop .inv .0, c .before .before .before .before .before .before .before .before .before .step-on .ensures .less), search needs, putting-stays (c .before .before .before .before .before .before .before .before .before .before .before .before .loop .inv .2) (c .before .before .before .before .before .before .before .before .before .step-on .ensures) (c .before .before .before .before .before .line .given .0 .0) (stays (c .before .before .before .before .before) .1) (stays (c .before .before .before .before .before) .0) (c .before .before .put-bits2 .ensures))
+
+same-length : tie.Need-same-length Inv-loop μ-loop
+same-length c = search needs
+
+returns : tie.Need-returns Inv-loop μ-loop
+returns c =
+    put-all (c .before .before .before .before .before .put-bits .ensures) (c .before .before .loop .inv .2) (omega (arith, c .if1 .left))
+
+pub list-put-spec : {M : Type 1} → statement M
+list-put-spec =
+    tie.close
+    (tie.spec
+    Inv-loop
+    μ-loop
+    put-bits-requires
+    loop-holds
+    add-if1
+    step-on-requires
+    fate-of-requires
+    enum-known-line
+    enum-told
+    loop-less
+    loop-again
+    sub-put-bits
+    put-bits-requires-2
+    loop-less-2
+    loop-again-2
+    same-length
+    returns)

@@ -1,0 +1,4 @@
+// The neighbour lists that an order leaves, read from those that stand in an accepted record's index: measured first, for the least
+// width and the index's size, and then put.
+mod list; // one list, measured or put
+pub mod walk; // one list, line by line

@@ -1,0 +1,3 @@
+-- The laws of removal lists, by topic.
+pub mod Rank
+pub mod Listed
