@@ -2,7 +2,7 @@
  * The calls of fsk.h once more, written by hand in C and without proofs: what the library is
  * measured against. Signatures and answers are the host's, with the prefix plain_; the place of a
  * refusal is always 0. Behind the calls stands what the plain files share: numbers, limits and
- * tags, a reader of fields, writers of bytes, a block behind its length, and the judge.
+ * tags, writers of bytes, a reader and a writer of fields, a block behind its length, the judge.
  */
 #ifndef PLAIN_H
 #define PLAIN_H
@@ -19,6 +19,15 @@ fsk_answer plain_trail(const uint8_t *record, size_t record_length, uint32_t vie
                        uint8_t *trail, size_t trail_length);
 fsk_answer plain_segment(const uint8_t *record, size_t record_length, uint32_t view,
                          uint32_t segment);
+fsk_answer plain_remove(const uint8_t *record, size_t record_length, uint32_t view, uint32_t count,
+                        const uint8_t *lines, size_t lines_length, uint8_t *out,
+                        size_t out_length);
+fsk_answer plain_join(const uint8_t *record, size_t record_length, uint32_t view, uint32_t count,
+                      uint32_t first, uint32_t second, uint8_t *out, size_t out_length);
+fsk_answer plain_part(const uint8_t *record, size_t record_length, uint32_t view, uint32_t count,
+                      uint32_t first, uint32_t second, uint8_t *out, size_t out_length);
+fsk_answer plain_holds(const uint8_t *old, size_t old_length, const uint8_t *second,
+                       size_t second_length, uint32_t number, size_t length);
 
 /* Refusals as document 01 numbers them. */
 enum {
@@ -35,7 +44,11 @@ enum {
     BAD_SEGMENT = 11,
     BYTES_OVER = 12,
     NO_VIEW = 13,
+    OTHER_COUNT = 14,
     NO_LINE = 15,
+    HAS_SEGMENTS = 16,
+    NO_INDEX = 17,
+    WRONG_PAIR = 18,
     TOO_LONG = 19,
     NO_ROOM = 20,
     BAD_SHEET = 21,
@@ -111,6 +124,52 @@ static inline uint32_t plain_take(plain_reader *reader, unsigned width)
     return reader->held >> reader->left & ((1u << width) - 1);
 }
 
+/* Passes `bits` bits; likewise no byte beyond them is touched. */
+static inline void plain_pass(plain_reader *reader, size_t bits)
+{
+    if (bits < reader->left)
+        reader->left -= (unsigned)bits;
+    else
+        *reader = plain_reader_at(reader->next, bits - reader->left);
+}
+
+/* A writing place: the next byte, and how many bits, the low ones of `held`, are put but not yet
+ * written. They are always fewer than 32. */
+typedef struct {
+    uint8_t *next;
+    uint64_t held;
+    unsigned waiting;
+} plain_writer;
+
+/* Puts a number into the next `width` (1 to 32) bits, which hold it. */
+static inline void plain_put(plain_writer *to, unsigned width, uint32_t number)
+{
+    to->held = to->held << width | number;
+    to->waiting += width;
+    if (to->waiting >= 32) {
+        uint32_t full;
+        to->waiting -= 32;
+        full = (uint32_t)(to->held >> to->waiting);
+        to->next = plain_put_two_bytes(to->next, full >> 16);
+        to->next = plain_put_two_bytes(to->next, full);
+    }
+}
+
+/* Writes what waits, filled up to a byte with zeros, and gives the place behind it. */
+static inline uint8_t *plain_put_rest(plain_writer to)
+{
+    for (; to.waiting >= 8; to.waiting -= 8)
+        *to.next++ = (uint8_t)(to.held >> (to.waiting - 8));
+    if (to.waiting > 0)
+        *to.next++ = (uint8_t)(to.held << (8 - to.waiting));
+    return to.next;
+}
+
+static inline size_t plain_whole_bytes(size_t bits)
+{
+    return (bits + 7) / 8;
+}
+
 /* A block of a view: skeleton, index or extended. */
 typedef struct {
     const uint8_t *bytes;
@@ -133,6 +192,13 @@ static inline uint32_t plain_codes(const uint8_t *skeleton, size_t bit, unsigned
 {
     plain_reader reader = plain_reader_at(skeleton, bit + end_bits);
     return plain_take(&reader, COUNT_OF_CODES);
+}
+
+/* How many bits that line has. */
+static inline size_t plain_line_bits(const uint8_t *skeleton, size_t bit, unsigned end_bits,
+                                     unsigned k)
+{
+    return 2 * end_bits + COUNT_OF_CODES + (size_t)k * plain_codes(skeleton, bit, end_bits);
 }
 
 /* A judged view. */

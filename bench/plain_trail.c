@@ -18,10 +18,8 @@ static line_codes find_line(const plain_record *record, uint32_t number)
     size_t bit = 0;
     plain_reader reader;
     line_codes line;
-    for (; number > 0; number--) {
-        const uint32_t codes = plain_codes(skeleton, bit, end_bits);
-        bit += 2 * end_bits + COUNT_OF_CODES + (size_t)codes * record->k;
-    }
+    for (; number > 0; number--)
+        bit += plain_line_bits(skeleton, bit, end_bits, record->k);
     reader = plain_reader_at(skeleton, bit + 2);
     line.direction = plain_take(&reader, record->b);
     line.codes = plain_reader_at(skeleton, bit + end_bits);

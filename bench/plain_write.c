@@ -111,11 +111,6 @@ typedef struct {
     size_t record_length;
 } judged_sheet;
 
-static size_t whole_bytes(size_t bits)
-{
-    return (bits + 7) / 8;
-}
-
 /* A line's start or end. */
 static int is_end(const uint8_t *end, const judged_sheet *sheet)
 {
@@ -153,7 +148,7 @@ static int judge_lines(fields *rest, judged_sheet *sheet)
             return 0;
         bits += 2 * sheet->end_bits + COUNT_OF_CODES + codes * sheet->k;
     }
-    sheet->record_length += whole_bytes(bits);
+    sheet->record_length += plain_whole_bytes(bits);
     return 1;
 }
 
@@ -187,7 +182,7 @@ static int judge_index(fields *rest, judged_sheet *sheet)
             return 0;
         numbers += 1 + list.length / 2;
     }
-    sheet->record_length += 1 + whole_bytes(numbers * w);
+    sheet->record_length += 1 + plain_whole_bytes(numbers * w);
     return 1;
 }
 
@@ -222,92 +217,60 @@ static int judge_values(fields rest, judged_sheet *sheet)
 
 /* ---- the record ---- */
 
-/* A writing place: the next byte, and how many bits, the low ones of `held`, are put but not yet
- * written. They are always fewer than 32. */
-typedef struct {
-    uint8_t *next;
-    uint64_t held;
-    unsigned waiting;
-} bit_writer;
-
-/* Puts a number into the next `width` (1 to 32) bits, which hold it. */
-static inline void put(bit_writer *to, unsigned width, uint32_t number)
+static inline void put_end(plain_writer *to, const uint8_t *end, const judged_sheet *sheet)
 {
-    to->held = to->held << width | number;
-    to->waiting += width;
-    if (to->waiting >= 32) {
-        uint32_t full;
-        to->waiting -= 32;
-        full = (uint32_t)(to->held >> to->waiting);
-        to->next = plain_put_two_bytes(to->next, full >> 16);
-        to->next = plain_put_two_bytes(to->next, full);
-    }
-}
-
-/* Writes what waits, filled up to a byte with zeros, and gives the place behind it. */
-static uint8_t *put_rest(bit_writer to)
-{
-    for (; to.waiting >= 8; to.waiting -= 8)
-        *to.next++ = (uint8_t)(to.held >> (to.waiting - 8));
-    if (to.waiting > 0)
-        *to.next++ = (uint8_t)(to.held << (8 - to.waiting));
-    return to.next;
-}
-
-static inline void put_end(bit_writer *to, const uint8_t *end, const judged_sheet *sheet)
-{
-    put(to, 2 + sheet->b, (uint32_t)end[0] << sheet->b | end[1]);
-    put(to, 2 * sheet->c, plain_two_bytes(end + 2) << sheet->c | plain_two_bytes(end + 4));
+    plain_put(to, 2 + sheet->b, (uint32_t)end[0] << sheet->b | end[1]);
+    plain_put(to, 2 * sheet->c, plain_two_bytes(end + 2) << sheet->c | plain_two_bytes(end + 4));
 }
 
 /* Four codes at a time: they have no more than 32 bits. */
-static inline void put_codes(bit_writer *to, const uint8_t *codes, size_t count, unsigned k)
+static inline void put_codes(plain_writer *to, const uint8_t *codes, size_t count, unsigned k)
 {
     const uint32_t low = (1u << k) - 1;
     for (; count >= 4; count -= 4) {
         const uint32_t two = (codes[0] & low) << k | (codes[1] & low);
-        put(to, 4 * k, (two << k | (codes[2] & low)) << k | (codes[3] & low));
+        plain_put(to, 4 * k, (two << k | (codes[2] & low)) << k | (codes[3] & low));
         codes += 4;
     }
     for (; count > 0; count--)
-        put(to, k, *codes++ & low);
+        plain_put(to, k, *codes++ & low);
 }
 
 /* Every writer of a block gives the place behind it. */
 
 static uint8_t *put_lines(uint8_t *out, fields *rest, const judged_sheet *sheet)
 {
-    bit_writer to = {out, 0, 0};
+    plain_writer to = {out, 0, 0};
     while (next_is(rest, TAG_LINE)) {
         const plain_block line = take_value(rest);
         const size_t codes = line.length - LINE_ENDS;
         put_end(&to, line.bytes, sheet);
-        put(&to, COUNT_OF_CODES, (uint32_t)codes);
+        plain_put(&to, COUNT_OF_CODES, (uint32_t)codes);
         put_codes(&to, line.bytes + LINE_ENDS, codes, sheet->k);
         put_end(&to, line.bytes + LINE_ENDS / 2, sheet);
     }
-    return put_rest(to);
+    return plain_put_rest(to);
 }
 
 static uint8_t *put_index(uint8_t *out, fields *rest)
 {
-    bit_writer to = {out, 0, 0};
+    plain_writer to = {out, 0, 0};
     unsigned w;
     if (!next_is(rest, TAG_INDEX))
         return out;
     w = *take_value(rest).bytes;
-    put(&to, 8, w);
+    plain_put(&to, 8, w);
     for (uint32_t line = 0; next_is(rest, TAG_LIST); line++) {
         const plain_block list = take_value(rest);
         uint32_t before = line;
-        put(&to, w, (uint32_t)(list.length / 2));
+        plain_put(&to, w, (uint32_t)(list.length / 2));
         for (const uint8_t *at = list.bytes; at < plain_block_end(list); at += 2) {
             const uint32_t neighbour = plain_two_bytes(at);
-            put(&to, w, before - neighbour);
+            plain_put(&to, w, before - neighbour);
             before = neighbour;
         }
     }
-    return put_rest(to);
+    return plain_put_rest(to);
 }
 
 static uint8_t *put_segments(uint8_t *out, fields *rest)

@@ -1,7 +1,8 @@
 /*
  * Makes the benchmark's records: document 01's sample A, a record of about 30 KB with several views
  * of long lines, and one view with as many lines as a view can have. Nothing here is timed, so bits
- * are put one by one. The sheets are those that plain_read gives.
+ * are put one by one. The sheets are those that plain_read gives; what orders are for is looked up
+ * in the view that plain_judge finds.
  */
 #include "records.h"
 
@@ -27,6 +28,7 @@ static const uint8_t sample_a[] = {
 };
 static maker long_lines, many_lines;
 static uint8_t sheets[SAMPLES][SHEET_ROOM];
+static uint8_t removals[SAMPLES][2 * MOST_LINES];
 
 /* A number below `limit`, the next of a fixed sequence. */
 static uint32_t draw(maker *m, uint32_t limit)
@@ -147,13 +149,14 @@ static void put_header(maker *m, uint32_t views, uint32_t points_per_cm, uint32_
     put(m, SIXTEEN, 0);
 }
 
-/* Ends a record and describes it; its sheet comes last, in add_sheet. */
+/* Ends a record and describes it; its sheet and its orders come last, in make_samples. */
 static sample made(maker *m, const char *name, uint32_t views, uint32_t lines, uint32_t segments)
 {
     const size_t length = m->bit / 8;
     m->bytes[10] = (uint8_t)(length >> 8);
     m->bytes[11] = (uint8_t)length;
-    return (sample){name, m->bytes, length, NULL, 0, views - 1, lines, views - 1, segments};
+    return (sample){.name = name, .record = m->bytes, .length = length, .view = views - 1,
+                    .lines = lines, .with_segments = views - 1, .segments = segments};
 }
 
 /* The standard's normal widths; two views are of the same finger, every second has segments. */
@@ -186,11 +189,54 @@ static void add_sheet(sample *to, uint8_t *sheet)
     to->sheet_length = plain_read(to->record, to->length, sheet, SHEET_ROOM).length;
 }
 
+/* Lines 0, 3, 6 and so on. */
+static void add_removal(sample *to, uint8_t *list)
+{
+    to->removed = list;
+    for (uint32_t line = 0; line < to->ordered_lines; line += 3)
+        list = plain_put_two_bytes(list, line);
+    to->removed_length = (size_t)(list - to->removed);
+}
+
+/* The last pairs there are: a line and the highest of its neighbours; a line and the one below the
+ * lowest of its neighbours. Without the latter it is line 0, which is not next to itself. */
+static void add_pairs(sample *to, plain_block index)
+{
+    const unsigned w = index.bytes[0];
+    plain_reader reader = plain_reader_at(index.bytes, 8);
+    for (uint32_t line = 0; line < to->ordered_lines; line++) {
+        const uint32_t count = plain_take(&reader, w);
+        uint32_t lowest = line;
+        for (uint32_t i = 0; i < count; i++) {
+            lowest -= plain_take(&reader, w);
+            if (i == 0)
+                to->neighbours[0] = line, to->neighbours[1] = lowest;
+        }
+        if (lowest > 0)
+            to->strangers[0] = line, to->strangers[1] = lowest - 1;
+    }
+}
+
+static void add_orders(sample *to, uint8_t *list)
+{
+    plain_record judged;
+    to->ordered = to->view + 1;
+    do
+        plain_judge(to->record, to->length, --to->ordered, &judged);
+    while (judged.view.extended.length > 0);
+    to->ordered_lines = judged.view.lines;
+    add_removal(to, list);
+    add_pairs(to, judged.view.index);
+}
+
 void make_samples(sample samples[SAMPLES])
 {
-    samples[0] = (sample){"sample A", sample_a, sizeof sample_a, NULL, 0, 0, 2, 0, 0};
+    samples[0] = (sample){.name = "sample A", .record = sample_a, .length = sizeof sample_a,
+                          .lines = 2};
     samples[1] = make_long_lines(&long_lines);
     samples[2] = make_many_lines(&many_lines);
-    for (int i = 0; i < SAMPLES; i++)
+    for (int i = 0; i < SAMPLES; i++) {
         add_sheet(&samples[i], sheets[i]);
+        add_orders(&samples[i], removals[i]);
+    }
 }

@@ -19,6 +19,12 @@ typedef struct {
     uint32_t view, lines;          /* the last view and its count of lines */
     uint32_t with_segments;        /* the last view that has segments */
     uint32_t segments;             /* how many it has; 0 where no view has any */
+    uint32_t ordered;              /* the last view without segments, which orders are for */
+    uint32_t ordered_lines;        /* its count of lines */
+    const uint8_t *removed;        /* every third of them, as a removal's list */
+    size_t removed_length;         /* in bytes */
+    uint32_t strangers[2];         /* two of them that are no neighbours, to be joined */
+    uint32_t neighbours[2];        /* two that are, to be parted */
 } sample;
 
 /* Fills in all samples; their bytes stay where they are. */

@@ -3,7 +3,7 @@ use mathlib.Core.Path.{_≡_, refl, sym, ap, _∙_}
 use Prim.Native.Nat.{ℕ, _+_, _-_, _*_, _^_, _≤_, _<_, max}
 use native.Mathlib.Omega.{arith}
 use native.Mathlib.Nat.{mul-comm, mul-suc}
-use mathlib.Core.Bool.{Bool, not}
+use mathlib.Core.Bool.{not}
 use mathlib.Core.List.{List, [], _∷_, _++_, append-assoc, append-nil}
 use lib.ListN.{length, length-append}
 use lib.Dec.{T}
@@ -22,11 +22,10 @@ use Rattle.locate.proofs.Laws.Lists.{list-is}
 use Rattle.orders.specs.Least.{maxOf}
 use Rattle.orders.specs.Listed.{listed}
 use Rattle.survivors.specs.Rank.{below}
-use Rattle.relist.specs.Walk.{putIn, gone, stayed, WalkAt, StepTo, Steps}
+use Rattle.relist.specs.Walk.{gone, stayed, WalkAt, StepTo, Steps}
 use Rattle.relist.specs.List.{become, Numbered, ListPut}
 use Rattle.relist.specs.declared.walk.Walk.{Walk}
 use Rattle.relist.specs.declared.walk.Step.{Step}
-use Rattle.relist.specs.declared.list.Numbers.{Numbers}
 
 -- ---- one step: the line goes or stays
 

@@ -1,16 +1,14 @@
 -- A walk along a list, step by step: what the block has there, and what the step leaves.
 use mathlib.Core.Path.{_≡_, refl, sym, ap, _∙_}
 use mathlib.Core.Logic.{_≢_}
-use Prim.Native.Nat.{ℕ, zero, suc, _+_, _-_, _*_, _^_, _≤_, _<_}
+use Prim.Native.Nat.{ℕ, zero, suc, _+_, _-_, _*_, _≤_, _<_}
 use native.Mathlib.Omega.{arith}
 use mathlib.Core.Bool.{Bool, true, false, not, _||_}
 use mathlib.Core.List.{List, [], _∷_, _++_, append-assoc}
 use lib.ListN.{length, drop}
 use lib.Dec.{T, eqb, ltb}
-use mir.Facts.{yes-ltb, no-ltb, yes-eqb}
-use Rattle.bits.specs.Choice.{pick}
+use mir.Facts.{yes-ltb, no-ltb}
 use Rattle.bits.specs.ChoiceLaws.{pick-yes, pick-no, eqb-true, eqb-false}
-use Rattle.bits.specs.Lists.{All}
 use Rattle.bits.specs.Bits.{Bits, bitsOfNumber}
 use Rattle.bits.specs.BitsLaws.{length-bits}
 use Rattle.bits.specs.Bytes.{bitsOf}
@@ -18,7 +16,7 @@ use Rattle.bits.specs.Codec.{fieldDec}
 use Rattle.bits.specs.CodecLaws.{encAll, field}
 use Rattle.bits.specs.Reads.{found, Reads}
 use Rattle.outcome.specs.Refusals.{badIndex}
-use Rattle.format.specs.Differences.{Falls, diffs}
+use Rattle.format.specs.Differences.{diffs}
 use Rattle.locate.proofs.Laws.Standing.{stands-behind, stands-within, number-there}
 use Rattle.orders.specs.Survive.{elem}
 use Rattle.orders.specs.Act.{insert}

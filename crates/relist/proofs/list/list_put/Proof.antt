@@ -2,7 +2,7 @@
 use native.Mathlib.Omega.{arith}
 use native.Mathlib.Nat.{mul-comm}
 use mathlib.Core.Path.{_≡_, refl, subst}
-use Prim.Native.Nat.{ℕ, _+_, _-_, _*_, _≤_}
+use Prim.Native.Nat.{ℕ, _+_, _-_, _≤_}
 use mathlib.Core.Bool.{not}
 use mathlib.Core.List.{List}
 use lib.ListN.{length}
@@ -17,11 +17,6 @@ use Rattle.relist.proofs.Laws.List.{Putting, PuttingAll, putting-first,
 use borrow.Author.Needs.{needs}
 use Rattle.relist.proofs.list.list_put.Statement.{statement}
 use Rattle.relist.proofs.list.list_put.Tie as tie
-use Rattle.relist.proofs.list.list_put.Reads as reads
-use Rattle.relist.proofs.list.list_put.Lts as lts
-use Rattle.puts.proofs.put_bits.Reads as put-bits-reads
-use Rattle.relist.proofs.walk.fate_of.Reads as fate-of-reads
-use Rattle.relist.proofs.walk.step_on.Reads as step-on-reads
 
 abbrev Inv-loop : tie.InvT-loop
 Inv-loop out₀ at s w low drop lines l count width p₀ k₀ before₀ out p k before =
