@@ -80,9 +80,8 @@ static void put_bits(plain_writer *to, plain_reader *from, size_t bits)
     *from = reader;
 }
 
-/* Every writer below gives the place behind what it wrote. */
-
-/* The old record's bytes before `end`, with the new record's length among them. */
+/* The old record's bytes before `end`, with the new record's length among them; gives the place
+ * behind them, as every writer here. */
 static uint8_t *put_before(uint8_t *out, const plain_record *record, const uint8_t *end,
                            size_t length)
 {
@@ -91,10 +90,10 @@ static uint8_t *put_before(uint8_t *out, const plain_record *record, const uint8
     return behind;
 }
 
-/* The old record's bytes from `start` on. */
-static uint8_t *put_behind(uint8_t *out, const plain_record *record, const uint8_t *start)
+/* The old record's bytes from `start` on, which end the new record too. */
+static void put_behind(uint8_t *out, const plain_record *record, const uint8_t *start)
 {
-    return plain_put_bytes(out, start, (size_t)(record->end - start));
+    plain_put_bytes(out, start, (size_t)(record->end - start));
 }
 
 /* ---- removal ---- */

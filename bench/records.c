@@ -217,13 +217,15 @@ static void add_pairs(sample *to, plain_block index)
     }
 }
 
+/* Each record has a view without segments. */
 static void add_orders(sample *to, uint8_t *list)
 {
     plain_record judged;
     to->ordered = to->view + 1;
-    do
-        plain_judge(to->record, to->length, --to->ordered, &judged);
-    while (judged.view.extended.length > 0);
+    do {
+        to->ordered--;
+        plain_judge(to->record, to->length, to->ordered, &judged);
+    } while (judged.view.extended.length > 0);
     to->ordered_lines = judged.view.lines;
     add_removal(to, list);
     add_pairs(to, judged.view.index);

@@ -10,4 +10,5 @@ pub mod Views
 pub mod Line
 pub mod Lines
 pub mod Lists
+pub mod Index
 pub mod Segments

@@ -3,3 +3,5 @@ pub mod Walk
 pub mod List
 pub mod Lists
 pub mod ListsPut
+pub mod Width
+pub mod Index

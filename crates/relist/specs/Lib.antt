@@ -1,3 +1,4 @@
 pub mod Walk
 pub mod List
 pub mod Lists
+pub mod Index

@@ -1,7 +1,7 @@
 -- The index of an accepted view, list by list: which lists still stand from a place on, and how many neighbours were counted before
 -- it. A list has as many bits as its count says.
 use mathlib.Core.Path.{_≡_, sym, ap, _∙_}
-use Prim.Native.Nat.{ℕ, suc, _+_, _*_, _%_, _≤_, _<_}
+use Prim.Native.Nat.{ℕ, suc, _+_, _*_, _≤_, _<_}
 use native.Mathlib.Omega.{arith}
 use native.Mathlib.Nat.{suc-mul, mul-le-mul-left}
 use native.Mathlib.Numerals.{add-one}
@@ -12,41 +12,16 @@ use Rattle.bits.specs.Lists.{Along, total}
 use Rattle.bits.specs.Bits.{Bits, bitsOfNumber}
 use Rattle.bits.specs.BitsLaws.{length-bits}
 use Rattle.bits.specs.Bytes.{bitsOf}
-use Rattle.bits.specs.BytesLaws.{length-bitsOf}
 use Rattle.bits.specs.Codec.{got, fieldDec}
-use Rattle.bits.specs.CodecLaws.{next-got, encAlong}
-use Rattle.bits.specs.BlockLaws.{ended}
+use Rattle.bits.specs.CodecLaws.{encAlong}
 use Rattle.bits.specs.Reads.{found, Reads}
-use Rattle.bits.proofs.Laws.Parts.{maybe-more}
 use Rattle.outcome.specs.Refusals.{badIndex}
 use Rattle.format.specs.Differences.{diffs, diff, tell}
 use Rattle.format.specs.DifferencesLaws.{length-diffs}
 use Rattle.format.specs.Index.{FitsList, neighbours, Index, up, FitsIndex, index, indexBlock}
 use Rattle.lookup.specs.Counts.{entries}
+use Rattle.locate.proofs.Laws.Index.{an-index, index-at}
 use Rattle.locate.proofs.Laws.Standing.{stands-behind, stands-within, number-there}
-
--- ---- the block
-
--- a block that is not empty has an index
-pub an-index : {P : Type 0} (lines : ℕ) (s : List ℕ) {o : Option Index} {u : Bits} → 0 < length s → indexBlock lines .dec (bitsOf s) ≡ got o u
-    → ((i : Index) → o ≡ some i → P) → P
-unfolding indexBlock
-an-index lines s h e f =
-    next-got (ended (index lines) badIndex .dec (bitsOf s)) _ (sym (maybe-more (ended (index lines) badIndex) (bitsOf s) (omega (arith, length-bitsOf s))) ∙ e) λ i r d k.
-    f i (cc)
-
--- its width, then its lists
-record IndexAt (lines : ℕ) (s : List ℕ) (i : Index) : Type 0 where
-  pub fits : FitsIndex lines i
-  pub after : Bits
-  pub bits : bitsOf s ≡ bitsOfNumber 8 (i .width) ++ (encAlong (neighbours (i .width)) up 0 (i .lists) ++ after)
-
-index-at : (lines : ℕ) (s : List ℕ) {i : Index} {u : Bits} → indexBlock lines .dec (bitsOf s) ≡ got (some i) u → IndexAt lines s i
-unfolding indexBlock index
-index-at lines s {i} {u} e =
-    let l : length (bitsOf s) % 8 ≡ 0 = omega (arith, length-bitsOf s) in
-    let (f, b) = indexBlock lines .back (bitsOf s) (some i) l (e ∙ ap (got (some i)) (indexBlock lines .all (bitsOf s) (some i) u e)) in
-    record { fits = f; after = _; bits = b ∙ append-assoc (bitsOfNumber 8 (i .width)) (encAlong (neighbours (i .width)) up 0 (i .lists)) _ }
 
 -- ---- the lists from place p on: l lists stand before it, and n neighbours in them
 

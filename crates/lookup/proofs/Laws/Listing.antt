@@ -35,7 +35,7 @@ use Rattle.locate.proofs.Laws.Segments.{segments-none}
 use Rattle.lookup.specs.Listing.{Listed, listed}
 use Rattle.lookup.specs.Counts.{entries, IndexThere, PairsCounted, ListedThere, pairsOf}
 use Rattle.locate.proofs.Laws.Standing.{stands-behind, number-there}
-use Rattle.lookup.proofs.Laws.Index.{an-index}
+use Rattle.locate.proofs.Laws.Index.{an-index}
 
 -- ---- the header's first two bytes
 

@@ -16,6 +16,7 @@ use Rattle.lay.specs.HighFirst.{two, joined}
 use Rattle.lay.proofs.Laws.{laid-none, twos-length}
 use Rattle.format.specs.DifferencesLaws.{falls-count}
 use Rattle.format.specs.Index.{Index, FitsList, FitsIndex, neighbours, up, index, indexBlock}
+use Rattle.locate.proofs.Laws.Index.{index-enc}
 use Rattle.puts.specs.Put.{PutMore}
 use Rattle.puts.proofs.Laws.{put-none, put-laid}
 use Rattle.to_sheet.specs.Bytes.{listBytes, indexBytes}
@@ -75,10 +76,6 @@ module _ (lines : ℕ) (few : lines ≤ 1024) (s : List ℕ) (a : ℕ) (rest : L
         small = lists-small (i .width) 0 (i .lists) (omega (arith, index-fits .count)) (index-fits .lists);
         other = other;
       }
-
-index-enc : (lines : ℕ) (i : Index) → indexBlock lines .enc (some i) ≡ filled (bitsOfNumber 8 (i .width) ++ encAlong (neighbours (i .width)) up 0 (i .lists))
-unfolding indexBlock index
-index-enc lines i = refl
 
 none-enc : (lines : ℕ) → indexBlock lines .enc none ≡ []
 unfolding indexBlock

@@ -1,0 +1,42 @@
+-- The index block of an accepted view: it has an index where it is not empty, and its bits are its width's and its lists'.
+use mathlib.Core.Path.{_≡_, refl, sym, ap, _∙_}
+use Prim.Native.Nat.{ℕ, _+_, _%_, _<_}
+use native.Mathlib.Omega.{arith}
+use mathlib.Core.Option.{Option, some}
+use mathlib.Core.List.{List, _++_, append-assoc}
+use lib.ListN.{length}
+use Rattle.bits.specs.Bits.{Bits, bitsOfNumber, filled}
+use Rattle.bits.specs.Bytes.{bitsOf}
+use Rattle.bits.specs.BytesLaws.{length-bitsOf}
+use Rattle.bits.specs.Codec.{got}
+use Rattle.bits.specs.CodecLaws.{next-got, encAlong}
+use Rattle.bits.specs.BlockLaws.{ended}
+use Rattle.bits.proofs.Laws.Parts.{maybe-more}
+use Rattle.outcome.specs.Refusals.{badIndex}
+use Rattle.format.specs.Index.{neighbours, Index, up, FitsIndex, index, indexBlock}
+
+-- a block that is not empty has an index
+pub an-index : {P : Type 0} (lines : ℕ) (s : List ℕ) {o : Option Index} {u : Bits} → 0 < length s → indexBlock lines .dec (bitsOf s) ≡ got o u
+    → ((i : Index) → o ≡ some i → P) → P
+unfolding indexBlock
+an-index lines s h e f =
+    next-got (ended (index lines) badIndex .dec (bitsOf s)) _ (sym (maybe-more (ended (index lines) badIndex) (bitsOf s) (omega (arith, length-bitsOf s))) ∙ e) λ i r d k.
+    f i (cc)
+
+-- its width, then its lists
+pub record IndexAt (lines : ℕ) (s : List ℕ) (i : Index) : Type 0 where
+  pub fits : FitsIndex lines i
+  pub after : Bits
+  pub bits : bitsOf s ≡ bitsOfNumber 8 (i .width) ++ (encAlong (neighbours (i .width)) up 0 (i .lists) ++ after)
+
+pub index-at : (lines : ℕ) (s : List ℕ) {i : Index} {u : Bits} → indexBlock lines .dec (bitsOf s) ≡ got (some i) u → IndexAt lines s i
+unfolding indexBlock index
+index-at lines s {i} {u} e =
+    let l : length (bitsOf s) % 8 ≡ 0 = omega (arith, length-bitsOf s) in
+    let (f, b) = indexBlock lines .back (bitsOf s) (some i) l (e ∙ ap (got (some i)) (indexBlock lines .all (bitsOf s) (some i) u e)) in
+    record { fits = f; after = _; bits = b ∙ append-assoc (bitsOfNumber 8 (i .width)) (encAlong (neighbours (i .width)) up 0 (i .lists)) _ }
+
+-- what is written of one
+pub index-enc : (lines : ℕ) (i : Index) → indexBlock lines .enc (some i) ≡ filled (bitsOfNumber 8 (i .width) ++ encAlong (neighbours (i .width)) up 0 (i .lists))
+unfolding indexBlock index
+index-enc lines i = refl
