@@ -5,7 +5,7 @@ use bits::Cursor;
 use format::Widths;
 
 // The place behind the line that starts at place p.
-fn line_end(s: &[u8], p: usize, w: Widths) -> usize
+pub fn line_end(s: &[u8], p: usize, w: Widths) -> usize
     requires { ⌜ LineThere w (now s) p ⌝ }
     ensures { λ r. ⌜ LineEnd w (now (s .entry)) p r ⌝ }
 {
