@@ -131,6 +131,14 @@ fsk_answer fsk_trail(const uint8_t *record, size_t record_length, uint32_t view,
  */
 fsk_answer fsk_segment(const uint8_t *record, size_t record_length, uint32_t view, uint32_t segment);
 
+/*
+ * Which record now holds after an order: the old one, or what the order wrote to a second buffer. number and length are those of the
+ * order's answer. Nothing is written. The answer's number is no refusal here: 1 where the second buffer's first bytes hold, which is
+ * so if the order's number is 0 and its length fits the buffer; 0 where the whole old record does. length is how many bytes that is.
+ */
+fsk_answer fsk_holds(const uint8_t *old, size_t old_length, const uint8_t *second, size_t second_length, uint32_t number,
+                     size_t length);
+
 #ifdef __cplusplus
 }
 #endif

@@ -5,6 +5,8 @@ ghost use Rattle.sheet.specs.Sheet.{reading, writing};
 ghost use Rattle.trail.specs.Trail.{trailing};
 ghost use Rattle.trace.specs.Trace.{AnswersInBytes};
 ghost use Rattle.lookup.specs.Segment.{segmentAnswer};
+ghost use Rattle.orders.specs.Order.{heldAnswer};
+use holds::which_holds;
 use lookup::segment::segment;
 use outcome::Answer;
 use reading::read;
@@ -37,4 +39,11 @@ pub extern "C" fn fsk_segment(bytes: &[u8], view: u32, place: u32) -> Answer
     ensures { λ r. ⌜ r ≡ segmentAnswer view place (now (bytes .entry)) ⌝ }
 {
     segment(bytes, view as usize, place as usize)
+}
+
+#[no_mangle]
+pub extern "C" fn fsk_holds(old: &[u8], second: &[u8], number: u32, length: usize) -> Answer
+    ensures { λ r. ⌜ r ≡ heldAnswer (now (old .entry)) (now (second .entry)) number length ⌝ }
+{
+    which_holds(old, second, number, length)
 }

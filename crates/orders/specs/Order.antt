@@ -9,6 +9,7 @@ use Rattle.bits.specs.Choice.{pick}
 use Rattle.bits.specs.Lists.{empty?}
 use Rattle.outcome.specs.Refusals.{noView, otherCount, badLines, extended, noIndex, alreadySo, tooLong}
 use Rattle.outcome.specs.Outcome.{Outcome, refused, given}
+use Rattle.outcome.specs.declared.Answer.{Answer}
 use Rattle.format.specs.Limits.{mostBytes}
 use Rattle.format.specs.View.{View}
 use Rattle.format.specs.Record.{Record, write, size}
@@ -69,3 +70,9 @@ order o = onRecord (ordered o)
 -- "the second buffer's first bytes if the number is 0 and the length fits it, else the whole old record"
 unfoldable pub holds : List ℕ → List ℕ → ℕ → ℕ → List ℕ
 holds old second number n = pick (eqb number 0 && leb n (length second)) (take n second) old
+
+-- the same for a host that takes numbers alone: 1 where the second buffer's first bytes hold, 0 where the old record does, and its
+-- length
+unfoldable pub heldAnswer : List ℕ → List ℕ → ℕ → ℕ → Answer
+heldAnswer old second number n =
+    pick (eqb number 0 && leb n (length second)) (record { number = 1; place = 0; length = n }) (record { number = 0; place = 0; length = length old })
