@@ -1,9 +1,8 @@
 -- The lines that a removal leaves, and what the code that sizes and puts them asks and answers.
 use mathlib.Core.Path.{_≡_}
-use Prim.Native.Nat.{ℕ, suc, _*_, _≤_}
-use mathlib.Core.List.{List, [], _∷_, _++_}
+use Prim.Native.Nat.{ℕ, _*_, _≤_}
+use mathlib.Core.List.{List, _++_}
 use lib.ListN.{length, drop}
-use Rattle.bits.specs.Choice.{pick}
 use Rattle.bits.specs.Lists.{All}
 use Rattle.bits.specs.Bits.{Bits, filled}
 use Rattle.bits.specs.Bytes.{bitsOf, inBytes}
@@ -12,15 +11,14 @@ use Rattle.lay.specs.Laid.{Laid}
 use Rattle.format.specs.Line.{Line, FitsLine, line}
 use Rattle.format.specs.Record.{Narrow}
 use Rattle.format.specs.declared.Widths.{Widths}
-use Rattle.orders.specs.Survive.{elem}
 use Rattle.orders.specs.Listed.{listed}
 use Rattle.survivors.specs.Rank.{Rising}
+use Rattle.survivors.specs.Kept.{kept}
 use Rattle.reline.specs.declared.Kept.{Kept}
 
 -- of the lines from l on, those that the removal of rs leaves
 abbrev pub keptFrom : List ℕ → ℕ → List Line → List Line
-keptFrom rs l [] = []
-keptFrom rs l (x ∷ xs) = pick (elem l rs) (keptFrom rs (suc l) xs) (x ∷ keptFrom rs (suc l) xs)
+keptFrom rs l xs = kept (λ i x. x) rs l xs
 
 -- lines stand from place p of the block s on, and the bits u follow them
 pub record LinesAt (w : Widths) (s : List ℕ) (p : ℕ) (ls : List Line) (u : Bits) : Type 0 where

@@ -5,3 +5,5 @@ pub mod Lists
 pub mod ListsPut
 pub mod Width
 pub mod Index
+pub mod Acts
+pub mod Near

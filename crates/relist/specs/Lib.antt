@@ -2,3 +2,4 @@ pub mod Walk
 pub mod List
 pub mod Lists
 pub mod Index
+pub mod Near

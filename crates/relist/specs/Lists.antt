@@ -1,7 +1,7 @@
 -- The lists of an index after an order, and what the code that goes over them asks and answers.
 use mathlib.Core.Path.{_≡_}
-use Prim.Native.Nat.{ℕ, suc, _+_, _*_, _≤_}
-use mathlib.Core.List.{List, [], _∷_, _++_}
+use Prim.Native.Nat.{ℕ, _+_, _*_, _≤_}
+use mathlib.Core.List.{List, _++_}
 use lib.ListN.{length, drop}
 use lib.Dec.{eqb}
 use Rattle.bits.specs.Choice.{pick}
@@ -12,10 +12,10 @@ use Rattle.bits.specs.CodecLaws.{encAlong}
 use Rattle.format.specs.Differences.{Falls}
 use Rattle.format.specs.Index.{FitsList, neighbours, up}
 use Rattle.puts.specs.Put.{Puts, Room}
-use Rattle.orders.specs.Survive.{elem}
 use Rattle.orders.specs.Least.{maxOf, numbersFrom}
 use Rattle.orders.specs.Listed.{listed}
 use Rattle.survivors.specs.Rank.{Rising}
+use Rattle.survivors.specs.Kept.{kept}
 use Rattle.relist.specs.Walk.{putIn, stayed, WalkAt}
 use Rattle.relist.specs.declared.lists.Change.{Change}
 use Rattle.relist.specs.declared.lists.Totals.{Totals}
@@ -36,8 +36,7 @@ newList rs ch l ns = stayed rs (leaves ch l) (putIn (waits ch l) (ch .low) ns)
 
 -- those of the lines from l on that stay
 abbrev pub newFrom : List ℕ → Change → ℕ → List (List ℕ) → List (List ℕ)
-newFrom rs ch l [] = []
-newFrom rs ch l (ns ∷ ls) = pick (elem l rs) (newFrom rs ch (suc l) ls) (newList rs ch l ns ∷ newFrom rs ch (suc l) ls)
+newFrom rs ch l ls = kept (newList rs ch) rs l ls
 
 -- ---- the lists in the block
 

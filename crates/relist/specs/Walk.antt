@@ -67,6 +67,7 @@ pub record StepTo (w : ℕ) (s : List ℕ) (k : Walk) (low : ℕ) (ns : List ℕ
 
 pub record Steps (w : ℕ) (s : List ℕ) (k : Walk) (low : ℕ) (r : Step) : Type 0 where
   pub is : (ns : List ℕ) (u : Bits) → WalkAt w s k ns u → StepTo w s k low ns u r
+  pub waits : r .next .waiting ≤ k .waiting
   pub less : r .next .left + r .next .waiting < k .left + k .waiting
 
 -- ---- what becomes of a line

@@ -25,9 +25,9 @@ pub struct Totals {
 }
 
 // A list that is found: the walk along it, and where the next list starts.
-struct Entry {
-    walk: Walk,
-    next: usize,
+pub struct Entry {
+    pub walk: Walk,
+    pub next: usize,
 }
 
 // How many lines are to be put into line l's list: one or none.
@@ -51,7 +51,7 @@ fn left_out_at(change: Change, l: usize) -> usize
 }
 
 // Line l's list, at place p of the block s; so many lines are to be put into it.
-fn list_at(s: &[u8], w: usize, p: usize, l: usize, waiting: usize) -> Entry
+pub fn list_at(s: &[u8], w: usize, p: usize, l: usize, waiting: usize) -> Entry
     requires { ⌜ EntryThere w (now s) p l waiting ⌝ }
     ensures { λ r. ⌜ EntryAt w (now (s .entry)) p l waiting r ⌝ }
 {

@@ -1,3 +1,5 @@
 -- The laws of removal lists, by topic.
 pub mod Rank
 pub mod Listed
+pub mod Place
+pub mod Kept

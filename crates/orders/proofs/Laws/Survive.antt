@@ -82,7 +82,7 @@ upFrom-below : (i n k : ℕ) → i + n ≤ k → All (λ x. x < k) (upFrom i n)
 upFrom-below i zero k h = tt
 upFrom-below i (suc n) k h = (omega arith, upFrom-below (suc i) n k (omega arith))
 
-without-rises : (m : ℕ) (rs xs : List ℕ) → RisesFrom m xs → RisesFrom m (without rs xs)
+pub without-rises : (m : ℕ) (rs xs : List ℕ) → RisesFrom m xs → RisesFrom m (without rs xs)
 without-rises m rs [] h = tt
 without-rises m rs (x ∷ xs) h =
     let ih : RisesFrom (suc x) (without rs xs) = without-rises (suc x) rs xs (h .1) in

@@ -17,6 +17,10 @@ use Rattle.format.specs.declared.Widths.{Widths}
 use Rattle.locate.specs.Finds.{LineEnd}
 use Rattle.locate.proofs.Laws.Standing.{stands-behind, stands-within}
 use Rattle.orders.specs.Survive.{elem}
+use Rattle.orders.specs.Act.{remove, newLines}
+use Rattle.format.specs.View.{View}
+use Rattle.format.specs.Places.{noLine}
+use Rattle.survivors.proofs.Laws.Kept.{kept-survivors}
 use Rattle.orders.specs.Listed.{listed}
 use Rattle.reline.specs.Lines.{keptFrom, LinesAt, LinesSized}
 
@@ -117,3 +121,8 @@ module _ (w : Widths) (s removal : List ℕ) (count : ℕ) where
           → bits + length (encAll (line w) (keptFrom (listed removal) l xs)) ≡ length (encAll (line w) all) → (lines ≡ length all) × (bits ≡ length (encAll (line w) all))
       end all [] l k c n t = (omega arith, omega arith)
       end all (x ∷ xs) l k c n t = absurd (omega arith)
+
+-- ---- the lines that the definition has after a removal
+
+pub remove-lines : (rs : List ℕ) (v : View) → keptFrom rs 0 (v .lines) ≡ newLines (remove rs) v
+remove-lines rs v = kept-survivors (λ x. x) noLine rs (v .lines)

@@ -27,7 +27,7 @@ below-le m (r ∷ rs) n h =
     pick-case (λ (k : ℕ). k ≤ n - m) (ltb r n) _ _ (λ t. omega (arith, ltb→lt r n t)) (λ t. omega arith)
 
 -- no number from m on is below n, and n is not among them where it is below m
-below-none : (m : ℕ) (rs : List ℕ) (n : ℕ) → RisesFrom m rs → n ≤ m → below rs n ≡ 0
+pub below-none : (m : ℕ) (rs : List ℕ) (n : ℕ) → RisesFrom m rs → n ≤ m → below rs n ≡ 0
 below-none m [] n h l = refl
 below-none m (r ∷ rs) n h l =
     let ih : below rs n ≡ 0 = below-none (suc r) rs n (h .1) (omega (arith, h .0)) in

@@ -16,7 +16,7 @@ is-line c x l e = omega arith
 
 returns : tie.Need-returns
 returns c =
-    record { is = λ ns u h. step-last (c .before .before .args .w) (c .before .before .args .s .now) (c .before .before .args .k) (c .before .before .args .low) ns h (c .if1 .taken) (c .before .before .pre .more); less = omega (arith, c .if1 .taken, c .before .before .pre .more) }
+    record { is = λ ns u h. step-last (c .before .before .args .w) (c .before .before .args .s .now) (c .before .before .args .k) (c .before .before .args .low) ns h (c .if1 .taken) (c .before .before .pre .more); waits = omega arith; less = omega (arith, c .if1 .taken, c .before .before .pre .more) }
 
 sure-requires : tie.Need-sure-requires
 sure-requires c κs =
@@ -40,6 +40,7 @@ returns-2 c =
           let x = next-in (a .w) (a .s .now) (a .k) ns h (c .before .before .before .before .if1 .left) in
           step-own (a .w) (a .s .now) (a .k) (a .low) ns h x _ (is-line (c .before .before .before) (x .line) (x .below) (x .read (c .before .before .before .sure .ensures .0 badIndex))) (c .before .before .before .before .if1 .left)
           (none-waits (a .w) (a .s .now) (a .k) (a .low) ns h x (c .if2 .taken));
+      waits = omega arith;
       less = omega (arith, c .before .before .before .before .if1 .left);
     }
 
@@ -50,6 +51,7 @@ returns-3 c =
           let a = c .before .before .before .before .before .before .before .args in
           let x = next-in (a .w) (a .s .now) (a .k) ns h (c .before .before .before .before .before .if1 .left) in
           step-put (a .w) (a .s .now) (a .k) (a .low) ns h x (c .before .if2 .left) (omega (arith, is-line (c .before .before .before .before) (x .line) (x .below) (x .read (c .before .before .before .before .sure .ensures .0 badIndex)), c .if3 .taken));
+      waits = omega arith;
       less = omega (arith, c .before .if2 .left);
     }
 
@@ -61,6 +63,7 @@ returns-4 c =
           let x = next-in (a .w) (a .s .now) (a .k) ns h (c .before .before .before .before .before .if1 .left) in
           step-own (a .w) (a .s .now) (a .k) (a .low) ns h x _ (is-line (c .before .before .before .before) (x .line) (x .below) (x .read (c .before .before .before .before .sure .ensures .0 badIndex))) (c .before .before .before .before .before .if1 .left)
           (one-waits (a .w) (a .s .now) (a .k) (a .low) ns h x (c .before .if2 .left) (omega (arith, is-line (c .before .before .before .before) (x .line) (x .below) (x .read (c .before .before .before .before .sure .ensures .0 badIndex)), c .if3 .left)));
+      waits = omega arith;
       less = omega (arith, c .before .before .before .before .before .if1 .left);
     }
 
