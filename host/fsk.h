@@ -23,7 +23,7 @@ extern "C" {
 
 /*
  * What a call answers.
- *   number  0: accepted. Anything else: refused, for the reason that the number names (below).
+ *   number  0: accepted. Anything else: refused, for the reason that the number names (below). fsk_holds alone means it otherwise.
  *   place   0, but for an accepted fsk_segment.
  *   length  accepted: how many elements were written to the output (what an element is, each call says). Refused: 0.
  * A refused call leaves the output as it was, to the byte. An accepted one leaves what lies beyond the written elements.

@@ -1,5 +1,4 @@
 // The judge of a record: refused, by its number and place; or accepted, with what every call needs of it.
-ghost use mathlib.Core.Path.{_≡_};
 ghost use Rattle.judge.specs.Judge.{Judges};
 use blocks::Reached;
 use format::Header;

@@ -68,11 +68,14 @@ unfoldable pub order : Order → List ℕ → Outcome ℕ
 order o = onRecord (ordered o)
 
 -- "the second buffer's first bytes if the number is 0 and the length fits it, else the whole old record"
+abbrev pub secondHolds : List ℕ → ℕ → ℕ → Bool
+secondHolds second number n = eqb number 0 && leb n (length second)
+
 unfoldable pub holds : List ℕ → List ℕ → ℕ → ℕ → List ℕ
-holds old second number n = pick (eqb number 0 && leb n (length second)) (take n second) old
+holds old second number n = pick (secondHolds second number n) (take n second) old
 
 -- the same for a host that takes numbers alone: 1 where the second buffer's first bytes hold, 0 where the old record does, and its
 -- length
 unfoldable pub heldAnswer : List ℕ → List ℕ → ℕ → ℕ → Answer
 heldAnswer old second number n =
-    pick (eqb number 0 && leb n (length second)) (record { number = 1; place = 0; length = n }) (record { number = 0; place = 0; length = length old })
+    pick (secondHolds second number n) (record { number = 1; place = 0; length = n }) (record { number = 0; place = 0; length = length old })

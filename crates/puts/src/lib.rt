@@ -2,7 +2,6 @@
 // with zero bits, and what lies behind it stays.
 ghost use mathlib.Core.Path.{_≡_};
 ghost use Prim.Native.Nat.{_+_, _-_, _*_, _/_, _^_, _≤_, _<_};
-ghost use lib.ListN.{length, take, drop};
 ghost use Rattle.puts.specs.Put.{CanPut, PutMore};
 use bits::wide;
 

@@ -2,11 +2,10 @@
 -- leaves one out, or takes the lines of a removal out and renumbers the others.
 use mathlib.Core.Path.{_≡_}
 use Prim.Native.Nat.{ℕ, zero, suc, _+_, _-_, _*_, _^_, _≤_, _<_}
-use mathlib.Core.Bool.{Bool, _||_}
+use mathlib.Core.Bool.{Bool, not, _||_}
 use mathlib.Core.List.{List, [], _∷_, _++_}
 use lib.ListN.{length, drop}
 use lib.Dec.{T, eqb}
-use mathlib.Core.Bool.{not}
 use Rattle.bits.specs.Choice.{pick}
 use Rattle.bits.specs.Lists.{All}
 use Rattle.bits.specs.Bits.{Bits}

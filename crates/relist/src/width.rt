@@ -1,6 +1,5 @@
-// The least width for the lists of an index, and the index block put at it.
+// The least width for the lists of an index.
 ghost use mathlib.Core.Path.{_≡_};
-ghost use Prim.Native.Nat.{_<_};
 ghost use Rattle.orders.specs.Least.{find};
 
 // The least width, at least 1, that holds the number; it has at most 16 bits.

@@ -1,6 +1,6 @@
 // The nest over views, lines and codes. A field that refuses leaves it by one label, from whatever depth.
 ghost use mathlib.Core.Path.{_≡_};
-ghost use Prim.Native.Nat.{ℕ, _*_, _≤_};
+ghost use Prim.Native.Nat.{_≤_};
 ghost use lib.ListN.{length};
 ghost use Rattle.bits.specs.Reads.{Reads};
 ghost use Rattle.blocks.specs.Answers.{reached};

@@ -3,11 +3,11 @@
 use mathlib.Core.Path.{_≡_, sym, ap, _∙_}
 use Prim.Native.Nat.{ℕ, suc, _+_, _*_, _≤_, _<_}
 use native.Mathlib.Omega.{arith}
-use native.Mathlib.Nat.{suc-mul, mul-le-mul-left}
+use native.Mathlib.Nat.{mul-le-mul-left}
 use native.Mathlib.Numerals.{add-one}
 use mathlib.Core.Option.{Option, some}
 use mathlib.Core.List.{List, [], _∷_, _++_, append-assoc}
-use lib.ListN.{length, drop, length-append}
+use lib.ListN.{length, drop}
 use Rattle.bits.specs.Lists.{Along, total}
 use Rattle.bits.specs.Bits.{Bits, bitsOfNumber}
 use Rattle.bits.specs.BitsLaws.{length-bits}
@@ -17,10 +17,10 @@ use Rattle.bits.specs.CodecLaws.{encAlong}
 use Rattle.bits.specs.Reads.{found, Reads}
 use Rattle.outcome.specs.Refusals.{badIndex}
 use Rattle.format.specs.Differences.{diffs, diff, tell}
-use Rattle.format.specs.DifferencesLaws.{length-diffs}
 use Rattle.format.specs.Index.{FitsList, neighbours, Index, up, FitsIndex, index, indexBlock}
 use Rattle.lookup.specs.Counts.{entries}
 use Rattle.locate.proofs.Laws.Index.{an-index, index-at}
+use Rattle.locate.proofs.Laws.Lists.{list-bits}
 use Rattle.locate.proofs.Laws.Standing.{stands-behind, stands-within, number-there}
 
 -- ---- the lists from place p on: l lists stand before it, and n neighbours in them
@@ -58,13 +58,6 @@ module _ (lines : ℕ) (s : List ℕ) {i : Index} {u : Bits} (e : indexBlock lin
 
 -- ---- one list
 
-diffs-long : (w : ℕ) (t : ℕ × ℕ) (ds : List ℕ) → length (encAlong (diff w) tell t ds) ≡ length ds * w
-diffs-long w t [] = omega arith
-diffs-long w t (d ∷ ds) = simp (length-append, length-bits) (omega (arith, diffs-long w (tell t d) ds, suc-mul (length ds) w))
-
-list-long : (w l : ℕ) (ns : List ℕ) → length (neighbours w l .enc ns) ≡ w + length ns * w
-list-long w l ns = simp (length-append, length-bits, diffs-long, length-diffs)
-
 -- line l's list, at place p, and those behind it
 record ListNext (lines : ℕ) (s : List ℕ) (l p n : ℕ) (i : Index) : Type 0 where
   pub value : List ℕ
@@ -90,11 +83,11 @@ module _ {lines : ℕ} {s : List ℕ} {l p n : ℕ} {i : Index} (h : ListsLeft l
               index = h .index;
               lists = ls;
               after = h .after;
-              bits = rw add-one (stands-behind s p (neighbours w l .enc ns) r b1 (w + length ns * w) (list-long w l ns));
+              bits = rw add-one (stands-behind s p (neighbours w l .enc ns) r b1 (w + length ns * w) (list-bits w l ns));
               fits = rw add-one (f .1);
               count = omega arith;
               sum = omega arith;
-              within = omega (arith, stands-within s p (neighbours w l .enc ns) r b1 (h .within), list-long w l ns);
+              within = omega (arith, stands-within s p (neighbours w l .enc ns) r b1 (h .within), list-bits w l ns);
               small = omega (arith, h .small, mul-le-mul-left (length ns) (h .index .low));
             };
           }
