@@ -29,10 +29,17 @@ laid-none d = record { count = refl; is = refl }
 pub laid-same : {new d xs : List ℕ} {a : ℕ} → Laid new d xs a → a ≤ length d → length xs ≡ length d
 laid-same h l = ap length (h .is) ∙ simp (length-append, length-drop) (omega (arith, h .count))
 
+-- the rest of a buffer from a on, lent and given back
+abbrev pub lent : List ℕ → ℕ → List ℕ
+lent xs a = take (length xs - a) (drop a xs)
+
+abbrev pub back : List ℕ → ℕ → List ℕ → List ℕ
+back xs a ys = take a xs ++ (ys ++ drop (length xs - a) (drop a xs))
+
 -- The rest of the buffer is lent from a on, where done ends, and comes back with new at its start: then both are laid. xs is the
 -- buffer when it is lent, ys its lent part afterwards.
-pub laid-next : {d done new xs ys : List ℕ} {a n : ℕ} → Laid done d xs a → Laid new (take (length xs - a) (drop a xs)) ys n
-    → Laid (done ++ new) d (take a xs ++ (ys ++ drop (length xs - a) (drop a xs))) (a + n)
+pub laid-next : {d done new xs ys : List ℕ} {a n : ℕ} → Laid done d xs a → Laid new (lent xs a) ys n
+    → Laid (done ++ new) d (back xs a ys) (a + n)
 laid-next {d} {done} {new} {xs} {ys} {a} {n} h k =
     let e1 : take a xs ≡ done = ap (take a) (h .is) ∙ take-at done (drop (length done) d) a (sym (h .count)) in
     let e2 : drop a xs ≡ drop (length done) d = ap (drop a) (h .is) ∙ drop-at done (drop (length done) d) a (sym (h .count)) in

@@ -12,3 +12,4 @@ pub mod Lines
 pub mod Lists
 pub mod Index
 pub mod Segments
+pub mod Written

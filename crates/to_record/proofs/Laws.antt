@@ -1,5 +1,4 @@
 -- The laws of writing a record, by topic.
-pub mod Written
 pub mod Run
 pub mod Puts
 pub mod Line

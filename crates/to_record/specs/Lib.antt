@@ -1,4 +1,3 @@
-pub mod Bytes
 pub mod Run
 pub mod Puts
 pub mod Lists

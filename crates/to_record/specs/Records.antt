@@ -10,7 +10,7 @@ use Rattle.format.specs.View.{View}
 use Rattle.format.specs.Record.{Record, size, Allowed, Narrow}
 use Rattle.format.specs.declared.Widths.{Widths}
 use Rattle.to_sheet.specs.Bytes.{viewBytes, recordBytes}
-use Rattle.to_record.specs.Bytes.{viewOut, recordOut}
+use Rattle.locate.specs.Stored.{viewOut, recordOut}
 use Rattle.to_record.specs.Views.{RightView}
 
 -- the header of a record with n bytes and m views, whose sheet is s: up to the device, and from there on

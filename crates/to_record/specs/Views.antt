@@ -14,7 +14,7 @@ use Rattle.format.specs.View.{View}
 use Rattle.format.specs.declared.Widths.{Widths}
 use Rattle.format.specs.Record.{Narrow}
 use Rattle.to_sheet.specs.Bytes.{indexBytes, viewBytes}
-use Rattle.to_record.specs.Bytes.{sizedOut, viewOut}
+use Rattle.locate.specs.Stored.{sizedOut, viewOut}
 use Rattle.to_record.specs.Run.{Other, RunAt}
 use Rattle.to_record.specs.Puts.{lineHeld}
 use Rattle.to_record.specs.Outs.{segmentHeld}

@@ -14,6 +14,7 @@ use Rattle.format.specs.declared.Scale.{Scale}
 use Rattle.format.specs.declared.Header.{Header}
 use Rattle.format.specs.declared.ViewHeader.{ViewHeader}
 use Rattle.sheet.specs.Code.{extended}
+use Rattle.locate.specs.Stored.{headBytes, scaleBytes}
 
 abbrev pub endBytes : End → List ℕ
 endBytes p = p .kind ∷ p .direction ∷ (two (p .x) ++ two (p .y))
@@ -32,15 +33,9 @@ indexBytes (some i) = start 4 1 ++ (i .width ∷ joined listBytes (i .lists))
 abbrev pub segmentBytes : Segment → List ℕ
 segmentBytes g = start 6 (2 + length (g .payload)) ++ (two (g .kind) ++ g .payload)
 
-abbrev pub headBytes : ViewHeader → List ℕ
-headBytes h = h .number ∷ h .position ∷ h .impression ∷ h .quality ∷ (two (h .width) ++ two (h .height))
-
 abbrev pub viewBytes : ℕ → View → List ℕ
 viewBytes k v =
     start 2 8 ++ (headBytes (v .head) ++ (joined (lineBytes k) (v .lines) ++ (indexBytes (v .index) ++ joined segmentBytes (v .segments))))
-
-abbrev pub scaleBytes : Scale → List ℕ
-scaleBytes s = s .points ∷ s .widths .c ∷ s .widths .b ∷ s .widths .k ∷ s .step ∷ s .ratio ∷ s .half ∷ []
 
 abbrev pub headerBytes : Header → List ℕ
 headerBytes h = two (h .device) ++ scaleBytes (h .scale)

@@ -28,9 +28,9 @@ use Rattle.shape.specs.Shape.{Shape}
 use Rattle.values.specs.Sheet.{ValuesThere, RecordRight, RecordWrong}
 use Rattle.to_sheet.specs.Bytes.{recordBytes}
 use Rattle.to_sheet.proofs.Laws.Rendered.{rendered}
-use Rattle.to_record.specs.Bytes.{recordOut}
+use Rattle.locate.specs.Stored.{recordOut}
 use Rattle.to_record.specs.Records.{RecordThere, RecordPut}
-use Rattle.to_record.proofs.Laws.Written.{written}
+use Rattle.locate.proofs.Laws.Written.{written}
 use Rattle.to_record.proofs.Laws.Record.{record-long}
 use Rattle.writing.specs.Judged.{SheetRight, SheetRefused, InOrder}
 

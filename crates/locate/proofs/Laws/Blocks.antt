@@ -1,18 +1,19 @@
 -- The blocks of a view, as code finds them. Code goes by the lengths that are read, so that each block ends where it finds.
-use mathlib.Core.Path.{_≡_, ap, sym, _∙_}
+use mathlib.Core.Path.{_≡_, refl, ap, sym, _∙_}
 use Prim.Native.Nat.{ℕ, _+_, _-_, _*_, _%_, _≤_}
 use native.Mathlib.Omega.{arith}
 use mathlib.Core.Option.{Option, none}
 use mathlib.Core.List.{List, [], _∷_}
 use lib.ListN.{length}
-use Rattle.bits.specs.Bits.{Bits}
-use Rattle.bits.specs.Bytes.{bitsOf}
+use Rattle.bits.specs.Bits.{Bits, filled}
+use Rattle.bits.specs.Bytes.{bitsOf, inBytes}
 use Rattle.bits.specs.Codec.{got}
-use Rattle.bits.specs.BytesLaws.{length-bitsOf}
+use Rattle.bits.specs.BytesLaws.{length-bitsOf, length-in}
+use Rattle.bits.specs.CodecLaws.{encAll}
 use Rattle.bits.specs.Block.{Block}
 use Rattle.bits.proofs.Laws.Parts.{part, part-length}
 use Rattle.format.specs.Limits.{mostLines}
-use Rattle.format.specs.Line.{Line, skeleton}
+use Rattle.format.specs.Line.{Line, line, skeleton}
 use Rattle.format.specs.Index.{Index, indexBlock}
 use Rattle.format.specs.Segments.{segments}
 use Rattle.format.specs.View.{View}
@@ -36,6 +37,15 @@ module _ {A : Type 0} {w : Block A} {s : List ℕ} {b e : ℕ} {v : A} (h : Bloc
   pub block-bits : length (w .enc v) ≡ 8 * (e - (b + 2))
   block-bits =
       ap length (sym (block-is .1)) ∙ length-bitsOf (cut s b e) ∙ ap (λ (n : ℕ). 8 * n) (part-length s (b + 2) (e - (b + 2)) (omega (arith, h .from, h .within)))
+
+-- its bytes
+pub block-long : {A : Type 0} (b : Block A) (v : A) → length (b .enc v) ≡ 8 * length (inBytes (b .enc v))
+block-long b v = omega (arith, length-in (b .enc v), b .bytes v)
+
+-- what is written of lines
+pub skeleton-is : (w : Widths) (ls : List Line) → skeleton w .enc ls ≡ filled (encAll (line w) ls)
+unfolding skeleton
+skeleton-is w ls = refl
 
 pub few-lines : (w : Widths) {s : List ℕ} {b e : ℕ} {ls : List Line} → BlockAt (skeleton w) s b e ls → length ls ≤ 1024
 unfolding skeleton mostLines

@@ -10,7 +10,7 @@ use Rattle.bits.specs.Lists.{All, Along}
 use Rattle.bits.specs.BytesLaws.{length-in, length-bytesOf}
 use Rattle.lay.specs.Laid.{Laid}
 use Rattle.lay.specs.HighFirst.{two, joined}
-use Rattle.lay.proofs.Laws.{laid-none, laid-next, joined-append, joined-snoc}
+use Rattle.lay.proofs.Laws.{laid-none, laid-next, joined-append, joined-snoc, lent, back}
 use Rattle.format.specs.Limits.{mostLines, mostBytes}
 use Rattle.format.specs.Line.{line, skeleton}
 use Rattle.format.specs.Index.{indexBlock}
@@ -20,12 +20,11 @@ use Rattle.format.specs.Record.{Record, tellSeen, size, write, Allowed}
 use Rattle.format.specs.declared.Widths.{Widths}
 use Rattle.format.proofs.Laws.Record.{narrow}
 use Rattle.to_sheet.specs.Bytes.{viewBytes, recordBytes}
-use Rattle.to_sheet.proofs.Laws.Blocks.{lent, back}
-use Rattle.to_record.specs.Bytes.{viewOut, headerOut, recordOut}
+use Rattle.locate.specs.Stored.{viewOut, headerOut, recordOut}
 use Rattle.to_record.specs.Views.{NextView, RightView, ViewPut}
 use Rattle.to_record.specs.Records.{deviceFrom, scaleFrom, ViewsThere, ViewsPut}
 use Rattle.to_record.specs.declared.Done.{Done}
-use Rattle.to_record.proofs.Laws.Written.{written}
+use Rattle.locate.proofs.Laws.Written.{written}
 
 -- ---- the loop over the views: those passed are laid, and the others stand from byte p on
 

@@ -9,10 +9,9 @@ use Rattle.bits.specs.ListsLaws.{total-append}
 use Rattle.bits.proofs.Laws.Parts.{part}
 use Rattle.lay.specs.Laid.{Laid}
 use Rattle.lay.specs.HighFirst.{two, joined}
-use Rattle.lay.proofs.Laws.{laid-none, laid-next, joined-snoc}
+use Rattle.lay.proofs.Laws.{laid-none, laid-next, joined-snoc, lent, back}
 use Rattle.format.specs.Segments.{Segment, FitsSegment}
 use Rattle.to_sheet.proofs.Laws.Sizes.{joined-size}
-use Rattle.to_sheet.proofs.Laws.Blocks.{lent, back}
 use Rattle.locate.specs.Finds.{segmentStored}
 use Rattle.to_record.specs.Run.{RunAt}
 use Rattle.to_record.specs.Outs.{segmentHeld, SegmentsOut}

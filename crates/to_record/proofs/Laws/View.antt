@@ -15,7 +15,7 @@ use Rattle.bits.specs.Block.{Block}
 use Rattle.bits.proofs.Laws.Parts.{part}
 use Rattle.lay.specs.Laid.{Laid}
 use Rattle.lay.specs.HighFirst.{two, start, joined}
-use Rattle.lay.proofs.Laws.{laid-next}
+use Rattle.lay.proofs.Laws.{laid-next, lent, back}
 use Rattle.format.specs.Line.{Line, FitsLine, line, skeleton}
 use Rattle.format.specs.Index.{Index, indexBlock}
 use Rattle.format.specs.View.{View}
@@ -23,16 +23,16 @@ use Rattle.format.specs.Segments.{Segment, FitsSegment, segment, segments}
 use Rattle.format.specs.declared.Widths.{Widths}
 use Rattle.locate.proofs.Laws.InBytes.{in-spelled, spells-all}
 use Rattle.locate.proofs.Laws.Lists.{all-long}
+use Rattle.locate.proofs.Laws.Blocks.{block-long, skeleton-is}
 use Rattle.locate.proofs.Laws.Segments.{segment-spells}
 use Rattle.to_sheet.proofs.Laws.Sizes.{joined-size}
-use Rattle.to_sheet.proofs.Laws.Blocks.{lent, back}
-use Rattle.to_sheet.specs.Bytes.{headBytes, lineBytes, indexBytes, segmentBytes, viewBytes}
+use Rattle.to_sheet.specs.Bytes.{lineBytes, indexBytes, segmentBytes, viewBytes}
 use Rattle.locate.specs.Finds.{segmentStored}
 use Rattle.to_record.specs.Run.{Other, fieldOf, RunAt}
 use Rattle.to_record.specs.Puts.{lineHeld}
 use Rattle.to_record.specs.Outs.{segmentHeld}
 use Rattle.to_record.specs.Views.{SkeletonOut, IndexSized, SegmentsSized, NextView, RightView}
-use Rattle.to_record.specs.Bytes.{sizedOut, viewOut}
+use Rattle.locate.specs.Stored.{headBytes, sizedOut, viewOut}
 use Rattle.to_record.specs.declared.Done.{Done}
 use Rattle.to_record.specs.declared.line.Lines.{Lines}
 use Rattle.to_record.proofs.Laws.Line.{held-long}
@@ -57,13 +57,6 @@ sized-laid {before} {ys} {now} {block} {n} {m} l h k =
     }
 
 -- ---- bytes of a block
-
-pub block-long : {A : Type 0} (b : Block A) (v : A) → length (b .enc v) ≡ 8 * length (inBytes (b .enc v))
-block-long b v = omega (arith, length-in (b .enc v), b .bytes v)
-
-skeleton-is : (w : Widths) (ls : List Line) → skeleton w .enc ls ≡ filled (encAll (line w) ls)
-unfolding skeleton
-skeleton-is w ls = refl
 
 pub skeleton-bytes : (w : Widths) (ls : List Line) → inBytes (filled (encAll (line w) ls)) ≡ inBytes (skeleton w .enc ls)
 skeleton-bytes w ls = ap inBytes (sym (skeleton-is w ls))

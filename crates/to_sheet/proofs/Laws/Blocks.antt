@@ -1,14 +1,14 @@
 -- What the writers of a view's blocks lay, one behind the other, is the blocks' part of the view's fields. The blocks are those that
 -- code finds.
 use mathlib.Core.Path.{_≡_, _∙_}
-use Prim.Native.Nat.{ℕ, _+_, _-_, _≤_}
+use Prim.Native.Nat.{ℕ, _+_, _≤_}
 use mathlib.Core.List.{List, [], _++_, append-assoc}
-use lib.ListN.{length, take, drop}
+use lib.ListN.{length}
 use Rattle.bits.specs.Bytes.{bitsOf}
 use Rattle.bits.specs.Codec.{got}
 use Rattle.bits.specs.Lists.{total}
 use Rattle.lay.specs.Laid.{Laid}
-use Rattle.lay.proofs.Laws.{laid-next}
+use Rattle.lay.proofs.Laws.{laid-next, lent, back}
 use Rattle.format.specs.Index.{indexBlock}
 use Rattle.format.specs.Segments.{segments}
 use Rattle.format.specs.View.{View}
@@ -54,13 +54,6 @@ module _ {w : Widths} {s : List ℕ} {b : ℕ} {v : View} {d : ℕ} (B : BlocksA
 
       pub segments-wide : g ≡ total segmentSize (v .segments)
       segments-wide = segments-are .count ∙ joined-size segmentBytes segmentSize segment-size (v .segments)
-
--- the rest of a buffer from a on, lent and given back
-abbrev pub lent : List ℕ → ℕ → List ℕ
-lent xs a = take (length xs - a) (drop a xs)
-
-abbrev pub back : List ℕ → ℕ → List ℕ → List ℕ
-back xs a ys = take a xs ++ (ys ++ drop (length xs - a) (drop a xs))
 
 module _ {w : Widths} {s : List ℕ} {b : ℕ} {x : Blocks} (F : BlocksFound s b x)
     {o o1 o2 o3 : List ℕ} {r : Lines} {n g : ℕ} (L : LinesOut w (cut s b (x .index)) o o1 r)

@@ -11,20 +11,20 @@ use Rattle.bits.specs.Bytes.{Byte, bitsOf}
 use Rattle.bits.specs.Codec.{got}
 use Rattle.outcome.specs.Refusals.{badHeader}
 use Rattle.lay.specs.Laid.{Laid}
-use Rattle.lay.proofs.Laws.{laid-next}
+use Rattle.lay.proofs.Laws.{laid-next, lent, back}
 use Rattle.format.specs.Record.{Record, FitsHeader, scale, header, views, read}
 use Rattle.format.specs.SheetSize.{viewSize, sheetSize}
 use Rattle.format.specs.declared.Widths.{Widths}
 use Rattle.format.specs.declared.Header.{Header}
 use Rattle.lay.specs.HighFirst.{start, two}
-use Rattle.to_sheet.specs.Bytes.{scaleBytes, headerBytes, viewBytes, recordBytes}
+use Rattle.to_sheet.specs.Bytes.{headerBytes, viewBytes, recordBytes}
+use Rattle.locate.specs.Stored.{scaleBytes}
 use Rattle.to_sheet.specs.SheetOuts.{headerField, ViewsOut, SheetThere, SheetOut}
 use Rattle.locate.proofs.Laws.InBytes.{spells-two}
-use Rattle.to_sheet.proofs.Laws.Values.{scale-spells}
+use Rattle.locate.proofs.Laws.Written.{scale-spells}
 use Rattle.to_sheet.proofs.Laws.Sizes.{joined-size, view-size}
 use Rattle.locate.proofs.Laws.Record.{behind, record-apart}
 use Rattle.locate.proofs.Laws.Front.{spelled-part}
-use Rattle.to_sheet.proofs.Laws.Blocks.{lent, back}
 
 -- ---- the header
 

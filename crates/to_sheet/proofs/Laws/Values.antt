@@ -18,24 +18,14 @@ use Rattle.format.specs.declared.ViewHeader.{ViewHeader}
 use Rattle.sheet.specs.Code.{extended}
 use Rattle.sheet.specs.Values.{headerValue, viewHeadValue, endValue, EndValue, codeValue, lineValue, widthValue, listValue, segmentValue}
 use Rattle.lay.specs.HighFirst.{two, joined}
-use Rattle.to_sheet.specs.Bytes.{endBytes, headBytes, scaleBytes, headerBytes}
+use Rattle.locate.specs.Stored.{headBytes}
+use Rattle.locate.proofs.Laws.Written.{scale-spells, head-spells}
+use Rattle.to_sheet.specs.Bytes.{endBytes, headerBytes}
 use Rattle.locate.proofs.Laws.InBytes.{Spells, in-spelled, _⊕_, spells-filled, spells-byte, spells-two, spells-all, spells-map, spells-bytes}
-
--- the same seven bytes in a record, where the refusal e is another
-pub scale-spells : (e : ℕ) (s : Scale) → FitsScale s → Spells (scaleBytes s) (scale e .enc s)
-scale-spells e s f =
-    spells-byte (f .points .0) ⊕ spells-byte (f .c .0) ⊕ spells-byte (f .b .0) ⊕ spells-byte (f .k .0)
-    ⊕ spells-byte (f .step .0) ⊕ spells-byte (f .ratio) ⊕ spells-byte (f .half .0)
 
 pub header-bytes : (h : Header) → headerValue .Fits h → inBytes (headerValue .enc h) ≡ headerBytes h
 unfolding headerValue
 header-bytes h f = in-spelled (spells-filled (spells-two (f .device) ⊕ scale-spells badValue (h .scale) (f .scale)))
-
--- the same eight bytes in a record, where the refusal e is another
-pub head-spells : (e : ℕ) (earlier : ℕ → ℕ) (h : ViewHeader) → FitsHead earlier h → Spells (headBytes h) (headFields e earlier .enc h)
-head-spells e earlier h f =
-    (spells-byte (f .number) ⊕ spells-byte (f .position) ⊕ spells-byte (f .impression) ⊕ spells-byte (f .quality))
-    ⊕ spells-two (f .width) ⊕ spells-two (f .height)
 
 pub head-bytes : (earlier : ℕ → ℕ) (h : ViewHeader) → viewHeadValue earlier .Fits h → inBytes (viewHeadValue earlier .enc h) ≡ headBytes h
 unfolding viewHeadValue

@@ -9,21 +9,21 @@ use Rattle.bits.specs.Bytes.{Byte, bitsOf}
 use Rattle.bits.specs.Reads.{found, Reads}
 use Rattle.bits.proofs.Laws.Parts.{part}
 use Rattle.lay.specs.Laid.{Laid}
-use Rattle.lay.proofs.Laws.{laid-next}
+use Rattle.lay.proofs.Laws.{laid-next, lent, back}
 use Rattle.outcome.specs.Refusals.{badView}
 use Rattle.format.specs.View.{View, headFields, view}
 use Rattle.format.specs.SheetSize.{viewSize}
 use Rattle.format.specs.declared.Widths.{Widths}
 use Rattle.lay.specs.HighFirst.{start}
-use Rattle.to_sheet.specs.Bytes.{headBytes, viewBytes}
+use Rattle.to_sheet.specs.Bytes.{viewBytes}
+use Rattle.locate.specs.Stored.{headBytes}
 use Rattle.to_sheet.specs.ViewOuts.{BlocksOut}
 use Rattle.to_sheet.specs.declared.view.ViewOut.{ViewOut}
-use Rattle.to_sheet.proofs.Laws.Values.{head-spells}
+use Rattle.locate.proofs.Laws.Written.{head-spells}
 use Rattle.to_sheet.proofs.Laws.Sizes.{view-size}
 use Rattle.locate.specs.Stands.{BlocksAt, ViewAt}
 use Rattle.locate.proofs.Laws.Front.{spelled-part}
 use Rattle.locate.proofs.Laws.View.{view-apart}
-use Rattle.to_sheet.proofs.Laws.Blocks.{lent, back}
 
 -- its header's bytes
 head-part : {w : Widths} {s : List ℕ} {a : ℕ} {v : View} → All Byte s → ViewAt w s a v → part s a 8 ≡ headBytes (v .head)

@@ -9,7 +9,7 @@ use Rattle.bits.specs.Codec.{got}
 use Rattle.bits.specs.Lists.{total}
 use Rattle.bits.specs.ListsLaws.{total-append}
 use Rattle.lay.specs.Laid.{Laid}
-use Rattle.lay.proofs.Laws.{joined-snoc, laid-none, laid-next}
+use Rattle.lay.proofs.Laws.{joined-snoc, laid-none, laid-next, lent, back}
 use Rattle.format.specs.View.{View}
 use Rattle.format.specs.Record.{Record, views, read}
 use Rattle.format.specs.SheetSize.{viewSize}
@@ -22,7 +22,6 @@ use Rattle.to_sheet.specs.ViewOuts.{ViewWritten}
 use Rattle.to_sheet.specs.SheetOuts.{ViewsThere, ViewsOut}
 use Rattle.to_sheet.specs.declared.view.ViewOut.{ViewOut}
 use Rattle.to_sheet.proofs.Laws.Sizes.{joined-size, view-size}
-use Rattle.to_sheet.proofs.Laws.Blocks.{lent, back}
 
 -- ---- i views are laid; the next starts at byte p
 

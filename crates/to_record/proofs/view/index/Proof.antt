@@ -2,7 +2,8 @@
 use native.Mathlib.Omega.{arith}
 use lib.ListN.{length-take, length-drop}
 use Rattle.format.specs.Index.{indexBlock}
-use Rattle.to_record.proofs.Laws.View.{sized-laid, block-long}
+use Rattle.locate.proofs.Laws.Blocks.{block-long}
+use Rattle.to_record.proofs.Laws.View.{sized-laid}
 use borrow.Author.Needs.{needs}
 use Rattle.to_record.proofs.view.index.Statement.{statement}
 use Rattle.to_record.proofs.view.index.Tie as tie

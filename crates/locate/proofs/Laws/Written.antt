@@ -17,14 +17,15 @@ use Rattle.format.specs.Limits.{mostBytes}
 use Rattle.format.specs.Line.{skeleton}
 use Rattle.format.specs.Index.{indexBlock}
 use Rattle.format.specs.Segments.{segments}
-use Rattle.format.specs.View.{View, occurs, headFields, viewHeader, view}
-use Rattle.format.specs.Record.{Record, header, tellSeen, views, recordOf, size, write, FitsRecord, Allowed}
+use Rattle.format.specs.View.{View, occurs, FitsHead, headFields, viewHeader, view}
+use Rattle.format.specs.Record.{Record, FitsScale, scale, header, tellSeen, views, recordOf, size, write, FitsRecord, Allowed}
 use Rattle.format.specs.declared.Widths.{Widths}
+use Rattle.format.specs.declared.Scale.{Scale}
 use Rattle.format.specs.declared.Header.{Header}
+use Rattle.format.specs.declared.ViewHeader.{ViewHeader}
 use Rattle.format.proofs.Laws.Size.{size-is}
 use Rattle.locate.proofs.Laws.InBytes.{Spells, _⊕_, spells-byte, spells-two}
-use Rattle.to_sheet.proofs.Laws.Values.{scale-spells, head-spells}
-use Rattle.to_record.specs.Bytes.{sizedOut, viewOut, headerOut, recordOut}
+use Rattle.locate.specs.Stored.{headBytes, scaleBytes, sizedOut, viewOut, headerOut, recordOut}
 
 -- ---- numbers and blocks
 
@@ -48,6 +49,18 @@ sized w v = bitsOfNumber 16 (length (w .enc v) / 8) ++ w .enc v
 
 spells-sized : {A : Type 0} (w : Block A) (v : A) → length (w .enc v) / 8 < 2 ^ 16 → Spells (sizedOut w v) (sized w v)
 spells-sized w v h = rw (length-in (w .enc v)) (spells-two h ⊕ spells-block w v)
+
+-- ---- headers; e is the refusal
+
+pub scale-spells : (e : ℕ) (s : Scale) → FitsScale s → Spells (scaleBytes s) (scale e .enc s)
+scale-spells e s f =
+    spells-byte (f .points .0) ⊕ spells-byte (f .c .0) ⊕ spells-byte (f .b .0) ⊕ spells-byte (f .k .0)
+    ⊕ spells-byte (f .step .0) ⊕ spells-byte (f .ratio) ⊕ spells-byte (f .half .0)
+
+pub head-spells : (e : ℕ) (earlier : ℕ → ℕ) (h : ViewHeader) → FitsHead earlier h → Spells (headBytes h) (headFields e earlier .enc h)
+head-spells e earlier h f =
+    (spells-byte (f .number) ⊕ spells-byte (f .position) ⊕ spells-byte (f .impression) ⊕ spells-byte (f .quality))
+    ⊕ spells-two (f .width) ⊕ spells-two (f .height)
 
 -- ---- a view
 

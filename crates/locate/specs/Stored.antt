@@ -1,4 +1,4 @@
--- A record, byte by byte: what the writers lay down. That it is the record of the definitions is a law (Written).
+-- A record, byte by byte: what those lay down who write one. That it is the record of the definitions is a law (Written).
 use Prim.Native.Nat.{ℕ}
 use mathlib.Core.List.{List, [], _∷_, _++_}
 use lib.ListN.{length}
@@ -12,7 +12,20 @@ use Rattle.format.specs.View.{View}
 use Rattle.format.specs.Record.{Record, size}
 use Rattle.format.specs.declared.Widths.{Widths}
 use Rattle.format.specs.declared.Header.{Header}
-use Rattle.to_sheet.specs.Bytes.{headBytes, scaleBytes}
+use Rattle.format.specs.declared.Scale.{Scale}
+use Rattle.format.specs.declared.ViewHeader.{ViewHeader}
+
+-- ---- headers
+
+-- a view's, without the skeleton's length
+abbrev pub headBytes : ViewHeader → List ℕ
+headBytes h = h .number ∷ h .position ∷ h .impression ∷ h .quality ∷ (two (h .width) ++ two (h .height))
+
+-- record bytes 15 to 21
+abbrev pub scaleBytes : Scale → List ℕ
+scaleBytes s = s .points ∷ s .widths .c ∷ s .widths .b ∷ s .widths .k ∷ s .step ∷ s .ratio ∷ s .half ∷ []
+
+-- ---- a view
 
 -- a block behind its length
 abbrev pub sizedOut : {A : Type 0} → Block A → A → List ℕ
@@ -24,7 +37,9 @@ blocksOut w v = sizedOut (skeleton w) (v .lines) ++ (sizedOut (indexBlock (lengt
 abbrev pub viewOut : Widths → View → List ℕ
 viewOut w v = headBytes (v .head) ++ blocksOut w v
 
--- of a record with n bytes and m views
+-- ---- the record
+
+-- its header: it has n bytes and m views
 abbrev pub headerOut : (n : ℕ) → Header → (m : ℕ) → List ℕ
 headerOut n h m =
     0x46 ∷ 0x53 ∷ 0x4B ∷ 0x00 ∷ 0x30 ∷ 0x31 ∷ 0x30 ∷ 0x00 ∷ 0x00 ∷ 0x00
