@@ -21,8 +21,10 @@ use Rattle.format.specs.Limits.{mostLines}
 use Rattle.format.specs.Line.{Line, line, line-long, skeleton}
 use Rattle.format.specs.Places.{noLine}
 use Rattle.format.specs.declared.Widths.{Widths}
+use Rattle.locate.specs.Stands.{BlockAt}
 use Rattle.locate.specs.Finds.{LineEnd, LinesLeft, LinesPassed}
 use Rattle.locate.specs.declared.Passed.{Passed}
+use Rattle.locate.proofs.Laws.Blocks.{cut, few-lines}
 
 pub lines-first : {w : Widths} {s : List ℕ} {ls : List Line} {u : Bits} → skeleton w .dec (bitsOf s) ≡ got ls u → LinesLeft w s 0 0 ls u
 unfolding skeleton
@@ -116,3 +118,13 @@ module _ {w : Widths} {s : List ℕ} {most : ℕ} {x : Passed} (P : LinesPassed 
 
     pub passed-there : (most < length ls) × (passed-next .value ≡ getD ls most noLine)
     passed-there = let (k, v, _) = first-left ls (x .count) noLine (passed-next .is) in rw (← passed-count) (k, v)
+
+-- ---- all lines are passed
+
+pub none-left : {A : Type 0} (xs : List A) (n : ℕ) → n ≤ length xs → drop n xs ≡ [] → n ≡ length xs
+none-left xs n h e = let z : length xs - n ≡ 0 = sym (length-drop n xs) ∙ ap length e in omega arith
+
+pub lines-counted : {w : Widths} {s : List ℕ} {b e : ℕ} {ls : List Line} {r : Passed} → BlockAt (skeleton w) s b e ls → LinesPassed w (cut s b e) 1024 r → r .count ≡ length ls
+lines-counted {w} {ls = ls} {r = r} h P =
+    let (c, left) = P .is ls [] (h .value) in
+    split 1024 (r .count) (λ k. omega (arith, few-lines w h)) (λ k. none-left ls (r .count) c (lines-none left (P .all k)))

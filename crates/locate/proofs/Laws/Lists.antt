@@ -21,6 +21,13 @@ pub all-long : {A : Type 0} (c : Codec Bool A) (xs : List A) → length (encAll 
 all-long c [] = refl
 all-long c (x ∷ xs) = length-append (c .enc x) (encAll c xs) ∙ ap (λ (n : ℕ). length (c .enc x) + n) (all-long c xs)
 
+-- where each is told of those before it, but takes as many bits whatever it is told
+pub along-long : {T A : Type 0} (c : T → Codec Bool A) (tell : T → A → T) (f : A → ℕ) → ((t : T) (x : A) → length (c t .enc x) ≡ f x) → (t : T) (xs : List A)
+    → length (encAlong c tell t xs) ≡ total f xs
+along-long c tell f h t [] = refl
+along-long c tell f h t (x ∷ xs) =
+    length-append (c t .enc x) (encAlong c tell (tell t x) xs) ∙ omega (arith, h t x, along-long c tell f h (tell t x) xs)
+
 -- what a difference is allowed to be does not change its bits
 diffs-bits : (w : ℕ) (t : ℕ × ℕ) (ds : List ℕ) → encAlong (diff w) tell t ds ≡ encAll (field badIndex w) ds
 diffs-bits w t [] = refl

@@ -1,14 +1,14 @@
 -- A record byte by byte is the record of the definitions: each part spells what its format writes.
 use mathlib.Core.Path.{_≡_, refl, sym, ap, _∙_}
-use Prim.Native.Nat.{ℕ, _/_, _%_, _^_, _<_}
+use Prim.Native.Nat.{ℕ, _+_, _*_, _/_, _%_, _^_, _<_}
 use native.Mathlib.Omega.{arith}
 use mathlib.Core.List.{List, [], _∷_, _++_, append-assoc}
-use lib.ListN.{length}
-use Rattle.bits.specs.Lists.{Along}
+use lib.ListN.{length, length-append}
+use Rattle.bits.specs.Lists.{Along, total}
 use Rattle.bits.specs.Bits.{Bits, bitsOfNumber}
 use Rattle.bits.specs.BitsLaws.{bits-mod, bits-split}
 use Rattle.bits.specs.Bytes.{bitsOf, bytesOf, inBytes}
-use Rattle.bits.specs.BytesLaws.{length-bitsOf, bytes-bits, bytes-are, bits-in, length-in}
+use Rattle.bits.specs.BytesLaws.{bytes-bits, bytes-are, bits-in, length-in}
 use Rattle.bits.specs.CodecLaws.{encAlong}
 use Rattle.bits.specs.Block.{Block}
 use Rattle.outcome.specs.Refusals.{badHeader, badView}
@@ -23,7 +23,9 @@ use Rattle.format.specs.declared.Widths.{Widths}
 use Rattle.format.specs.declared.Scale.{Scale}
 use Rattle.format.specs.declared.Header.{Header}
 use Rattle.format.specs.declared.ViewHeader.{ViewHeader}
-use Rattle.format.proofs.Laws.Size.{size-is}
+use Rattle.format.proofs.Laws.Size.{view-length, views-length}
+use Rattle.locate.proofs.Laws.Blocks.{block-long}
+use Rattle.locate.proofs.Laws.Lists.{along-long}
 use Rattle.locate.proofs.Laws.InBytes.{Spells, _⊕_, spells-byte, spells-two}
 use Rattle.locate.specs.Stored.{headBytes, scaleBytes, sizedOut, viewOut, headerOut, recordOut}
 
@@ -95,6 +97,26 @@ header-spells n m h l f =
     let e = a ⊕ (b ⊕ (c ⊕ (spells-two (f .1 .device) ⊕ (spells-byte (f .2 .0) ⊕ (scale-spells badHeader (h .scale) (f .1 .scale) ⊕ spells-two {n = 0} (omega arith)))))) in
     e
 
+-- ---- how long it is
+
+pub view-long : (w : Widths) (seen : List ℕ) (v : View) → length (view w seen .enc v) ≡ 8 * length (viewOut w v)
+view-long w seen v =
+    omega (arith, view-length w seen v, block-long (skeleton w) (v .lines), block-long (indexBlock (length (v .lines))) (v .index), block-long segments (v .segments), long)
+  where
+    long : length (viewOut w v) ≡ 8 + ((2 + length (inBytes (skeleton w .enc (v .lines)))) + ((2 + length (inBytes (indexBlock (length (v .lines)) .enc (v .index)))) + (2 + length (inBytes (segments .enc (v .segments))))))
+    long = simp length-append (omega arith)
+
+-- bits of views, and their bytes
+pub views-long : (w : Widths) (vs : List View) → total (λ v. length (view w [] .enc v)) vs ≡ 8 * length (joined (viewOut w) vs)
+views-long w [] = refl
+views-long w (v ∷ vs) = omega (arith, view-long w [] v, views-long w vs, length-append (viewOut w v) (joined (viewOut w) vs))
+
+pub stored-long : (r : Record) → length (recordOut r) ≡ size r
+unfolding recordOut
+stored-long r =
+    let w : Widths = r .head .scale .widths in
+    omega (arith, views-length r, along-long (view w) tellSeen (λ v. length (view w [] .enc v)) (λ seen v. view-long w seen v ∙ sym (view-long w [] v)) [] (r .views), views-long w (r .views))
+
 -- ---- the record
 
 header-fits : (n : ℕ) (r : Record) → n < 65536 → FitsRecord r → header n .Fits (r .head, length (r .views))
@@ -112,5 +134,4 @@ pub written : (r : Record) → Allowed r → write r ≡ recordOut r
 unfolding write
 written r a =
     let s = record-spells r a in
-    let n : length (recordOut r) ≡ size r = omega (arith, length-bitsOf (recordOut r), ap length (s .bits), size-is (size r) r) in
-    ap (bytesOf (size r)) (s .bits) ∙ ap (λ (k : ℕ). bytesOf k (bitsOf (recordOut r))) (sym n) ∙ bytes-bits (recordOut r) (s .bytes)
+    ap (bytesOf (size r)) (s .bits) ∙ ap (λ (k : ℕ). bytesOf k (bitsOf (recordOut r))) (sym (stored-long r)) ∙ bytes-bits (recordOut r) (s .bytes)

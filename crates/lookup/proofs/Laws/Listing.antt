@@ -29,8 +29,8 @@ use Rattle.format.specs.Places.{segmentBits}
 use Rattle.locate.specs.Finds.{BlocksThere, BlocksFound, LinesThere, LinesPassed, SegmentsThere, SegmentsPassed}
 use Rattle.locate.specs.declared.view.Blocks.{Blocks}
 use Rattle.locate.specs.declared.Passed.{Passed}
-use Rattle.locate.proofs.Laws.Blocks.{cut, few-lines, lines-here, index-here, segments-here, no-index}
-use Rattle.locate.proofs.Laws.Lines.{lines-none}
+use Rattle.locate.proofs.Laws.Blocks.{cut, lines-here, index-here, segments-here, no-index}
+use Rattle.locate.proofs.Laws.Lines.{none-left, lines-counted}
 use Rattle.locate.proofs.Laws.Segments.{segments-none}
 use Rattle.lookup.specs.Listing.{Listed, listed}
 use Rattle.lookup.specs.Counts.{entries, IndexThere, PairsCounted, ListedThere, pairsOf}
@@ -59,14 +59,6 @@ module _ {w : Widths} {s : List ℕ} {a : ℕ} {v : View} (at : ViewAt w s a v) 
 
 cut-long : {A : Type 0} {w : Block A} {s : List ℕ} {b e : ℕ} {v : A} → BlockAt w s b e v → length (cut s b e) ≡ e - (b + 2)
 cut-long {s = s} {b = b} {e = e} h = part-length s (b + 2) (e - (b + 2)) (omega (arith, h .from, h .within))
-
-none-left : {A : Type 0} (xs : List A) (n : ℕ) → n ≤ length xs → drop n xs ≡ [] → n ≡ length xs
-none-left xs n h e = let z : length xs - n ≡ 0 = sym (length-drop n xs) ∙ ap length e in omega arith
-
-lines-counted : {w : Widths} {s : List ℕ} {b e : ℕ} {ls : List Line} {r : Passed} → BlockAt (skeleton w) s b e ls → LinesPassed w (cut s b e) 1024 r → r .count ≡ length ls
-lines-counted {w} {ls = ls} {r = r} h P =
-    let (c, left) = P .is ls [] (h .value) in
-    split 1024 (r .count) (λ k. omega (arith, few-lines w h)) (λ k. none-left ls (r .count) c (lines-none left (P .all k)))
 
 segments-wide : (gs : List Segment) → 32 * length gs ≤ segmentBits gs
 segments-wide [] = omega arith

@@ -1,0 +1,80 @@
+-- Where the view of an order stands: from what code finds of its places and passes of its lines to its blocks; and what of them the
+-- functions for the blocks ask.
+use mathlib.Core.Path.{_≡_}
+use Prim.Native.Nat.{ℕ, _+_, _-_, _≤_, _<_}
+use native.Mathlib.Omega.{arith}
+use mathlib.Core.List.{List, []}
+use lib.ListN.{length}
+use Rattle.bits.specs.Lists.{All}
+use Rattle.bits.specs.Bytes.{Byte}
+use Rattle.bits.specs.Block.{Block}
+use Rattle.bits.proofs.Laws.Parts.{part-length, part-bytes}
+use Rattle.format.specs.Line.{skeleton}
+use Rattle.format.specs.Record.{Record, read}
+use Rattle.format.specs.Places.{viewAt, count}
+use Rattle.format.specs.declared.Widths.{Widths}
+use Rattle.format.proofs.Laws.Record.{narrow}
+use Rattle.survivors.specs.Rank.{Rising}
+use Rattle.locate.specs.Stands.{BlockAt, ViewIn}
+use Rattle.locate.specs.Finds.{BlocksFound, LinesPassed}
+use Rattle.locate.specs.declared.view.Blocks.{Blocks}
+use Rattle.locate.specs.declared.Passed.{Passed}
+use Rattle.locate.proofs.Laws.Blocks.{cut, few-lines, lines-here, index-here, segments-here}
+use Rattle.locate.proofs.Laws.Lines.{lines-counted}
+use Rattle.locate.proofs.Laws.Record.{record-apart}
+use Rattle.relist.specs.declared.lists.Change.{Change}
+use Rattle.rebuild.specs.Site.{SiteOf}
+use Rattle.rebuild.specs.Blocks.{OldSkeleton, Keeps, OldIndex}
+use Rattle.rebuild.specs.Rebuilt.{Placed}
+use Rattle.rebuild.specs.declared.site.Site.{Site}
+
+pub site-is : {r : Record} {s : List ℕ} {i a : ℕ} {w : Widths} {x : Blocks} {p : Passed} → ViewIn r s i a → BlocksFound s (a + 8) x → LinesPassed w (cut s (a + 8) (x .index)) 1024 p
+    → w ≡ r .head .scale .widths → i < length (r .views)
+    → SiteOf r s i (record { skeleton = a + 8; index = x .index; extended = x .extended; end = x .end; lines = p .count; widths = w })
+site-is {r} {s} {i} {a} h F P e l =
+    let B = h .at .blocks in
+    let n = lines-counted (lines-here B F) (rw e at P) in
+    record {
+      there = l;
+      widths = e;
+      count = n;
+      before = omega (arith, h .before);
+      lines = rw e (lines-here B F);
+      index = rw n (index-here B F);
+      segments = segments-here B F;
+    }
+
+-- ---- the blocks, cut out of the record
+
+pub cut-within : {A : Type 0} {w : Block A} {s : List ℕ} {b e : ℕ} {v : A} → BlockAt w s b e v → b + 2 + (e - (b + 2)) ≤ length s
+cut-within h = omega (arith, h .from, h .within)
+
+module _ {s : List ℕ} {x : Site} {ch : Change} {removal : List ℕ} (t : Placed s x ch removal) where
+  pub short : length s ≤ 32768
+  short = record-apart s (t .reads) .short
+
+  pub few : x .lines ≤ 1024
+  few = omega (arith, t .at .count, few-lines (x .widths) (t .at .lines))
+
+  unfoldable pub old-skeleton : All Byte s → OldSkeleton (x .widths) (cut s (x .skeleton) (x .index)) (x .lines) removal
+  old-skeleton f =
+      record {
+        narrow = rw (t .at .widths) (narrow (record-apart s (t .reads) .fits));
+        bytes = part-bytes s (x .skeleton + 2) (x .index - (x .skeleton + 2)) f;
+        short = omega (arith, short, part-length s (x .skeleton + 2) _ (cut-within (t .at .lines)));
+        rising = t .rising;
+        value = viewAt (t .value) (t .view) .lines;
+        reads = t .at .lines .value;
+        count = t .at .count;
+      }
+
+  unfoldable pub old-index : OldIndex (cut s (x .index) (x .extended)) (x .lines) ch removal
+  old-index =
+      record {
+        short = omega (arith, short, part-length s (x .index + 2) _ (cut-within (t .at .index)));
+        rising = t .rising;
+        few = few;
+        value = viewAt (t .value) (t .view) .index;
+        reads = t .at .index .value;
+        keeps = t .keeps;
+      }

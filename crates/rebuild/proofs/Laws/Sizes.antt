@@ -1,0 +1,38 @@
+-- How long the new record is: what code measures of the two blocks and of the rest is the size of the record that the order leaves.
+use mathlib.Core.Path.{_≡_, sym, _∙_}
+use Prim.Native.Nat.{ℕ, _+_, _-_, _≤_}
+use native.Mathlib.Omega.{arith}
+use mathlib.Core.List.{List, []}
+use lib.ListN.{length}
+use Rattle.bits.specs.Lists.{All}
+use Rattle.bits.specs.Bytes.{Byte}
+use Rattle.format.specs.Places.{viewAt}
+use Rattle.locate.proofs.Laws.Blocks.{cut}
+use Rattle.relist.specs.declared.lists.Change.{Change}
+use Rattle.relist.specs.declared.index.Size.{Size}
+use Rattle.rebuild.specs.Blocks.{SkeletonMeasured, IndexMeasured}
+use Rattle.rebuild.specs.Rebuilt.{Placed, Measured}
+use Rattle.rebuild.specs.declared.site.Site.{Site}
+use Rattle.rebuild.specs.declared.measure.Sizes.{Sizes}
+use Rattle.rebuild.proofs.Laws.Blocks.{skeleton-fewer}
+use Rattle.rebuild.proofs.Laws.Site.{short, old-skeleton}
+use Rattle.rebuild.proofs.Laws.Splice.{new-size, is-stored}
+
+module _ {s : List ℕ} {x : Site} {ch : Change} {removal : List ℕ} (t : Placed s x ch removal) (f : All Byte s) {n : ℕ} (A : SkeletonMeasured (x .widths) (cut s (x .skeleton) (x .index)) removal n) where
+  -- a skeleton becomes no longer
+  pub skeleton-small : n ≤ 65535
+  skeleton-small = omega (arith, skeleton-fewer (old-skeleton t f) A)
+
+  pub measured : {z : Size} → IndexMeasured (cut s (x .index) (x .extended)) (x .lines) ch removal z
+      → Measured s x ch removal (record { skeleton = n; width = z .width; index = z .bytes; bytes = x .skeleton + 4 + n + z .bytes + (length s - x .extended) })
+  measured {z} B =
+      record {
+        is = λ r i e S.
+            let a = rw (S .widths) at (A .is (viewAt r i .lines) (S .lines .value)) in
+            let b = B .is (viewAt r i .index) (S .index .value) in
+            record {
+              skeleton = a;
+              index = b;
+              bytes = omega (arith, a, b .bytes, new-size S (is-stored f e) removal ch);
+            };
+      }

@@ -1,0 +1,59 @@
+-- The record that an order leaves, as code has the order, and what the code that measures and puts it asks and answers. That it is the
+-- record of the definitions is a law (Acts).
+use mathlib.Core.Path.{_≡_}
+use Prim.Native.Nat.{ℕ, _≤_}
+use mathlib.Core.List.{List, []}
+use lib.ListN.{length, set}
+use Rattle.bits.specs.Lists.{All}
+use Rattle.bits.specs.Bytes.{Byte}
+use Rattle.bits.specs.Codec.{got}
+use Rattle.lay.specs.Laid.{Laid}
+use Rattle.format.specs.View.{View}
+use Rattle.format.specs.Record.{Record, read, size}
+use Rattle.format.specs.Places.{viewAt}
+use Rattle.orders.specs.Listed.{listed}
+use Rattle.survivors.specs.Rank.{Rising}
+use Rattle.locate.specs.Stored.{recordOut}
+use Rattle.relist.specs.declared.lists.Change.{Change}
+use Rattle.reline.specs.Lines.{keptFrom}
+use Rattle.rebuild.specs.Site.{SiteOf}
+use Rattle.rebuild.specs.Blocks.{newSkeleton, newIndex, Keeps, SizeOf}
+use Rattle.rebuild.specs.declared.site.Site.{Site}
+use Rattle.rebuild.specs.declared.measure.Sizes.{Sizes}
+
+unfoldable pub newView : List ℕ → Change → View → View
+newView removal ch v =
+    record { head = v .head; lines = keptFrom (listed removal) 0 (v .lines); index = newIndex removal ch (v .index); segments = v .segments }
+
+unfoldable pub newRecord : List ℕ → Change → ℕ → Record → Record
+newRecord removal ch i r = record { head = r .head; views = set (r .views) i (newView removal ch (viewAt r i)) }
+
+-- ---- s is a record's bytes, x is where the view stands that the order names, and the order keeps its lists right
+
+pub record Placed (s : List ℕ) (x : Site) (ch : Change) (removal : List ℕ) : Type 0 where
+  pub value : Record
+  pub reads : read s ≡ got value []
+  pub view : ℕ
+  pub at : SiteOf value s view x
+  pub rising : Rising removal
+  pub keeps : Keeps removal ch (viewAt value view .index)
+
+-- m says how long the blocks of view i and the record r become
+pub record SizesOf (r : Record) (i : ℕ) (ch : Change) (removal : List ℕ) (m : Sizes) : Type 0 where
+  pub skeleton : m .skeleton ≡ length (newSkeleton (r .head .scale .widths) removal (viewAt r i .lines))
+  pub index : SizeOf removal ch (viewAt r i .index) (record { width = m .width; bytes = m .index })
+  pub bytes : m .bytes ≡ size (newRecord removal ch i r)
+
+pub record Measured (s : List ℕ) (x : Site) (ch : Change) (removal : List ℕ) (m : Sizes) : Type 0 where
+  pub is : (r : Record) (i : ℕ) → read s ≡ got r [] → SiteOf r s i x → SizesOf r i ch removal m
+
+-- ---- the new record in the lent buffer
+
+pub record RebuildRoom (s : List ℕ) (x : Site) (ch : Change) (removal : List ℕ) (m : Sizes) (out : List ℕ) : Type 0 where
+  pub placed : Placed s x ch removal
+  pub sizes : SizesOf (placed .value) (placed .view) ch removal m
+  pub small : m .bytes ≤ 32768
+  pub room : m .bytes ≤ length out
+
+pub record Rebuilt (s : List ℕ) (x : Site) (ch : Change) (removal : List ℕ) (m : Sizes) (before after : List ℕ) (n : ℕ) : Type 0 where
+  pub is : (r : Record) (i : ℕ) → read s ≡ got r [] → SiteOf r s i x → SizesOf r i ch removal m → Laid (recordOut (newRecord removal ch i r)) before after n

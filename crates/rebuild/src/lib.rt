@@ -1,0 +1,6 @@
+// The record that an order leaves, put together from the old one: all bytes are the old ones, but for the record length and the
+// skeleton and index blocks of the view that the order names, with their lengths. What the order does to these blocks is known by
+// a removal's bytes and a change of one list; it has passed its tests.
+pub mod measure; // how long the new blocks and the new record are
+pub mod put; // the new record
+pub mod site; // where the view stands
