@@ -3,6 +3,7 @@ pub mod Survive
 pub mod Near
 pub mod Least
 pub mod Accept
+pub mod Refuse
 pub mod Right
 pub mod Keep
 pub mod Story

@@ -4,3 +4,4 @@ pub mod Site
 pub mod Splice
 pub mod Sizes
 pub mod Put
+pub mod Acts

@@ -2,18 +2,22 @@
 -- record of the definitions is a law (Acts).
 use mathlib.Core.Path.{_≡_}
 use Prim.Native.Nat.{ℕ, _≤_}
+use mathlib.Core.Option.{some}
 use mathlib.Core.List.{List, []}
 use lib.ListN.{length, set}
 use Rattle.bits.specs.Lists.{All}
 use Rattle.bits.specs.Bytes.{Byte}
 use Rattle.bits.specs.Codec.{got}
 use Rattle.lay.specs.Laid.{Laid}
+use Rattle.format.specs.Index.{Index}
 use Rattle.format.specs.View.{View}
 use Rattle.format.specs.Record.{Record, read, size}
-use Rattle.format.specs.Places.{viewAt}
+use Rattle.format.specs.Places.{viewAt, count}
 use Rattle.orders.specs.Listed.{listed}
+use Rattle.orders.specs.Act.{Act, newLists, newLines}
 use Rattle.survivors.specs.Rank.{Rising}
 use Rattle.locate.specs.Stored.{recordOut}
+use Rattle.relist.specs.Index.{left}
 use Rattle.relist.specs.declared.lists.Change.{Change}
 use Rattle.reline.specs.Lines.{keptFrom}
 use Rattle.rebuild.specs.Site.{SiteOf}
@@ -27,6 +31,11 @@ newView removal ch v =
 
 unfoldable pub newRecord : List ℕ → Change → ℕ → Record → Record
 newRecord removal ch i r = record { head = r .head; views = set (r .views) i (newView removal ch (viewAt r i)) }
+
+-- to the view v, the order of the definitions is that of code
+pub record Means (a : Act) (v : View) (removal : List ℕ) (ch : Change) : Type 0 where
+  pub lines : keptFrom (listed removal) 0 (v .lines) ≡ newLines a v
+  pub lists : (i : Index) → v .index ≡ some i → left removal ch i ≡ newLists a (count v) (i .lists)
 
 -- ---- s is a record's bytes, x is where the view stands that the order names, and the order keeps its lists right
 

@@ -3,10 +3,10 @@ ghost use Rattle.rebuild.specs.Blocks.{OldSkeleton, SkeletonMeasured, Ol
 ghost use Rattle.rebuild.specs.Rebuilt.{Placed, Measured};
 use crate::site::Site;
 use format::Widths;
+use reline::lines_size;
 use relist::index::Size;
 use relist::index::index_size;
 use relist::lists::Change;
-use reline::lines_size;
 
 // The bytes of the new skeleton block, the width of the new index and the bytes of its block, and the bytes of the new record.
 pub struct Sizes {

@@ -6,9 +6,9 @@ use crate::site::Site;
 use format::Widths;
 use lay::copy;
 use lay::put_two;
+use reline::lines_put;
 use relist::index::index_put;
 use relist::lists::Change;
-use reline::lines_put;
 
 // The first bytes of the record s, up to byte `to`; the record length is another.
 fn head_put(out: &mut [u8], s: &[u8], to: usize, bytes: usize) -> usize
@@ -62,7 +62,14 @@ fn lists_put(
 }
 
 // The new record of the record s, of these sizes.
-pub fn put(out: &mut [u8], s: &[u8], site: Site, change: Change, removal: &[u8], sizes: Sizes) -> usize
+pub fn put(
+    out: &mut [u8],
+    s: &[u8],
+    site: Site,
+    change: Change,
+    removal: &[u8],
+    sizes: Sizes,
+) -> usize
     requires { ⌜ RebuildRoom (now s) site change (now removal) sizes (now out) ⌝ }
     ensures { λ r. ⌜ Rebuilt (now (s .entry)) site change (now (removal .entry)) sizes (now (out .entry)) (now (out .exit)) r ⌝ }
 {

@@ -40,7 +40,7 @@ use Rattle.rebuild.specs.Blocks.{sized, newSkeleton, OldSkeleton, Skelet
 
 -- ---- the skeleton
 
-none-gone : {A : Type 0} (i : ℕ) (xs : List A) → kept (λ j x. x) [] i xs ≡ xs
+pub none-gone : {A : Type 0} (i : ℕ) (xs : List A) → kept (λ j x. x) [] i xs ≡ xs
 none-gone i [] = refl
 none-gone i (x ∷ xs) = ap (λ ys. x ∷ ys) (none-gone (suc i) xs)
 
@@ -109,8 +109,13 @@ module _ {w : Widths} {s : List ℕ} {lines : ℕ} {removal : List ℕ} (t : Old
   skeleton-fewer M =
       let xs : Bits = encAll (line w) (l.keptFrom (listed removal) 0 (t .value)) in
       let all : Bits = encAll (line w) (t .value) in
-      omega (arith, M .is (t .value) (t .reads) ∙ sym (ap length (kept-block w removal (t .value))) ∙ filled-length xs, fewer-bits (line w) (listed removal) 0 (t .value),
-      stands-within s 0 all (zeros (pad (length all))) (lines-at w s (t .reads) .bits) (omega arith), t .short)
+      omega (
+        arith,
+        M .is (t .value) (t .reads) ∙ sym (ap length (kept-block w removal (t .value))) ∙ filled-length xs,
+        fewer-bits (line w) (listed removal) 0 (t .value),
+        stands-within s 0 all (zeros (pad (length all))) (lines-at w s (t .reads) .bits) (omega arith),
+        t .short,
+      )
 
   -- whatever its lines are called
   laid-of : {before after : List ℕ} {r : ℕ} → Laid (sized (newSkeleton w removal (t .value))) before after r → SkeletonLaid w s removal before after r

@@ -162,8 +162,15 @@ module _ {r : Record} {s : List ℕ} {i : ℕ} {x : Site} (S : SiteOf r s i x) (
       let a : List ℕ = headOf s (x .skeleton) n in
       let b : List ℕ = sized (newSkeleton (r .head .scale .widths) removal (viewAt r i .lines)) in
       let c : List ℕ = sized (newIndexBlock removal ch (viewAt r i .index)) in
-      omega (arith, sym (stored-long (newRecord removal ch i r)) ∙ ap length (spliced removal ch), length-append ((a ++ b) ++ c) (drop (x .extended) s),
-      length-append (a ++ b) c, length-append a b, head-long n, length-drop (x .extended) s)
+      omega (
+        arith,
+        sym (stored-long (newRecord removal ch i r)) ∙ ap length (spliced removal ch),
+        length-append ((a ++ b) ++ c) (drop (x .extended) s),
+        length-append (a ++ b) c,
+        length-append a b,
+        head-long n,
+        length-drop (x .extended) s,
+      )
 
 -- ---- an accepted record is what is stored of it
 

@@ -1,0 +1,150 @@
+-- A pair order on a view that is found: its own tests, by what code sees of the index.
+use mathlib.Core.Path.{_≡_, refl, sym, ap, _∙_, subst}
+use Prim.Native.Nat.{ℕ, _+_, _-_, _≤_, _<_, min, max}
+use native.Mathlib.Omega.{arith}
+use mathlib.Core.Bool.{Bool, true, false, not, _&&_}
+use mathlib.Core.Option.{Option, none, some, Option·map}
+use mathlib.Core.List.{List, [], _∷_}
+use lib.ListN.{length, getD}
+use lib.Dec.{T, ltb}
+use mir.Facts.{yes-ltb, no-ltb}
+use Rattle.bits.specs.Choice.{pick}
+use Rattle.bits.specs.Lists.{All}
+use Rattle.bits.specs.Bytes.{Byte, bitsOf}
+use Rattle.bits.specs.Codec.{got}
+use Rattle.bits.proofs.Laws.Parts.{part-length}
+use Rattle.outcome.specs.Refusals.{badLines, noIndex, alreadySo}
+use Rattle.outcome.specs.Outcome.{refused}
+use Rattle.format.specs.Index.{Index, indexBlock}
+use Rattle.format.specs.View.{View}
+use Rattle.format.specs.Places.{viewAt, count}
+use Rattle.orders.specs.Survive.{elem}
+use Rattle.orders.specs.Act.{Act, indexed?, near}
+use Rattle.orders.specs.Order.{tests, order}
+use Rattle.orders.proofs.Laws.Accept.{Pass}
+use Rattle.orders.proofs.Laws.Right.{Right}
+use Rattle.survivors.specs.Rank.{Rising}
+use Rattle.locate.proofs.Laws.Blocks.{cut, no-index}
+use Rattle.locate.proofs.Laws.Index.{an-index}
+use Rattle.relist.specs.Near.{NearThere, Near}
+use Rattle.relist.specs.declared.lists.Change.{Change}
+use Rattle.rebuild.specs.Rebuilt.{Means}
+use Rattle.rebuild.specs.declared.site.Site.{Site}
+use Rattle.rebuild.proofs.Laws.Acts.{join-means, part-means}
+use Rattle.ordering.specs.Orders.{pairAct, pairOrder, Sought, PairThere}
+use Rattle.ordering.proofs.Laws.View.{own-refused}
+
+-- the view, for an order that was made for as many lines as it has
+pub as-found : {s : List ℕ} {x : Site} (t : PairThere s x) → Sought s (t .view) (x .lines) x
+as-found t = record { value = t .value; reads = t .reads; at = t .at; count = refl }
+
+-- no line is named
+pub none-rise : Rising []
+none-rise = record { even = refl; rises = tt }
+
+module _ (a b : ℕ) where
+  -- whether the order would change nothing
+  abbrev idle : Bool → View → Bool
+  idle joins v = pick joins (near v a b) (not (near v a b))
+
+  abbrev pairTests : Bool → View → List (Bool × ℕ)
+  pairTests joins v =
+      (indexed? v, noIndex) ∷ (ltb a (count v) && ltb b (count v), badLines) ∷ (not (idle joins v), alreadySo) ∷ []
+
+  not-twice : (c : Bool) → c ≡ not (not c)
+  not-twice true = refl
+  not-twice false = refl
+
+  tests-are : (joins : Bool) (v : View) → tests (pairAct joins a b) v ≡ pairTests joins v
+  unfolding tests
+  tests-are true v = refl
+  tests-are false v = ap (λ (c : Bool). (indexed? v, noIndex) ∷ (ltb a (count v) && ltb b (count v), badLines) ∷ (c, alreadySo) ∷ []) (not-twice (near v a b))
+
+  pub pair-means : (joins : Bool) (v : View) → Right v → count v ≤ 1024 → Means (pairAct joins a b) v [] (record { high = max a b; low = min a b; joins = joins })
+  pair-means true v r l = join-means v r l a b
+  pair-means false v r l = part-means v r l a b
+
+both : (c d : Bool) → T c → T d → T (c && d)
+both true d t u = u
+
+-- one of them is not
+not-both : (c d : Bool) → T (not c) → T (not (c && d))
+not-both false d t = tt
+
+not-second : (c d : Bool) → T (not d) → T (not (c && d))
+not-second true d t = t
+not-second false d t = tt
+
+module _ {s : List ℕ} {view n : ℕ} {x : Site} (F : Sought s view n x) where
+  abbrev v : View
+  v = viewAt (F .value) view
+
+  counted : count v ≡ n
+  counted = sym (F .at .count) ∙ F .count
+
+  block-long : length (cut s (x .index) (x .extended)) ≡ x .extended - (x .index + 2)
+  block-long = part-length s (x .index + 2) (x .extended - (x .index + 2)) (omega (arith, F .at .index .from, F .at .index .within))
+
+  not-indexed : x .extended ≤ x .index + 2 → T (not (indexed? v))
+  not-indexed l =
+      let e : v .index ≡ none = no-index (x .lines) (cut s (x .index) (x .extended)) (omega (arith, block-long)) (F .at .index .value) in
+      rw e tt
+
+  -- the index that is there
+  module _ (l : x .index + 2 < x .extended) where
+    with-index : {P : Type 0} → ((i : Index) → v .index ≡ some i → P) → P
+    with-index k = an-index (x .lines) (cut s (x .index) (x .extended)) (omega (arith, block-long)) (F .at .index .value) k
+
+    is-indexed : T (indexed? v)
+    is-indexed = with-index λ i e. rw e tt
+
+    reads-some : {i : Index} → v .index ≡ some i → indexBlock (x .lines) .dec (bitsOf (cut s (x .index) (x .extended))) ≡ got (some i) []
+    reads-some e = F .at .index .value ∙ ap (λ o. got o []) e
+
+    pub near-there : {high : ℕ} → high < x .lines → x .lines ≤ 1024 → length s ≤ 32768 → NearThere (cut s (x .index) (x .extended)) high
+    near-there h k z =
+        with-index λ i e.
+        record { short = omega (arith, block-long); lines = x .lines; few = k; below = h; value = i; behind = []; reads = reads-some e }
+
+    near-is : (a b : ℕ) {r : Bool} → Near (cut s (x .index) (x .extended)) (max a b) (min a b) r → max a b < x .lines → near v a b ≡ r
+    unfolding near
+    near-is a b N h =
+        with-index λ i e.
+        rw e (sym (N .is (x .lines) i [] (reads-some e) h))
+
+  -- ---- the order's own tests
+
+  module _ (a b : ℕ) (joins : Bool) where
+    pub no-index-there : x .extended ≤ x .index + 2 → order (pairOrder view n a b joins) s ≡ refused noIndex 0
+    no-index-there l = own-refused F (pairAct joins a b) [] (indexed? v) noIndex _ (tests-are a b joins v) tt (not-indexed l) (omega arith)
+
+    module _ (l : x .index + 2 < x .extended) where
+      abbrev lines-there : Bool
+      lines-there = ltb a (count v) && ltb b (count v)
+
+      bad-pair : T (not lines-there) → order (pairOrder view n a b joins) s ≡ refused badLines 0
+      bad-pair t = own-refused F (pairAct joins a b) ((indexed? v, noIndex) ∷ []) lines-there badLines _ (tests-are a b joins v) (is-indexed l, tt) t (omega arith)
+
+      pub no-first : x .lines ≤ a → order (pairOrder view n a b joins) s ≡ refused badLines 0
+      no-first k = bad-pair (not-both (ltb a (count v)) (ltb b (count v)) (no-ltb {a = a} (omega (arith, F .at .count))))
+
+      pub no-second : x .lines ≤ b → order (pairOrder view n a b joins) s ≡ refused badLines 0
+      no-second k = bad-pair (not-second (ltb a (count v)) (ltb b (count v)) (no-ltb {a = b} (omega (arith, F .at .count))))
+
+      module _ (p : a < x .lines) (q : b < x .lines) {r : Bool} (N : Near (cut s (x .index) (x .extended)) (max a b) (min a b) r) where
+        there : T lines-there
+        there = both (ltb a (count v)) (ltb b (count v)) (yes-ltb {a = a} (omega (arith, F .at .count))) (yes-ltb {a = b} (omega (arith, F .at .count)))
+
+        near-so : near v a b ≡ r
+        near-so = near-is l a b N (omega arith)
+
+        idle-is : {w : Bool} → w ≡ pick joins r (not r) → idle a b joins v ≡ w
+        idle-is e = ap (λ (c : Bool). pick joins c (not c)) near-so ∙ sym e
+
+        pub nothing-to-do : {w : Bool} → w ≡ pick joins r (not r) → w ≡ true → order (pairOrder view n a b joins) s ≡ refused alreadySo 0
+        nothing-to-do e t =
+            own-refused F (pairAct joins a b) ((indexed? v, noIndex) ∷ (lines-there, badLines) ∷ []) (not (idle a b joins v)) alreadySo [] (tests-are a b joins v) (is-indexed l, (there, tt))
+            (subst (λ (c : Bool). T (not (not c))) (sym (idle-is e ∙ t)) tt) (omega arith)
+
+        pub pair-passes : {w : Bool} → w ≡ pick joins r (not r) → w ≡ false → Pass (tests (pairAct joins a b) v)
+        pair-passes e t = rw (tests-are a b joins v) (is-indexed l, (there, (subst (λ (c : Bool). T (not c)) (sym (idle-is e ∙ t)) tt, tt)))

@@ -1,0 +1,108 @@
+-- An order on a view that is found: its own tests, by what code sees of the view's blocks; and what the view then brings to the order.
+use mathlib.Core.Path.{_≡_, refl, sym, ap, _∙_}
+use Prim.Native.Nat.{ℕ, _+_, _-_, _*_, _≤_, _<_}
+use native.Mathlib.Omega.{arith}
+use mathlib.Core.Bool.{Bool, true, false, not}
+use mathlib.Core.Option.{Option, none, some}
+use mathlib.Core.List.{List, [], _∷_, _++_}
+use lib.ListN.{length, length-append}
+use lib.Dec.{T}
+use Rattle.bits.specs.Lists.{All, empty?}
+use Rattle.bits.specs.Bytes.{Byte}
+use Rattle.outcome.specs.Refusals.{badLines, extended}
+use Rattle.outcome.specs.Outcome.{refused}
+use Rattle.format.specs.Index.{Index, indexBlock}
+use Rattle.format.specs.Segments.{Segment, segment, segment-length, segments}
+use Rattle.format.specs.View.{View}
+use Rattle.format.specs.Record.{Record, Allowed}
+use Rattle.format.specs.Places.{viewAt, count}
+use Rattle.format.proofs.Laws.Record.{read-back}
+use Rattle.orders.specs.Listed.{listed}
+use Rattle.orders.specs.Act.{Act, remove, indexed?}
+use Rattle.orders.specs.Order.{Order, linesOk, tests, order}
+use Rattle.orders.proofs.Laws.Accept.{Pass}
+use Rattle.orders.proofs.Laws.Refuse.{verdict-own, order-refused}
+use Rattle.orders.proofs.Laws.Keep.{allowed-right}
+use Rattle.orders.proofs.Laws.Right.{Right}
+use Rattle.survivors.specs.Rank.{Rising}
+use Rattle.survivors.proofs.Laws.Listed.{lines-rise}
+use Rattle.locate.specs.Stands.{BlockAt}
+use Rattle.locate.proofs.Laws.Blocks.{cut, block-bits, few-lines, no-index}
+use Rattle.locate.proofs.Laws.Index.{an-index}
+use Rattle.relist.specs.declared.lists.Change.{Change}
+use Rattle.rebuild.specs.Rebuilt.{Means, Placed}
+use Rattle.rebuild.specs.declared.site.Site.{Site}
+use Rattle.rebuild.proofs.Laws.Acts.{remove-means, keeps}
+use Rattle.ordering.specs.Orders.{removal, Sought, Tested}
+
+-- ---- segments: an extended length of 0 has none
+
+module _ {s : List ℕ} {b e : ℕ} where
+  pub no-segments : (gs : List Segment) → BlockAt segments s b e gs → e ≤ b + 2 → T (empty? gs)
+  unfolding segments
+  no-segments [] h l = tt
+  no-segments (g ∷ gs) h l = absurd (omega (arith, block-bits h, length-append (segment .enc g) (segments .enc gs), segment-length g))
+
+  pub some-segments : (gs : List Segment) → BlockAt segments s b e gs → b + 2 < e → T (not (empty? gs))
+  unfolding segments
+  some-segments [] h l = absurd (omega (arith, block-bits h))
+  some-segments (g ∷ gs) h l = tt
+
+module _ {s : List ℕ} {view n : ℕ} {x : Site} (F : Sought s view n x) where
+  abbrev v : View
+  v = viewAt (F .value) view
+
+  abbrev named : Act → Order
+  named a = record { view = view; count = n; act = a }
+
+  counted : count v ≡ n
+  counted = sym (F .at .count) ∙ F .count
+
+  -- ---- the order's own tests
+
+  pub own-refused : (a : Act) (ts : List (Bool × ℕ)) (b : Bool) (k : ℕ) (us : List (Bool × ℕ)) → tests a v ≡ ts ++ (b, k) ∷ us → Pass ts → T (not b) → 0 < k
+      → order (named a) s ≡ refused k 0
+  own-refused a ts b k us e h q z = order-refused (named a) s (F .reads) k (verdict-own (named a) (F .value) (F .at .there) counted ts b k us e h q) z
+
+  pub tested : (a : Act) → Pass (tests a v) → Tested (named a) (F .value)
+  tested a p = record { place = F .at .there; count = counted; own = p }
+
+  module _ (f : All Byte s) where
+    pub right : Right v
+    right = allowed-right (F .value) (read-back s (F .value) [] f (F .reads) .0) view (F .at .there)
+
+    pub few : count v ≤ 1024
+    few = few-lines (x .widths) (F .at .lines)
+
+    pub placed : {a : Act} {rs : List ℕ} {ch : Change} → Rising rs → Means a v rs ch → Pass (tests a v) → Placed s x ch rs
+    placed h M p = record { value = F .value; reads = F .reads; view = view; at = F .at; rising = h; keeps = keeps M right few p }
+
+  -- ---- a removal
+
+  module _ (lines : List ℕ) where
+    abbrev act : Act
+    act = remove (listed lines)
+
+    pub bad-lines : linesOk n (listed lines) ≡ false → order (removal view n lines) s ≡ refused badLines 0
+    unfolding tests
+    bad-lines e = own-refused act [] (linesOk (count v) (listed lines)) badLines _ refl tt (rw (counted, e) tt) (omega arith)
+
+    module _ (e : linesOk n (listed lines) ≡ true) where
+      good : T (linesOk (count v) (listed lines))
+      good = rw (counted, e) tt
+
+      pub rises : Rising lines
+      rises = lines-rise n lines e .0
+
+      pub has-segments : x .extended + 2 < x .end → order (removal view n lines) s ≡ refused extended 0
+      unfolding tests
+      has-segments l = own-refused act ((linesOk (count v) (listed lines), badLines) ∷ []) (empty? (v .segments)) extended [] refl (good, tt) (some-segments (v .segments) (F .at .segments) l) (omega arith)
+
+      module _ (l : x .end ≤ x .extended + 2) where
+        pub removal-passes : Pass (tests act v)
+        unfolding tests
+        removal-passes = (good, (no-segments (v .segments) (F .at .segments) l, tt))
+
+        module _ (f : All Byte s) where
+          pub removal-means : Means act v lines (record { high = n; low = 0; joins = false })
+          removal-means = remove-means v (right f) (few f) lines _ rises (omega (arith, counted))

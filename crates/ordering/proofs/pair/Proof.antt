@@ -1,0 +1,57 @@
+-- The view, then the order on it.
+use mathlib.Core.Path.{subst}
+use Rattle.outcome.proofs.Laws.{answer-refused}
+use Rattle.ordering.specs.Orders.{pairAct, Sought, Finds}
+use Rattle.ordering.specs.declared.Found.{Found}
+use borrow.Author.Needs.{needs}
+use Rattle.ordering.proofs.pair.Statement.{statement}
+use Rattle.ordering.proofs.pair.Tie as tie
+use Rattle.ordering.proofs.pair.Reads as reads
+use Rattle.ordering.proofs.pair.Lts as lts
+use Rattle.ordering.proofs.find.Reads as find-reads
+use Rattle.ordering.proofs.pair_at.Reads as pair-at-reads
+use Rattle.ordering.proofs.refuse.Reads as refuse-reads
+
+found : (c : tie.After-site) → Sought (c .before .before .before .before .before .args .bytes .now) (c .before .before .before .before .before .args .view) (c .before .before .before .before .before .args .count) (c .site .given .0 .0)
+found c = subst (λ (r : Found). Finds (c .before .before .before .before .before .args .bytes .now) (c .before .before .before .before .before .args .view) (c .before .before .before .before .before .args .count) r) (c .site .given .1) (c .before .before .find .ensures)
+
+find-requires : tie.Need-find-requires
+find-requires c κs = search needs
+
+enum-known-number : tie.Need-enum-known-number
+enum-known-number c = search needs
+
+refuse-requires : tie.Need-refuse-requires
+refuse-requires c κs = search needs
+
+enum-known-site : tie.Need-enum-known-site
+enum-known-site c = search needs
+
+pair-at-requires : tie.Need-pair-at-requires
+pair-at-requires c κs =
+    let f = found (c .before .before) in record { value = f .value; reads = f .reads; view = c .before .before .before .before .before .before .before .args .view; at = f .at }
+
+returns : tie.Need-returns
+returns c =
+    let (p, e) = subst (λ (r : Found). Finds (c .before .before .before .before .before .before .before .args .bytes .now) (c .before .before .before .before .before .before .before .args .view) (c .before .before .before .before .before .before .before .args .count) r) (c .before .before .number .given .1) (c .before .before .before .before .find .ensures) (pairAct (c .before .before .before .before .before .before .before .args .joins) (c .before .before .before .before .before .before .before .args .a) (c .before .before .before .before .before .before .before .args .b)) in
+    rw (c .refuse .ensures) (answer-refused (λ xs. xs) _ (c .before .before .before .before .before .before .before .args .out .now) e)
+
+same-length : tie.Need-same-length
+same-length c = search needs
+
+returns-2 : tie.Need-returns-2
+returns-2 c =
+    c .before .before .pair-at .ensures .is (c .before .before .before .before .before .before .before .before .before .before .args .view) (c .before .before .before .before .before .before .before .before .before .before .args .count) (found (c .before .before .before .before .before))
+
+pub pair-spec : {M : Type 1} → statement M
+pair-spec =
+    tie.close
+    (tie.spec
+    find-requires
+    enum-known-number
+    refuse-requires
+    enum-known-site
+    pair-at-requires
+    returns
+    same-length
+    returns-2)

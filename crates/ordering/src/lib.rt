@@ -1,0 +1,185 @@
+// Orders on a record: remove lines, join a pair, part a pair. The record is judged, the view is found and its line count compared; then
+// come the order's own tests, the size of the new record, and the room that is lent. Only then is anything written.
+ghost use mathlib.Core.Path.{_≡_};
+ghost use Prim.Native.Nat.{min, max};
+ghost use mathlib.Core.Bool.{true, false, not};
+ghost use Rattle.bits.specs.Choice.{pick};
+ghost use Rattle.outcome.specs.Outcome.{Answers};
+ghost use Rattle.orders.specs.Order.{order};
+ghost use Rattle.rebuild.specs.Rebuilt.{Placed};
+ghost use Rattle.ordering.specs.Orders.{removal, pairOrder, Finds, CarriedOut, PairThere, PairDone};
+use format::Header;
+use judge::Verdict;
+use judge::judge;
+use outcome::Answer;
+use rebuild::measure::measure;
+use rebuild::put::put;
+use rebuild::site::Site;
+use rebuild::site::site_at;
+use relist::lists::Change;
+use relist::near::are_near;
+use survivors::lines_right;
+
+// Where the view stands that an order names and was made for; or the number of the refusal.
+pub enum Found {
+    Refused(u32),
+    At(Site),
+}
+
+fn refuse(number: u32) -> Answer
+    ensures { λ r. ⌜ r ≡ record { number = number; place = 0; length = 0 } ⌝ }
+{
+    Answer {
+        number,
+        place: 0,
+        length: 0,
+    }
+}
+
+// The view of any bytes: 1 to 12, 13, 14.
+fn find(bytes: &[u8], view: usize, count: usize) -> Found
+    ensures { λ r. ⌜ Finds (now (bytes .entry)) view count r ⌝ }
+{
+    match judge(bytes) {
+        Verdict::Refused(number, _) => Found::Refused(number),
+        Verdict::Accepted(header, views, _) => {
+            if view < views {
+                let scale = header.scale;
+                let site = site_at(bytes, view, scale.widths);
+                if site.lines == count {
+                    Found::At(site)
+                } else {
+                    Found::Refused(14)
+                }
+            } else {
+                Found::Refused(13)
+            }
+        }
+    }
+}
+
+// An order that has passed its own tests: 19, 20, and the new record.
+fn carry_out(bytes: &[u8], site: Site, change: Change, removal: &[u8], out: &mut [u8]) -> Answer
+    requires { ⌜ Placed (now bytes) site change (now removal) ⌝ }
+    ensures { λ r. ⌜ CarriedOut (now (bytes .entry)) site change (now (removal .entry)) (now (out .entry)) (now (out .exit)) r ⌝ }
+{
+    let sizes = measure(bytes, site, change, removal);
+    if Header::MOST_BYTES < sizes.bytes {
+        return refuse(19);
+    }
+    if out.len() < sizes.bytes {
+        return refuse(20);
+    }
+    let length = put(out, bytes, site, change, removal, sizes);
+    Answer {
+        number: 0,
+        place: 0,
+        length,
+    }
+}
+
+// Lines removed: the numbers of `lines`, two bytes each, high byte first. 15, 16 are its own.
+pub fn remove(bytes: &[u8], view: usize, count: usize, lines: &[u8], out: &mut [u8]) -> Answer
+    ensures { λ r. ⌜ Answers (order (removal view count (now (lines .entry))) (now (bytes .entry))) (now (out .entry)) (now (out .exit)) r ⌝ }
+{
+    match find(bytes, view, count) {
+        Found::Refused(number) => refuse(number),
+        Found::At(site) => {
+            if lines_right(lines, count) {
+                if site.extended + 2 < site.end {
+                    refuse(16)
+                } else {
+                    let change = Change {
+                        high: count,
+                        low: 0,
+                        joins: false,
+                    };
+                    carry_out(bytes, site, change, lines, out)
+                }
+            } else {
+                refuse(15)
+            }
+        }
+    }
+}
+
+// What a pair order changes: the list of the higher line, in which the lower one stands.
+fn pair_of(a: usize, b: usize, joins: bool) -> Change
+    ensures { λ r. ⌜ r ≡ record { high = max a b; low = min a b; joins = joins } ⌝ }
+{
+    if a < b {
+        Change {
+            high: b,
+            low: a,
+            joins,
+        }
+    } else {
+        Change {
+            high: a,
+            low: b,
+            joins,
+        }
+    }
+}
+
+// Join of neighbours, or part of two that are not.
+fn already_so(near: bool, joins: bool) -> bool
+    ensures { λ r. ⌜ r ≡ pick joins near (not near) ⌝ }
+{
+    if joins { near } else { !near }
+}
+
+// A pair order on the view that is found: 17, 15, 18 are its own.
+fn pair_at(bytes: &[u8], site: Site, a: usize, b: usize, joins: bool, out: &mut [u8]) -> Answer
+    requires { ⌜ PairThere (now bytes) site ⌝ }
+    ensures { λ r. ⌜ PairDone (now (bytes .entry)) site a b joins (now (out .entry)) (now (out .exit)) r ⌝ }
+{
+    let from = site.index + 2;
+    let to = site.extended;
+    if to <= from {
+        return refuse(17);
+    }
+    if site.lines <= a {
+        return refuse(15);
+    }
+    if site.lines <= b {
+        return refuse(15);
+    }
+    let change = pair_of(a, b, joins);
+    let near = are_near(&bytes[from..to], change.high, change.low);
+    if already_so(near, joins) {
+        return refuse(18);
+    }
+    carry_out(bytes, site, change, &bytes[0..0], out)
+}
+
+fn pair(
+    bytes: &[u8],
+    view: usize,
+    count: usize,
+    a: usize,
+    b: usize,
+    joins: bool,
+    out: &mut [u8],
+) -> Answer
+    ensures { λ r. ⌜ Answers (order (pairOrder view count a b joins) (now (bytes .entry))) (now (out .entry)) (now (out .exit)) r ⌝ }
+{
+    match find(bytes, view, count) {
+        Found::Refused(number) => refuse(number),
+        Found::At(site) => pair_at(bytes, site, a, b, joins, out),
+    }
+}
+
+// Lines a and b made neighbours.
+pub fn join(bytes: &[u8], view: usize, count: usize, a: usize, b: usize, out: &mut [u8]) -> Answer
+    ensures { λ r. ⌜ Answers (order (pairOrder view count a b true) (now (bytes .entry))) (now (out .entry)) (now (out .exit)) r ⌝ }
+{
+    pair(bytes, view, count, a, b, true, out)
+}
+
+// Lines a and b made neighbours no more.
+pub fn part(bytes: &[u8], view: usize, count: usize, a: usize, b: usize, out: &mut [u8]) -> Answer
+    ensures { λ r. ⌜ Answers (order (pairOrder view count a b false) (now (bytes .entry))) (now (out .entry)) (now (out .exit)) r ⌝ }
+{
+    pair(bytes, view, count, a, b, false, out)
+}
