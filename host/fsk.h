@@ -79,7 +79,11 @@ enum {
     FSK_BAD_SEGMENT = 11,
     FSK_BYTES_OVER = 12,
     FSK_NO_VIEW = 13,
+    FSK_OTHER_COUNT = 14,
     FSK_BAD_LINES = 15,
+    FSK_EXTENDED = 16,
+    FSK_NO_INDEX = 17,
+    FSK_ALREADY_SO = 18,
     FSK_TOO_LONG = 19,
     FSK_NO_ROOM = 20,
     FSK_BAD_SHEET = 21,
@@ -130,6 +134,36 @@ fsk_answer fsk_trail(const uint8_t *record, size_t record_length, uint32_t view,
  * view, segment: counted from 0. Refuses: 1 to 12, 13, 23.
  */
 fsk_answer fsk_segment(const uint8_t *record, size_t record_length, uint32_t view, uint32_t segment);
+
+/*
+ * An ORDER writes a new record to a second buffer; the old one is only read. It names a view (counted from 0) and the number of lines
+ * that it was made for: where the view has another number of lines by now, it is refused with 14. So a removal that comes again after
+ * it was accepted is refused, and nothing is lost. All that is not ordered stays; but in a view with an index, the index is written at
+ * the least width that holds it, so that a record may become longer. 32,768 bytes always suffice. fsk_holds tells which record holds
+ * after an order; it is what the next order is for.
+ */
+
+/*
+ * Removes lines from a view; those behind them move up and get new numbers, and a removed line leaves all lists of neighbours.
+ * lines: their numbers, counted from 0 and rising, as 16-bit numbers, high byte first: two bytes each.
+ * Writes bytes. Refuses: 1 to 12, 13, 14, 15, 16, 19, 20.
+ */
+fsk_answer fsk_remove(const uint8_t *record, size_t record_length, uint32_t view, uint32_t count, const uint8_t *lines,
+                      size_t lines_length, uint8_t *second, size_t second_length);
+
+/*
+ * Makes two lines of a view neighbours; a line may be its own neighbour.
+ * Writes bytes. Refuses: 1 to 12, 13, 14, 17, 15, 18, 19, 20.
+ */
+fsk_answer fsk_join(const uint8_t *record, size_t record_length, uint32_t view, uint32_t count, uint32_t line, uint32_t other,
+                    uint8_t *second, size_t second_length);
+
+/*
+ * Makes two lines of a view neighbours no more.
+ * Writes bytes. Refuses: 1 to 12, 13, 14, 17, 15, 18, 19, 20.
+ */
+fsk_answer fsk_part(const uint8_t *record, size_t record_length, uint32_t view, uint32_t count, uint32_t line, uint32_t other,
+                    uint8_t *second, size_t second_length);
 
 /*
  * Which record now holds after an order: the old one, or what the order wrote to a second buffer. number and length are those of the

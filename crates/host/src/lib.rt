@@ -1,13 +1,18 @@
 // The calls that a host written in C links. Each is a call of the library under its C name; host/fsk.h explains them.
 ghost use mathlib.Core.Path.{_≡_};
+ghost use mathlib.Core.Bool.{true, false};
 ghost use Rattle.outcome.specs.Outcome.{Answers};
 ghost use Rattle.sheet.specs.Sheet.{reading, writing};
 ghost use Rattle.trail.specs.Trail.{trailing};
 ghost use Rattle.trace.specs.Trace.{AnswersInBytes};
 ghost use Rattle.lookup.specs.Segment.{segmentAnswer};
-ghost use Rattle.orders.specs.Order.{heldAnswer};
+ghost use Rattle.orders.specs.Order.{order, heldAnswer};
+ghost use Rattle.ordering.specs.Orders.{removal, pairOrder};
 use holds::which_holds;
 use lookup::segment::segment;
+use ordering::join;
+use ordering::part;
+use ordering::remove;
 use outcome::Answer;
 use reading::read;
 use trace::trail_as_bytes;
@@ -39,6 +44,61 @@ pub extern "C" fn fsk_segment(bytes: &[u8], view: u32, place: u32) -> Answer
     ensures { λ r. ⌜ r ≡ segmentAnswer view place (now (bytes .entry)) ⌝ }
 {
     segment(bytes, view as usize, place as usize)
+}
+
+#[no_mangle]
+pub extern "C" fn fsk_remove(
+    bytes: &[u8],
+    view: u32,
+    count: u32,
+    lines: &[u8],
+    out: &mut [u8],
+) -> Answer
+    ensures { λ r. ⌜ Answers (order (removal view count (now (lines .entry))) (now (bytes .entry))) (now (out .entry)) (now (out .exit)) r ⌝ }
+{
+    remove(bytes, view as usize, count as usize, lines, out)
+}
+
+#[no_mangle]
+pub extern "C" fn fsk_join(
+    bytes: &[u8],
+    view: u32,
+    count: u32,
+    a: u32,
+    b: u32,
+    out: &mut [u8],
+) -> Answer
+    ensures { λ r. ⌜ Answers (order (pairOrder view count a b true) (now (bytes .entry))) (now (out .entry)) (now (out .exit)) r ⌝ }
+{
+    join(
+        bytes,
+        view as usize,
+        count as usize,
+        a as usize,
+        b as usize,
+        out,
+    )
+}
+
+#[no_mangle]
+pub extern "C" fn fsk_part(
+    bytes: &[u8],
+    view: u32,
+    count: u32,
+    a: u32,
+    b: u32,
+    out: &mut [u8],
+) -> Answer
+    ensures { λ r. ⌜ Answers (order (pairOrder view count a b false) (now (bytes .entry))) (now (out .entry)) (now (out .exit)) r ⌝ }
+{
+    part(
+        bytes,
+        view as usize,
+        count as usize,
+        a as usize,
+        b as usize,
+        out,
+    )
 }
 
 #[no_mangle]

@@ -9,3 +9,4 @@ pub mod Keep
 pub mod Story
 pub mod Sequence
 pub mod Holds
+pub mod Calls

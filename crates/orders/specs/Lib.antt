@@ -4,3 +4,4 @@ pub mod Least
 pub mod Act
 pub mod Order
 pub mod History
+pub mod Made

@@ -15,7 +15,7 @@ use Rattle.outcome.specs.Outcome.{Outcome, refused, given, room, numberO
 use Rattle.outcome.specs.declared.Answer.{Answer}
 
 -- two answers with the same three numbers are one
-same-answer : (a b : Answer) → a .number ≡ b .number → a .place ≡ b .place → a .length ≡ b .length → a ≡ b
+pub same-answer : (a b : Answer) → a .number ≡ b .number → a .place ≡ b .place → a .length ≡ b .length → a ≡ b
 same-answer a b p q r = λ i. record { number = p i; place = q i; length = r i }
 
 -- given room, the outcome is what it is

@@ -1,6 +1,7 @@
 -- WHAT THE LIBRARY PROMISES. Each promise is a statement; its proof is one citation. Every name in a statement leads to one
 -- definition: `read`, `write`, `Allowed` (format/specs/Record), `reading`, `writing` (sheet/specs/Sheet), `Outcome`, `AnswersAs`,
--- `Gave` (outcome/specs/Outcome), `Order`, `verdict`, `edited` (orders/specs/Order), `Call`, `run`, `Follows` (orders/specs/History).
+-- `Gave` (outcome/specs/Outcome), `Order`, `verdict`, `edited` (orders/specs/Order), `Call`, `run`, `Follows` (orders/specs/History), `MadeAll`
+-- (orders/specs/Made).
 use mathlib.Core.Path.{_≡_}
 use mathlib.Core.Logic.{_≢_}
 use Prim.Native.Nat.{ℕ, _*_, _≤_}
@@ -29,13 +30,15 @@ use Rattle.sheet.proofs.Laws.BothWays as B
 use Rattle.sheet.proofs.Laws.Refuses as G
 use Rattle.orders.specs.Least.{leastWidth}
 use Rattle.orders.specs.Act.{remove}
-use Rattle.orders.specs.Order.{Order, edited, verdict, holds}
+use Rattle.orders.specs.Order.{Order, edited, verdict, order, holds}
 use Rattle.orders.specs.History.{Call, outcome, nowHolds, run}
+use Rattle.orders.specs.Made.{MadeAll}
 use Rattle.orders.proofs.Laws.Least as L
 use Rattle.orders.proofs.Laws.Accept as A
 use Rattle.orders.proofs.Laws.Keep as K
 use Rattle.orders.proofs.Laws.Sequence as Q
 use Rattle.orders.proofs.Laws.Holds as H
+use Rattle.orders.proofs.Laws.Calls as N
 use Rattle.promises.specs.Samples.{expected, computed, table}
 use Rattle.promises.proofs.Samples as P
 
@@ -114,11 +117,30 @@ refused-stays = Q.refused-stays
 pub orders-follow : (cs : List Call) (bytes : List ℕ) (r : Record) → All Byte bytes → read bytes ≡ C.got r [] → Q.Kept cs r bytes
 orders-follow = Q.orders-follow
 
+-- the calls themselves, whose contracts are `Answers (order o record)` (ordering/src) and `holds` (holds/src): made one behind the other,
+-- each lent the record that then holds, they come to the record of the sequence
+pub calls-run : (cs : List Call) (bytes last : List ℕ) → MadeAll cs bytes last → last ≡ run cs bytes
+calls-run = N.calls-run
+
+pub calls-follow : (cs : List Call) (bytes last : List ℕ) (r : Record) → All Byte bytes → read bytes ≡ C.got r [] → MadeAll cs bytes last
+    → (k : Q.Kept cs r bytes) × (read last ≡ C.got (k .last) [])
+calls-follow = N.calls-follow
+
 -- a removal, once accepted, is refused with 14 wherever it comes again, whatever room is lent
 pub removal-again : (c : Call) (rs : List ℕ) (cs : List Call) (bytes : List ℕ) (r : Record) → All Byte bytes → read bytes ≡ C.got r []
     → c .order .act ≡ remove rs → numberOf (outcome c bytes) ≡ 0
     → (n : ℕ) → outcome (record { order = c .order; lent = n }) (run cs (nowHolds bytes (outcome c bytes))) ≡ refused otherCount 0
 removal-again = Q.removal-again
+
+-- THE REPEATED HOUR: a call for a removal answers 0; the same removal is called for again, on the record that then holds. It is
+-- refused with 14, the second buffer is as it was, and the same record holds. A function that makes these calls (src/remove_twice)
+-- has that as its contract (`OnlyOnce`); P3 and P4 of the samples are such a pair.
+pub repeated-hour : (o : Order) {rs : List ℕ} → o .act ≡ remove rs → (bytes : List ℕ) → All Byte bytes
+    → {before after : List ℕ} {a : Answer} → Answers (order o bytes) before after a → a .number ≡ 0
+    → {before₂ after₂ : List ℕ} {b : Answer} → Answers (order o (holds bytes after (a .number) (a .length))) before₂ after₂ b
+    → (b ≡ record { number = otherCount; place = 0; length = 0 }) × (after₂ ≡ before₂)
+    × (holds (holds bytes after (a .number) (a .length)) after₂ (b .number) (b .length) ≡ holds bytes after (a .number) (a .length))
+repeated-hour = N.repeated
 
 -- the record that now holds, found from the answer and the second buffer, is the one that the sequence goes on with
 pub holds-now : (c : Call) (bytes second : List ℕ)

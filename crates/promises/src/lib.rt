@@ -1,6 +1,9 @@
 // What the library promises. The samples of document 01 are in specs/, the promises and their proofs in proofs/. The functions here
-// make the calls that demand 2 is about one behind the other, so that it is proved of what runs.
-ghost use Rattle.promises.specs.Calls.{RecordBack, SheetBack};
+// make calls one behind the other, as demands 2 and 3 have them, so that it is proved of what runs.
+ghost use Rattle.ordering.specs.Orders.{removal};
+ghost use Rattle.promises.specs.Calls.{RecordBack, SheetBack, OnlyOnce};
+use holds::now_holds;
+use ordering::remove;
 use outcome::Answer;
 use reading::read;
 use writing::write;
@@ -27,4 +30,20 @@ pub fn write_then_read(sheet: &[u8], bytes: &mut [u8], again: &mut [u8]) -> Answ
     }
     let length = first.length;
     read(&bytes[0..length], again)
+}
+
+// The repeated hour: a removal, the record that then holds, and the same removal on it.
+pub fn remove_twice(
+    bytes: &[u8],
+    view: usize,
+    count: usize,
+    lines: &[u8],
+    second: &mut [u8],
+    third: &mut [u8],
+) -> Answer
+    ensures { λ r. ⌜ OnlyOnce (removal view count (now (lines .entry))) (now (bytes .entry)) (now (second .entry)) (now (third .entry)) (now (third .exit)) r ⌝ }
+{
+    let first = remove(bytes, view, count, lines, second);
+    let record = now_holds(bytes, second, first.number, first.length);
+    remove(record, view, count, lines, third)
 }

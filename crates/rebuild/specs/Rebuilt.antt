@@ -5,8 +5,6 @@ use Prim.Native.Nat.{ℕ, _≤_}
 use mathlib.Core.Option.{some}
 use mathlib.Core.List.{List, []}
 use lib.ListN.{length, set}
-use Rattle.bits.specs.Lists.{All}
-use Rattle.bits.specs.Bytes.{Byte}
 use Rattle.bits.specs.Codec.{got}
 use Rattle.lay.specs.Laid.{Laid}
 use Rattle.format.specs.Index.{Index}

@@ -10,9 +10,7 @@ use Rattle.format.specs.Segments.{Segment}
 use Rattle.format.specs.View.{View}
 use Rattle.format.specs.Record.{Record}
 use Rattle.format.specs.declared.End.{End}
-use Rattle.format.specs.declared.Scale.{Scale}
 use Rattle.format.specs.declared.Header.{Header}
-use Rattle.format.specs.declared.ViewHeader.{ViewHeader}
 use Rattle.sheet.specs.Code.{extended}
 use Rattle.locate.specs.Stored.{headBytes, scaleBytes}
 

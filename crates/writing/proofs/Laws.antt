@@ -18,7 +18,6 @@ use Rattle.outcome.specs.Outcome.{given, Answers}
 use Rattle.outcome.proofs.Laws.{answer-refused, answer-full, answer-given}
 use Rattle.format.specs.Limits.{mostBytes}
 use Rattle.format.specs.Record.{Allowed, size}
-use Rattle.sheet.specs.Fields.{fields}
 use Rattle.sheet.specs.Grammar.{sheetIn, grammar}
 use Rattle.sheet.specs.Sheet.{recordFrom, readSheet, writes, writing}
 use Rattle.sheet.proofs.Laws.Sheet.{read-sheet}

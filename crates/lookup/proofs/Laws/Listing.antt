@@ -1,11 +1,11 @@
 -- The numbers of the listing: what code reads and counts in a view is what the listing has of it. Each count goes to the end of its
 -- block, since nothing is left there.
-use mathlib.Core.Path.{_≡_, sym, ap, _∙_}
+use mathlib.Core.Path.{_≡_, _∙_}
 use Prim.Native.Nat.{ℕ, _+_, _-_, _*_, _≤_}
 use native.Mathlib.Omega.{arith}
 use mathlib.Core.Option.{Option, Option·map}
 use mathlib.Core.List.{List, [], _∷_, _++_, append-assoc}
-use lib.ListN.{length, take, drop, length-drop}
+use lib.ListN.{length, take, drop}
 use lib.Seq.{length-take-le}
 use lib.Dec.{ltb}
 use borrow.Author.Tests.{lt-ltb, le-ltb}
@@ -19,7 +19,7 @@ use Rattle.bits.specs.Block.{Block}
 use Rattle.bits.specs.Reads.{found, Reads}
 use Rattle.bits.proofs.Laws.Parts.{part-length, part-bytes}
 use Rattle.outcome.specs.Refusals.{badView}
-use Rattle.format.specs.Line.{Line, skeleton}
+use Rattle.format.specs.Line.{skeleton}
 use Rattle.format.specs.Index.{Index, indexBlock}
 use Rattle.format.specs.Segments.{Segment, segment-length, segments}
 use Rattle.format.specs.View.{View, FitsHead, headFields}

@@ -1,13 +1,12 @@
 -- The first refusals of an order, whatever it orders: the judge's, no view with its place, another line count.
-use mathlib.Core.Path.{_≡_, sym, ap, _∙_}
+use mathlib.Core.Path.{_≡_, _∙_}
 use mathlib.Core.Logic.{_≢_}
-use Prim.Native.Nat.{ℕ, _≤_, _<_}
+use Prim.Native.Nat.{ℕ, _≤_}
 use native.Mathlib.Omega.{arith}
 use mathlib.Core.List.{List, []}
 use lib.ListN.{length}
 use Rattle.bits.specs.Codec.{got}
 use Rattle.outcome.specs.Refusals.{noView, otherCount}
-use Rattle.outcome.specs.Outcome.{refused}
 use Rattle.format.specs.Record.{Record, read}
 use Rattle.judge.specs.Judge.{Judges}
 use Rattle.judge.specs.declared.Verdict.the-variants.{Refused}

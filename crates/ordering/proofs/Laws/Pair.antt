@@ -3,14 +3,13 @@ use mathlib.Core.Path.{_≡_, refl, sym, ap, _∙_, subst}
 use Prim.Native.Nat.{ℕ, _+_, _-_, _≤_, _<_, min, max}
 use native.Mathlib.Omega.{arith}
 use mathlib.Core.Bool.{Bool, true, false, not, _&&_}
-use mathlib.Core.Option.{Option, none, some, Option·map}
+use mathlib.Core.Option.{none, some}
 use mathlib.Core.List.{List, [], _∷_}
-use lib.ListN.{length, getD}
+use lib.ListN.{length}
 use lib.Dec.{T, ltb}
 use mir.Facts.{yes-ltb, no-ltb}
 use Rattle.bits.specs.Choice.{pick}
-use Rattle.bits.specs.Lists.{All}
-use Rattle.bits.specs.Bytes.{Byte, bitsOf}
+use Rattle.bits.specs.Bytes.{bitsOf}
 use Rattle.bits.specs.Codec.{got}
 use Rattle.bits.proofs.Laws.Parts.{part-length}
 use Rattle.outcome.specs.Refusals.{badLines, noIndex, alreadySo}
@@ -18,8 +17,7 @@ use Rattle.outcome.specs.Outcome.{refused}
 use Rattle.format.specs.Index.{Index, indexBlock}
 use Rattle.format.specs.View.{View}
 use Rattle.format.specs.Places.{viewAt, count}
-use Rattle.orders.specs.Survive.{elem}
-use Rattle.orders.specs.Act.{Act, indexed?, near}
+use Rattle.orders.specs.Act.{indexed?, near}
 use Rattle.orders.specs.Order.{tests, order}
 use Rattle.orders.proofs.Laws.Accept.{Pass}
 use Rattle.orders.proofs.Laws.Right.{Right}
@@ -27,7 +25,6 @@ use Rattle.survivors.specs.Rank.{Rising}
 use Rattle.locate.proofs.Laws.Blocks.{cut, no-index}
 use Rattle.locate.proofs.Laws.Index.{an-index}
 use Rattle.relist.specs.Near.{NearThere, Near}
-use Rattle.relist.specs.declared.lists.Change.{Change}
 use Rattle.rebuild.specs.Rebuilt.{Means}
 use Rattle.rebuild.specs.declared.site.Site.{Site}
 use Rattle.rebuild.proofs.Laws.Acts.{join-means, part-means}
@@ -78,9 +75,6 @@ not-second false d t = tt
 module _ {s : List ℕ} {view n : ℕ} {x : Site} (F : Sought s view n x) where
   abbrev v : View
   v = viewAt (F .value) view
-
-  counted : count v ≡ n
-  counted = sym (F .at .count) ∙ F .count
 
   block-long : length (cut s (x .index) (x .extended)) ≡ x .extended - (x .index + 2)
   block-long = part-length s (x .index + 2) (x .extended - (x .index + 2)) (omega (arith, F .at .index .from, F .at .index .within))

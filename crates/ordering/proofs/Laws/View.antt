@@ -1,24 +1,21 @@
 -- An order on a view that is found: its own tests, by what code sees of the view's blocks; and what the view then brings to the order.
-use mathlib.Core.Path.{_≡_, refl, sym, ap, _∙_}
-use Prim.Native.Nat.{ℕ, _+_, _-_, _*_, _≤_, _<_}
+use mathlib.Core.Path.{_≡_, refl, sym, _∙_}
+use Prim.Native.Nat.{ℕ, _+_, _-_, _≤_, _<_}
 use native.Mathlib.Omega.{arith}
 use mathlib.Core.Bool.{Bool, true, false, not}
-use mathlib.Core.Option.{Option, none, some}
 use mathlib.Core.List.{List, [], _∷_, _++_}
-use lib.ListN.{length, length-append}
+use lib.ListN.{length-append}
 use lib.Dec.{T}
 use Rattle.bits.specs.Lists.{All, empty?}
 use Rattle.bits.specs.Bytes.{Byte}
 use Rattle.outcome.specs.Refusals.{badLines, extended}
 use Rattle.outcome.specs.Outcome.{refused}
-use Rattle.format.specs.Index.{Index, indexBlock}
 use Rattle.format.specs.Segments.{Segment, segment, segment-length, segments}
 use Rattle.format.specs.View.{View}
-use Rattle.format.specs.Record.{Record, Allowed}
 use Rattle.format.specs.Places.{viewAt, count}
 use Rattle.format.proofs.Laws.Record.{read-back}
 use Rattle.orders.specs.Listed.{listed}
-use Rattle.orders.specs.Act.{Act, remove, indexed?}
+use Rattle.orders.specs.Act.{Act, remove}
 use Rattle.orders.specs.Order.{Order, linesOk, tests, order}
 use Rattle.orders.proofs.Laws.Accept.{Pass}
 use Rattle.orders.proofs.Laws.Refuse.{verdict-own, order-refused}
@@ -27,8 +24,7 @@ use Rattle.orders.proofs.Laws.Right.{Right}
 use Rattle.survivors.specs.Rank.{Rising}
 use Rattle.survivors.proofs.Laws.Listed.{lines-rise}
 use Rattle.locate.specs.Stands.{BlockAt}
-use Rattle.locate.proofs.Laws.Blocks.{cut, block-bits, few-lines, no-index}
-use Rattle.locate.proofs.Laws.Index.{an-index}
+use Rattle.locate.proofs.Laws.Blocks.{block-bits, few-lines}
 use Rattle.relist.specs.declared.lists.Change.{Change}
 use Rattle.rebuild.specs.Rebuilt.{Means, Placed}
 use Rattle.rebuild.specs.declared.site.Site.{Site}

@@ -1,5 +1,4 @@
 -- The new record is measured; it is too long, there is no room for it, or it is put.
-use native.Mathlib.Omega.{arith}
 use Rattle.bits.specs.Lists.{All}
 use Rattle.bits.specs.Bytes.{Byte}
 use Rattle.bits.proofs.Laws.Place.{all-bytes}
@@ -7,11 +6,6 @@ use Rattle.ordering.proofs.Laws.Carry.{too-long, no-room, carried}
 use borrow.Author.Needs.{needs}
 use Rattle.ordering.proofs.carry_out.Statement.{statement}
 use Rattle.ordering.proofs.carry_out.Tie as tie
-use Rattle.ordering.proofs.carry_out.Reads as reads
-use Rattle.ordering.proofs.carry_out.Lts as lts
-use Rattle.ordering.proofs.refuse.Reads as refuse-reads
-use Rattle.rebuild.proofs.measure.measure.Reads as measure-reads
-use Rattle.rebuild.proofs.put.put.Reads as put-reads
 
 bytes : (c : tie.After-shared-slice-known) → All Byte (c .before .args .bytes .now)
 bytes c = all-bytes (c .before .args .bytes .now) (λ i. c .shared-slice-known .given i .fits)

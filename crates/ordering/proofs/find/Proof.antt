@@ -10,10 +10,6 @@ use Rattle.ordering.proofs.Laws.Find.{judged, no-view, other-count}
 use borrow.Author.Needs.{needs}
 use Rattle.ordering.proofs.find.Statement.{statement}
 use Rattle.ordering.proofs.find.Tie as tie
-use Rattle.ordering.proofs.find.Reads as reads
-use Rattle.ordering.proofs.find.Lts as lts
-use Rattle.judge.proofs.judge.Reads as judge-reads
-use Rattle.rebuild.proofs.site.site_at.Reads as site-at-reads
 
 accepted : (c : tie.After-header) → Judges (c .before .before .before .before .args .bytes .now) (Accepted (c .header .given .0 .0) (c .header .given .0 .1 .0) (c .header .given .0 .1 .1 .0))
 accepted c = subst (λ (r : Verdict). Judges (c .before .before .before .before .args .bytes .now) r) (c .header .given .1) (c .before .before .judge .ensures)

@@ -6,11 +6,6 @@ use Rattle.ordering.specs.declared.Found.{Found}
 use borrow.Author.Needs.{needs}
 use Rattle.ordering.proofs.pair.Statement.{statement}
 use Rattle.ordering.proofs.pair.Tie as tie
-use Rattle.ordering.proofs.pair.Reads as reads
-use Rattle.ordering.proofs.pair.Lts as lts
-use Rattle.ordering.proofs.find.Reads as find-reads
-use Rattle.ordering.proofs.pair_at.Reads as pair-at-reads
-use Rattle.ordering.proofs.refuse.Reads as refuse-reads
 
 found : (c : tie.After-site) → Sought (c .before .before .before .before .before .args .bytes .now) (c .before .before .before .before .before .args .view) (c .before .before .before .before .before .args .count) (c .site .given .0 .0)
 found c = subst (λ (r : Found). Finds (c .before .before .before .before .before .args .bytes .now) (c .before .before .before .before .before .args .view) (c .before .before .before .before .before .args .count) r) (c .site .given .1) (c .before .before .find .ensures)

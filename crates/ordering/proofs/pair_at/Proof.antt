@@ -1,8 +1,6 @@
 -- The order's own tests, then the new record.
 use native.Mathlib.Omega.{arith}
-use mathlib.Core.Path.{_≡_, refl}
 use Prim.Native.Nat.{min, max}
-use mathlib.Core.List.{[]}
 use Rattle.bits.specs.Lists.{All}
 use Rattle.bits.specs.Bytes.{Byte}
 use Rattle.bits.proofs.Laws.Place.{all-bytes}
@@ -17,13 +15,6 @@ use Rattle.ordering.proofs.Laws.Pair.{as-found, none-rise, pair-means, 
 use borrow.Author.Needs.{needs}
 use Rattle.ordering.proofs.pair_at.Statement.{statement}
 use Rattle.ordering.proofs.pair_at.Tie as tie
-use Rattle.ordering.proofs.pair_at.Reads as reads
-use Rattle.ordering.proofs.pair_at.Lts as lts
-use Rattle.ordering.proofs.already_so.Reads as already-so-reads
-use Rattle.ordering.proofs.carry_out.Reads as carry-out-reads
-use Rattle.ordering.proofs.pair_of.Reads as pair-of-reads
-use Rattle.ordering.proofs.refuse.Reads as refuse-reads
-use Rattle.relist.proofs.near.are_near.Reads as are-near-reads
 
 bytes : (c : tie.After-shared-slice-known) → All Byte (c .before .args .bytes .now)
 bytes c = all-bytes (c .before .args .bytes .now) (λ i. c .shared-slice-known .given i .fits)

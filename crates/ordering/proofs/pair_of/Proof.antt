@@ -2,12 +2,8 @@
 use native.Mathlib.Omega.{arith}
 use mathlib.Core.Path.{ap₂}
 use Prim.Native.Nat.{ℕ}
-use Rattle.relist.specs.declared.lists.Change.{Change}
-use borrow.Author.Needs.{needs}
 use Rattle.ordering.proofs.pair_of.Statement.{statement}
 use Rattle.ordering.proofs.pair_of.Tie as tie
-use Rattle.ordering.proofs.pair_of.Reads as reads
-use Rattle.ordering.proofs.pair_of.Lts as lts
 
 returns : tie.Need-returns
 returns c =

@@ -1,7 +1,7 @@
 -- The view, then the removal's own tests, then the new record.
 use native.Mathlib.Omega.{arith}
 use mathlib.Core.Path.{_≡_, sym, _∙_, subst}
-use mathlib.Core.Bool.{true, false}
+use mathlib.Core.Bool.{true}
 use Rattle.bits.specs.Lists.{All}
 use Rattle.bits.specs.Bytes.{Byte}
 use Rattle.bits.proofs.Laws.Place.{all-bytes}
@@ -16,12 +16,6 @@ use Rattle.ordering.proofs.Laws.View.{tested, placed, bad-lines, rises,
 use borrow.Author.Needs.{needs}
 use Rattle.ordering.proofs.remove.Statement.{statement}
 use Rattle.ordering.proofs.remove.Tie as tie
-use Rattle.ordering.proofs.remove.Reads as reads
-use Rattle.ordering.proofs.remove.Lts as lts
-use Rattle.ordering.proofs.carry_out.Reads as carry-out-reads
-use Rattle.ordering.proofs.find.Reads as find-reads
-use Rattle.ordering.proofs.refuse.Reads as refuse-reads
-use Rattle.survivors.proofs.lines_right.Reads as lines-right-reads
 
 bytes : (c : tie.After-shared-slice-known) → All Byte (c .before .args .bytes .now)
 bytes c = all-bytes (c .before .args .bytes .now) (λ i. c .shared-slice-known .given i .fits)

@@ -1,6 +1,6 @@
 -- The record that now holds, as a caller finds it from the answer, is the one that a sequence goes on with. "The second buffer's
 -- first bytes if the number is 0 and the length fits it, else the whole old record": no refusal has the number 0.
-use mathlib.Core.Path.{_≡_, refl, _∙_}
+use mathlib.Core.Path.{_≡_, refl, _∙_, subst}
 use mathlib.Core.Logic.{_≢_}
 use Prim.Native.Nat.{ℕ, _≤_}
 use native.Mathlib.Omega.{arith}
@@ -34,9 +34,16 @@ room-told : (n : ℕ) (o : Outcome ℕ) → Told o → Told (room n o)
 room-told n (refused e p) h = h
 room-told n (given xs) h = pick-case Told (leb (length xs) n) _ _ (λ t. tt) (λ t. omega arith)
 
+all-told : (o : Order) (bytes : List ℕ) → Told (order o bytes)
+unfolding order onRecord
+all-told o bytes = read-told o _ (read bytes) (λ e left p. within-low 1 12 e (read-refuses bytes e left p .0))
+
+pub order-told : (o : Order) (bytes : List ℕ) (e p : ℕ) → order o bytes ≡ refused e p → e ≢ 0
+order-told o bytes e p q = subst Told q (all-told o bytes)
+
 outcome-told : (c : Call) (bytes : List ℕ) → Told (outcome c bytes)
-unfolding outcome order onRecord
-outcome-told c bytes = room-told (c .lent) (order (c .order) bytes) (read-told (c .order) _ (read bytes) (λ e left p. within-low 1 12 e (read-refuses bytes e left p .0)))
+unfolding outcome
+outcome-told c bytes = room-told (c .lent) (order (c .order) bytes) (all-told (c .order) bytes)
 
 -- ---- the record that now holds
 

@@ -10,7 +10,7 @@ use mir.Facts.{yes-ltb, no-ltb, no-leb, yes-eqb, no-eqb}
 use Rattle.bits.specs.ChoiceLaws.{pick-yes, pick-no}
 use Rattle.bits.specs.Codec.{got}
 use Rattle.outcome.specs.Refusals.{noView, tooLong}
-use Rattle.outcome.specs.Outcome.{Outcome, refused, given}
+use Rattle.outcome.specs.Outcome.{refused, given}
 use Rattle.format.specs.Limits.{mostBytes}
 use Rattle.format.specs.Record.{Record, read, size, write}
 use Rattle.format.specs.Places.{viewAt, count}

@@ -1,18 +1,17 @@
 -- The record that code puts together is the one that the order leaves: a removal is its bytes and a change of no list, a pair order the
 -- change of one list and no bytes.
 use mathlib.Core.Path.{_≡_, refl, sym, ap, ap₂, _∙_}
-use Prim.Native.Nat.{ℕ, _≤_, _<_, min, max}
+use Prim.Native.Nat.{ℕ, _≤_, min, max}
 use native.Mathlib.Nat.{zero-add}
 use native.Mathlib.Omega.{arith}
-use mathlib.Core.Bool.{Bool, true, false}
+use mathlib.Core.Bool.{true, false}
 use mathlib.Core.Option.{Option, none, some, Option·map}
-use mathlib.Core.List.{List, [], _∷_}
-use lib.ListN.{length, set, getD, length-map}
-use Rattle.bits.specs.Lists.{Along}
+use mathlib.Core.List.{List, []}
+use lib.ListN.{length, set, length-map}
 use Rattle.bits.specs.ListsLaws.{up-along}
 use Rattle.format.specs.Line.{Line}
 use Rattle.format.specs.Differences.{Falls}
-use Rattle.format.specs.Index.{Index, up}
+use Rattle.format.specs.Index.{Index}
 use Rattle.format.specs.View.{View}
 use Rattle.format.specs.Record.{Record}
 use Rattle.format.specs.Places.{lineAt, viewAt, count}
@@ -29,7 +28,6 @@ use Rattle.survivors.specs.Rank.{Rising}
 use Rattle.relist.specs.Index.{left}
 use Rattle.relist.specs.declared.lists.Change.{Change}
 use Rattle.relist.proofs.Laws.Acts.{remove-lists, join-lists, part-lists}
-use Rattle.reline.specs.Lines.{keptFrom}
 use Rattle.reline.proofs.Laws.Lines.{remove-lines}
 use Rattle.rebuild.specs.Blocks.{newIndex, Keeps}
 use Rattle.rebuild.specs.Rebuilt.{Means, newView, newRecord}

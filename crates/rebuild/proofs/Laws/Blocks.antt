@@ -1,7 +1,7 @@
 -- The blocks that an order leaves. Whatever lines or index a block has, it has no others, so that what is known of those that the caller
 -- names holds of them.
 use mathlib.Core.Path.{_≡_, refl, sym, ap, _∙_, subst}
-use Prim.Native.Nat.{ℕ, zero, suc, _+_, _*_, _/_, _%_, _≤_, _<_}
+use Prim.Native.Nat.{ℕ, suc, _+_, _*_, _/_, _%_, _≤_}
 use native.Mathlib.Omega.{arith}
 use mathlib.Core.Logic.{_≢_}
 use mathlib.Core.Option.{Option, none, some, Option·none-ne-some, Option·some-injective}
@@ -36,7 +36,7 @@ use Rattle.relist.specs.declared.lists.Change.{Change}
 use Rattle.relist.specs.declared.index.Size.{Size}
 use Rattle.reline.specs.Lines as l
 use Rattle.reline.specs.declared.Kept.{Kept}
-use Rattle.rebuild.specs.Blocks.{sized, newSkeleton, OldSkeleton, SkeletonMeasured, SkeletonRoom, SkeletonLaid, newIndex, newIndexBlock, Keeps, OldIndex, SizeOf, IndexMeasured, IndexRoom, IndexLaid}
+use Rattle.rebuild.specs.Blocks.{sized, newSkeleton, OldSkeleton, SkeletonMeasured, SkeletonRoom, SkeletonLaid, newIndexBlock, Keeps, OldIndex, IndexMeasured, IndexRoom, IndexLaid}
 
 -- ---- the skeleton
 

@@ -3,7 +3,7 @@
 use mathlib.Core.Path.{_≡_, sym, ap, _∙_, subst}
 use Prim.Native.Nat.{ℕ, _+_, _-_, _≤_}
 use native.Mathlib.Omega.{arith}
-use mathlib.Core.List.{List, [], _++_}
+use mathlib.Core.List.{List, _++_}
 use lib.ListN.{length, drop, length-take, length-drop}
 use lib.Seq.{take-all}
 use Rattle.bits.specs.Lists.{All}
@@ -11,15 +11,14 @@ use Rattle.bits.specs.Bytes.{Byte}
 use Rattle.bits.proofs.Laws.Parts.{part}
 use Rattle.lay.specs.Laid.{Laid}
 use Rattle.lay.proofs.Laws.{laid-same, laid-next, lent, back}
-use Rattle.format.specs.Record.{Record, read, size}
+use Rattle.format.specs.Record.{size}
 use Rattle.format.specs.Places.{viewAt}
 use Rattle.locate.specs.Stored.{recordOut}
 use Rattle.locate.proofs.Laws.Blocks.{cut}
 use Rattle.locate.proofs.Laws.Written.{stored-long}
 use Rattle.relist.specs.declared.lists.Change.{Change}
-use Rattle.rebuild.specs.Site.{SiteOf}
 use Rattle.rebuild.specs.Blocks.{sized, headOf, HeadLaid, newSkeleton, SkeletonRoom, SkeletonLaid, newIndexBlock, IndexRoom, IndexLaid}
-use Rattle.rebuild.specs.Rebuilt.{newRecord, SizesOf, RebuildRoom, Rebuilt}
+use Rattle.rebuild.specs.Rebuilt.{newRecord, RebuildRoom, Rebuilt}
 use Rattle.rebuild.specs.declared.site.Site.{Site}
 use Rattle.rebuild.specs.declared.measure.Sizes.{Sizes}
 use Rattle.rebuild.proofs.Laws.Site.{short, old-skeleton, old-index}

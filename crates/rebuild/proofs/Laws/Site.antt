@@ -3,18 +3,17 @@
 use mathlib.Core.Path.{_≡_}
 use Prim.Native.Nat.{ℕ, _+_, _-_, _≤_, _<_}
 use native.Mathlib.Omega.{arith}
-use mathlib.Core.List.{List, []}
+use mathlib.Core.List.{List}
 use lib.ListN.{length}
 use Rattle.bits.specs.Lists.{All}
 use Rattle.bits.specs.Bytes.{Byte}
 use Rattle.bits.specs.Block.{Block}
 use Rattle.bits.proofs.Laws.Parts.{part-length, part-bytes}
 use Rattle.format.specs.Line.{skeleton}
-use Rattle.format.specs.Record.{Record, read}
+use Rattle.format.specs.Record.{Record}
 use Rattle.format.specs.Places.{viewAt, count}
 use Rattle.format.specs.declared.Widths.{Widths}
 use Rattle.format.proofs.Laws.Record.{narrow}
-use Rattle.survivors.specs.Rank.{Rising}
 use Rattle.locate.specs.Stands.{BlockAt, ViewIn}
 use Rattle.locate.specs.Finds.{BlocksFound, LinesPassed}
 use Rattle.locate.specs.declared.view.Blocks.{Blocks}
@@ -24,7 +23,7 @@ use Rattle.locate.proofs.Laws.Lines.{lines-counted}
 use Rattle.locate.proofs.Laws.Record.{record-apart}
 use Rattle.relist.specs.declared.lists.Change.{Change}
 use Rattle.rebuild.specs.Site.{SiteOf}
-use Rattle.rebuild.specs.Blocks.{OldSkeleton, Keeps, OldIndex}
+use Rattle.rebuild.specs.Blocks.{OldSkeleton, OldIndex}
 use Rattle.rebuild.specs.Rebuilt.{Placed}
 use Rattle.rebuild.specs.declared.site.Site.{Site}
 

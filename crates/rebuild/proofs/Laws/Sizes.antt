@@ -1,8 +1,7 @@
 -- How long the new record is: what code measures of the two blocks and of the rest is the size of the record that the order leaves.
-use mathlib.Core.Path.{_≡_, sym, _∙_}
 use Prim.Native.Nat.{ℕ, _+_, _-_, _≤_}
 use native.Mathlib.Omega.{arith}
-use mathlib.Core.List.{List, []}
+use mathlib.Core.List.{List}
 use lib.ListN.{length}
 use Rattle.bits.specs.Lists.{All}
 use Rattle.bits.specs.Bytes.{Byte}
@@ -13,9 +12,8 @@ use Rattle.relist.specs.declared.index.Size.{Size}
 use Rattle.rebuild.specs.Blocks.{SkeletonMeasured, IndexMeasured}
 use Rattle.rebuild.specs.Rebuilt.{Placed, Measured}
 use Rattle.rebuild.specs.declared.site.Site.{Site}
-use Rattle.rebuild.specs.declared.measure.Sizes.{Sizes}
 use Rattle.rebuild.proofs.Laws.Blocks.{skeleton-fewer}
-use Rattle.rebuild.proofs.Laws.Site.{short, old-skeleton}
+use Rattle.rebuild.proofs.Laws.Site.{old-skeleton}
 use Rattle.rebuild.proofs.Laws.Splice.{new-size, is-stored}
 
 module _ {s : List ℕ} {x : Site} {ch : Change} {removal : List ℕ} (t : Placed s x ch removal) (f : All Byte s) {n : ℕ} (A : SkeletonMeasured (x .widths) (cut s (x .skeleton) (x .index)) removal n) where

@@ -1,12 +1,12 @@
 -- The new record's bytes: those of the old one, but for the record length and the two blocks with their lengths. Both records are
 -- taken apart in the same way, around the blocks of the view that the order names.
 use mathlib.Core.Path.{_≡_, refl, sym, ap, ap₂, _∙_, subst}
-use Prim.Native.Nat.{ℕ, suc, _+_, _-_, _*_, _≤_, _<_}
+use Prim.Native.Nat.{ℕ, suc, _+_, _-_, _≤_, _<_}
 use native.Mathlib.Omega.{arith}
 use mathlib.Core.Option.{Option}
 use mathlib.Core.List.{List, [], _∷_, _++_, append-assoc}
-use lib.ListN.{length, take, drop, set, getD, length-append, length-drop, length-set}
-use lib.Seq.{split-at, set-split, set-getD, take-at, drop-at}
+use lib.ListN.{length, take, drop, set, length-append, length-drop, length-set}
+use lib.Seq.{set-split, set-getD, take-at, drop-at}
 use Rattle.bits.specs.Lists.{All}
 use Rattle.bits.specs.Bytes.{Byte, inBytes}
 use Rattle.bits.specs.Codec.{got}
@@ -26,7 +26,7 @@ use Rattle.locate.proofs.Laws.Blocks.{block-bits, block-long}
 use Rattle.locate.proofs.Laws.Written.{views-long, stored-long, written}
 use Rattle.relist.specs.declared.lists.Change.{Change}
 use Rattle.rebuild.specs.Site.{SiteOf}
-use Rattle.rebuild.specs.Blocks.{sized, headOf, newSkeleton, newIndex, newIndexBlock}
+use Rattle.rebuild.specs.Blocks.{sized, headOf, newSkeleton, newIndexBlock}
 use Rattle.rebuild.specs.Rebuilt.{newView, newRecord}
 use Rattle.rebuild.specs.declared.site.Site.{Site}
 use Rattle.rebuild.proofs.Laws.Blocks.{index-bytes}

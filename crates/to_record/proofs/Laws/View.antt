@@ -9,9 +9,7 @@ use lib.Seq.{drop-drop, drop-at, take-all, length-take-le}
 use Rattle.bits.specs.Lists.{All, total}
 use Rattle.bits.specs.Bits.{Bits, zeros, pad, filled}
 use Rattle.bits.specs.Bytes.{inBytes}
-use Rattle.bits.specs.BytesLaws.{length-in}
 use Rattle.bits.specs.CodecLaws.{encAll}
-use Rattle.bits.specs.Block.{Block}
 use Rattle.bits.proofs.Laws.Parts.{part}
 use Rattle.lay.specs.Laid.{Laid}
 use Rattle.lay.specs.HighFirst.{two, start, joined}

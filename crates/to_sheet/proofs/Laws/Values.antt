@@ -8,10 +8,8 @@ use Rattle.bits.specs.CodecLaws.{field}
 use Rattle.outcome.specs.Refusals.{badValue}
 use Rattle.format.specs.Line.{Line}
 use Rattle.format.specs.Segments.{Segment}
-use Rattle.format.specs.View.{FitsHead, headFields}
-use Rattle.format.specs.Record.{FitsScale, scale}
+use Rattle.format.specs.Record.{scale}
 use Rattle.format.specs.declared.Widths.{Widths}
-use Rattle.format.specs.declared.Scale.{Scale}
 use Rattle.format.specs.declared.End.{End}
 use Rattle.format.specs.declared.Header.{Header}
 use Rattle.format.specs.declared.ViewHeader.{ViewHeader}

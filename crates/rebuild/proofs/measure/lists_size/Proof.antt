@@ -1,11 +1,7 @@
 -- No index stays none; one that is there is sized.
 use Rattle.rebuild.proofs.Laws.Blocks.{lists-none, with-index, index-there, lists-some}
-use borrow.Author.Needs.{needs}
 use Rattle.rebuild.proofs.measure.lists_size.Statement.{statement}
 use Rattle.rebuild.proofs.measure.lists_size.Tie as tie
-use Rattle.rebuild.proofs.measure.lists_size.Reads as reads
-use Rattle.rebuild.proofs.measure.lists_size.Lts as lts
-use Rattle.relist.proofs.index.index_size.Reads as index-size-reads
 
 returns : tie.Need-returns
 returns c =

@@ -6,13 +6,8 @@ use Rattle.bits.proofs.Laws.Place.{all-bytes}
 use Rattle.rebuild.proofs.Laws.Blocks.{index-small}
 use Rattle.rebuild.proofs.Laws.Site.{short, old-skeleton, old-index}
 use Rattle.rebuild.proofs.Laws.Sizes.{skeleton-small, measured}
-use borrow.Author.Needs.{needs}
 use Rattle.rebuild.proofs.measure.measure.Statement.{statement}
 use Rattle.rebuild.proofs.measure.measure.Tie as tie
-use Rattle.rebuild.proofs.measure.measure.Reads as reads
-use Rattle.rebuild.proofs.measure.measure.Lts as lts
-use Rattle.rebuild.proofs.measure.lists_size.Reads as lists-size-reads
-use Rattle.rebuild.proofs.measure.skeleton_size.Reads as skeleton-size-reads
 
 bytes : (c : tie.After-shared-slice-known) → All Byte (c .before .args .s .now)
 bytes c = all-bytes (c .before .args .s .now) (λ i. c .shared-slice-known .given i .fits)

@@ -1,12 +1,8 @@
 -- A pair order leaves the block as it is; a removal leaves the lines that are counted.
 use native.Mathlib.Omega.{arith}
 use Rattle.rebuild.proofs.Laws.Blocks.{lines-there, skeleton-same, kept-small, skeleton-kept}
-use borrow.Author.Needs.{needs}
 use Rattle.rebuild.proofs.measure.skeleton_size.Statement.{statement}
 use Rattle.rebuild.proofs.measure.skeleton_size.Tie as tie
-use Rattle.rebuild.proofs.measure.skeleton_size.Reads as reads
-use Rattle.rebuild.proofs.measure.skeleton_size.Lts as lts
-use Rattle.reline.proofs.lines_size.Reads as lines-size-reads
 
 returns : tie.Need-returns
 returns c =

@@ -3,10 +3,6 @@ use Rattle.lay.proofs.Laws.{laid-next}
 use borrow.Author.Needs.{needs}
 use Rattle.rebuild.proofs.put.head_put.Statement.{statement}
 use Rattle.rebuild.proofs.put.head_put.Tie as tie
-use Rattle.rebuild.proofs.put.head_put.Reads as reads
-use Rattle.rebuild.proofs.put.head_put.Lts as lts
-use Rattle.lay.proofs.copy.Reads as copy-reads
-use Rattle.lay.proofs.put_two.Reads as put-two-reads
 
 sub-copy : tie.Need-sub-copy
 sub-copy c = search needs

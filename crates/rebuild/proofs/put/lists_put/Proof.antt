@@ -5,10 +5,6 @@ use Rattle.rebuild.proofs.Laws.Blocks.{no-lists, put-there, some-lists,
 use borrow.Author.Needs.{needs}
 use Rattle.rebuild.proofs.put.lists_put.Statement.{statement}
 use Rattle.rebuild.proofs.put.lists_put.Tie as tie
-use Rattle.rebuild.proofs.put.lists_put.Reads as reads
-use Rattle.rebuild.proofs.put.lists_put.Lts as lts
-use Rattle.lay.proofs.put_two.Reads as put-two-reads
-use Rattle.relist.proofs.index.index_put.Reads as index-put-reads
 
 put-two-requires : tie.Need-put-two-requires
 put-two-requires c κs = search needs

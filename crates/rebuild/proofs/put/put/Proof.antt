@@ -5,15 +5,8 @@ use Rattle.bits.specs.Lists.{All}
 use Rattle.bits.specs.Bytes.{Byte}
 use Rattle.bits.proofs.Laws.Place.{all-bytes}
 use Rattle.rebuild.proofs.Laws.Put.{in-all, front, places, head-end, skeleton-room, skeleton-end, index-room, index-end, rest-fits, whole, rebuilt}
-use borrow.Author.Needs.{needs}
 use Rattle.rebuild.proofs.put.put.Statement.{statement}
 use Rattle.rebuild.proofs.put.put.Tie as tie
-use Rattle.rebuild.proofs.put.put.Reads as reads
-use Rattle.rebuild.proofs.put.put.Lts as lts
-use Rattle.lay.proofs.copy.Reads as copy-reads
-use Rattle.rebuild.proofs.put.head_put.Reads as head-put-reads
-use Rattle.rebuild.proofs.put.lists_put.Reads as lists-put-reads
-use Rattle.rebuild.proofs.put.skeleton_put.Reads as skeleton-put-reads
 
 bytes : (c : tie.After-shared-slice-known) → All Byte (c .before .before .args .s .now)
 bytes c = all-bytes (c .before .before .args .s .now) (λ i. c .shared-slice-known .given i .fits)

@@ -5,11 +5,6 @@ use Rattle.rebuild.proofs.Laws.Blocks.{same-size, lines-room, copied-sk
 use borrow.Author.Needs.{needs}
 use Rattle.rebuild.proofs.put.skeleton_put.Statement.{statement}
 use Rattle.rebuild.proofs.put.skeleton_put.Tie as tie
-use Rattle.rebuild.proofs.put.skeleton_put.Reads as reads
-use Rattle.rebuild.proofs.put.skeleton_put.Lts as lts
-use Rattle.lay.proofs.copy.Reads as copy-reads
-use Rattle.lay.proofs.put_two.Reads as put-two-reads
-use Rattle.reline.proofs.lines_put.Reads as lines-put-reads
 
 put-two-requires : tie.Need-put-two-requires
 put-two-requires c κs = search needs

@@ -10,14 +10,8 @@ use Rattle.locate.specs.Stands.{BlockAt, ViewIn}
 use Rattle.locate.proofs.Laws.Blocks.{lines-here}
 use Rattle.locate.proofs.Laws.Record.{record-apart}
 use Rattle.rebuild.proofs.Laws.Site.{site-is}
-use borrow.Author.Needs.{needs}
 use Rattle.rebuild.proofs.site.site_at.Statement.{statement}
 use Rattle.rebuild.proofs.site.site_at.Tie as tie
-use Rattle.rebuild.proofs.site.site_at.Reads as reads
-use Rattle.rebuild.proofs.site.site_at.Lts as lts
-use Rattle.locate.proofs.line.pass_lines.Reads as pass-lines-reads
-use Rattle.locate.proofs.view.blocks_at.Reads as blocks-at-reads
-use Rattle.locate.proofs.view.view_at.Reads as view-at-reads
 
 here : (c : tie.After-view-at) → ViewIn (c .before .before .pre .value) (c .before .before .args .s .now) (c .before .before .args .i) (c .view-at .result)
 here c = c .view-at .ensures .is (c .before .before .pre .value) (c .before .before .pre .reads)
