@@ -9,7 +9,7 @@
  * fsk_answer back. Nothing is asked of the caller: whatever the bytes are, the call answers. It keeps no pointer, allocates
  * nothing, and never reads or writes outside the slices it is lent. An output must not overlap an input.
  *
- * Link with the archive libhost.a. It holds code for x86-64.
+ * Link with the archive libfsk.a (-lfsk). It holds code for x86-64.
  */
 #ifndef FSK_H
 #define FSK_H
@@ -35,61 +35,49 @@ typedef struct {
 } fsk_answer;
 
 /*
- * Why a call refuses. The numbers are fixed.
+ * Why a call refuses. The numbers are fixed, and fsk_text gives these sentences.
  *
- * The record, in the order in which it is judged; the first fault found is the answer:
- *    1  it has under 24 or over 32,768 bytes
- *    2  it does not start with the identifier 46 53 4B 00 ("FSK")
- *    3  its version is not 30 31 30 00 ("010")
- *    4  the length it states is not the length lent
- *    5  another field of its header is outside its range
- *    6  a view header, a length field or a block passes the end of the record
- *    7  a value in a view header is not allowed: view number, finger position (0-10), impression (0-3, 8, 9), quality (0-100)
- *    8  a line does not fit its block, or the bits that fill the block up are not zero
- *    9  a view has more than 1,024 lines
- *   10  a neighbour index breaks a rule
- *   11  a segment's length is under 4 or passes its block, or 1 to 3 bytes are left over
- *   12  there are bytes after the last view
- * The sheet:
- *   21  a field is cut, or its tag, its place in the order or its length is wrong; no views or more than 255; a view with more than
- *       1,024 lines; not one 05 for each line
- *   22  a value is not one that a record can hold at the widths given
- *   19  the record would have over 32,768 bytes
- * What is asked for:
- *   13  the record has no view with that place
- *   15  the view has no line with that number
- *   23  the view has no segment with that place
- * The output:
- *   20  it is too short for what would be written
- * A call that asks for something judges the record first, then 13, then 15 or 23, then 20. Of a sheet 21 is judged over the whole of
- * it, then 22 over the whole of it, then 19, then 20.
+ * A record is judged by 1 to 5, then view by view in the order of its bytes; the first fault found is the answer. A call that asks
+ * for something, or orders something, judges the record first, then what is asked for or ordered, then the output. Of a sheet 21 is
+ * judged over the whole of it, then 22 over the whole of it. Each call lists what it refuses in the order in which it judges.
  */
 enum {
-    FSK_ACCEPTED = 0,
-    FSK_BAD_SIZE = 1,
-    FSK_BAD_IDENTIFIER = 2,
-    FSK_BAD_VERSION = 3,
-    FSK_BAD_LENGTH = 4,
-    FSK_BAD_HEADER = 5,
-    FSK_PAST_END = 6,
-    FSK_BAD_VIEW = 7,
-    FSK_BAD_LINE = 8,
-    FSK_TOO_MANY_LINES = 9,
-    FSK_BAD_INDEX = 10,
-    FSK_BAD_SEGMENT = 11,
-    FSK_BYTES_OVER = 12,
-    FSK_NO_VIEW = 13,
-    FSK_OTHER_COUNT = 14,
-    FSK_BAD_LINES = 15,
-    FSK_EXTENDED = 16,
-    FSK_NO_INDEX = 17,
-    FSK_ALREADY_SO = 18,
-    FSK_TOO_LONG = 19,
-    FSK_NO_ROOM = 20,
-    FSK_BAD_SHEET = 21,
-    FSK_BAD_VALUE = 22,
-    FSK_NO_SEGMENT = 23
+    FSK_ACCEPTED = 0,       /* The call is accepted. */
+    FSK_BAD_SIZE = 1,       /* The record has under 24 or over 32,768 bytes. */
+    FSK_BAD_IDENTIFIER = 2, /* The record does not start with the identifier 46 53 4B 00 (FSK). */
+    FSK_BAD_VERSION = 3,    /* The record's version is not 30 31 30 00 (010). */
+    FSK_BAD_LENGTH = 4,     /* The length that the record states is not the length lent. */
+    FSK_BAD_HEADER = 5,     /* Another field of the record's header is outside its range. */
+    FSK_PAST_END = 6,       /* A view header, a length field or a block passes the end of the record. */
+    FSK_BAD_VIEW = 7,       /* A value in a view header is not allowed: view number, finger position (0-10), impression (0-3, 8, 9)
+                               or quality (0-100). */
+    FSK_BAD_LINE = 8,       /* A line does not fit its block, or the bits that fill the block up are not zero. */
+    FSK_TOO_MANY_LINES = 9, /* A view has more than 1,024 lines. */
+    FSK_BAD_INDEX = 10,     /* A neighbour index breaks a rule. */
+    FSK_BAD_SEGMENT = 11,   /* A segment's length is under 4 or passes its block, or 1 to 3 bytes are left over. */
+    FSK_BYTES_OVER = 12,    /* There are bytes after the last view. */
+    FSK_NO_VIEW = 13,       /* The record has no view with that place. */
+    FSK_OTHER_COUNT = 14,   /* The view has another number of lines than the order was made for. */
+    FSK_BAD_LINES = 15,     /* A line number is not below the view's number of lines, or a removal list is empty, not rising or of
+                               odd length. */
+    FSK_EXTENDED = 16,      /* No line can be removed from a view with extended data. */
+    FSK_NO_INDEX = 17,      /* The view has no index, so that no lines can be joined or parted. */
+    FSK_ALREADY_SO = 18,    /* The lines to join are neighbours already, or those to part are not. */
+    FSK_TOO_LONG = 19,      /* The new record would have over 32,768 bytes. */
+    FSK_NO_ROOM = 20,       /* The output is too short for what would be written. */
+    FSK_BAD_SHEET = 21,     /* A field of the sheet is cut, or its tag, its place in the order or its length is wrong; or the sheet
+                               has no views or over 255, over 1,024 lines in a view, or not one 05 for each line. */
+    FSK_BAD_VALUE = 22,     /* A value in the sheet is not one that a record can hold at the widths given. */
+    FSK_NO_SEGMENT = 23,    /* The view has no segment with that place. */
+    FSK_NUMBERS             /* how many numbers there are: each is below it */
 };
+
+/*
+ * What a number means, and what to do about it: a sentence that is always there and never null, also for a number that no call
+ * answers. Not for the number of fsk_holds, which is no refusal.
+ */
+const char *fsk_text(uint32_t number);
+const char *fsk_advice(uint32_t number);
 
 /*
  * The record as a SHEET: its fields one after another, each a tag (1 byte), a length (2 bytes) and a value. Numbers of more than
@@ -102,7 +90,8 @@ enum {
  *   04  the index's width in bits, where the view has an index
  *   05  a line's neighbours by number, 2 bytes each, highest first; one such field for each line, behind 04
  *   06  a segment: type (2), payload
- * One 01; then for each view one 02, its 03s, nothing or 04 and its 05s, and its 06s.
+ * One 01; then for each view one 02, its 03s, nothing or 04 and its 05s, and its 06s. Seven times the record's length
+ * always suffices.
  * Writes bytes. Refuses: 1 to 12, 20.
  */
 fsk_answer fsk_read(const uint8_t *record, size_t record_length, uint8_t *sheet, size_t sheet_length);

@@ -1,0 +1,79 @@
+/*
+ * What both examples need: a record from a file, and a walk over the fields of its sheet. A sheet that fsk_read gave is whole and in
+ * order (fsk.h says in which), so the walk tests nothing.
+ */
+#ifndef FIELDS_H
+#define FIELDS_H
+
+#include <fsk.h>
+#include <stdio.h>
+
+enum {
+    MOST_RECORD = 32768,
+    MOST_SHEET = 7 * MOST_RECORD, /* suffices for any record: fsk.h, at fsk_read */
+    MOST_LINES = 1024
+};
+
+enum { HEADER = 1, VIEW, LINE, INDEX, NEIGHBOURS, SEGMENT }; /* the tags */
+
+typedef struct {
+    size_t length;
+    const uint8_t *value;
+} field;
+
+/* What is left of a sheet. */
+typedef struct {
+    const uint8_t *at, *end;
+} fields;
+
+static inline unsigned two_bytes(const uint8_t *bytes)
+{
+    return (unsigned)(bytes[0] << 8 | bytes[1]);
+}
+
+/* Whether a field with this tag comes next. */
+static inline int comes(const fields *left, unsigned tag)
+{
+    return left->at < left->end && *left->at == tag;
+}
+
+/* The next field, which is then passed. */
+static inline field take(fields *left)
+{
+    const field taken = {two_bytes(left->at + 1), left->at + 3};
+    left->at = taken.value + taken.length;
+    return taken;
+}
+
+/* How many codes a line has: they stand behind its two ends of 6 bytes each. */
+static inline size_t codes_of(field line)
+{
+    return line.length - 12;
+}
+
+/*
+ * Reads the file into `record` and gives its length, or -1, after a word about it, if the file cannot be read. The buffer has a byte
+ * more than a record, so that the library gets to see that a file is too long.
+ */
+static inline long load(const char *file, uint8_t record[MOST_RECORD + 1])
+{
+    FILE *stream = fopen(file, "rb");
+    long length = -1;
+    if (stream != NULL) {
+        length = (long)fread(record, 1, MOST_RECORD + 1, stream);
+        if (ferror(stream))
+            length = -1;
+        fclose(stream);
+    }
+    if (length < 0)
+        perror(file);
+    return length;
+}
+
+/* Says why a call refused and what can be done about it. */
+static inline void explain(uint32_t number)
+{
+    printf("refused, %u: %s\n    %s\n", (unsigned)number, fsk_text(number), fsk_advice(number));
+}
+
+#endif

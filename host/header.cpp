@@ -1,0 +1,13 @@
+// The header in C++: that it compiles and links there, and that there are words for every number, also for those that no call
+// answers.
+#include "fsk.h"
+
+int main()
+{
+    if (fsk_read(nullptr, 0, nullptr, 0).number != FSK_BAD_SIZE)
+        return 1;
+    for (uint32_t number = 0; number <= FSK_NUMBERS; number++)
+        if (*fsk_text(number) == '\0' || *fsk_advice(number) == '\0')
+            return 1;
+    return *fsk_text(UINT32_MAX) == '\0' || *fsk_advice(UINT32_MAX) == '\0';
+}
