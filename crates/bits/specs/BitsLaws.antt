@@ -75,5 +75,8 @@ pad-lt n = omega arith
 pub pad-is : (n k : ℕ) → k < 8 → (n + k) % 8 ≡ 0 → k ≡ pad n
 pad-is n k h e = omega arith
 
+pub filled-long : (s : Bits) → length (filled s) ≡ 8 * ((length s + 7) / 8)
+filled-long s = simp (length-append, length-replicate) (omega arith)
+
 pub filled-bytes : (s : Bits) → length (filled s) % 8 ≡ 0
-filled-bytes s = simp (length-append, length-replicate) (omega arith)
+filled-bytes s = omega (arith, filled-long s)

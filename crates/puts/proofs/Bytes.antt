@@ -10,7 +10,7 @@ use lib.ListN.{length, take, drop, length-append, length-drop, length-replicate,
 use lib.Pow.{pow-add, high, low}
 use lib.Seq.{take-append-le, drop-append-le, take-all}
 use Rattle.bits.specs.Bits.{Bits, val, numberOf, zeros, pad, filled}
-use Rattle.bits.specs.BitsLaws.{number-lt}
+use Rattle.bits.specs.BitsLaws.{number-lt, filled-long}
 use Rattle.bits.specs.Bytes.{bytesOf, inBytes}
 use Rattle.bits.specs.BytesLaws.{length-in}
 
@@ -93,10 +93,7 @@ filled-append n xs ys l =
     ap inBytes e ∙ ap (λ (k : ℕ). bytesOf k (xs ++ filled ys)) d ∙ bytes-append n (length (filled ys) / 8) xs (filled ys) l
 
 pub filled-length : (xs : Bits) → length (inBytes (filled xs)) ≡ (length xs + 7) / 8
-filled-length xs =
-    let n = length xs in
-    let e : length (filled xs) ≡ n + pad n = length-append xs (zeros (pad n)) ∙ ap (λ (k : ℕ). n + k) (length-replicate (pad n) false) in
-    length-in (filled xs) ∙ ap (λ (k : ℕ). k / 8) e ∙ omega arith
+filled-length xs = length-in (filled xs) ∙ ap (λ (k : ℕ). k / 8) (filled-long xs) ∙ omega arith
 
 -- filled up to n bytes
 pub filled-to : (xs : Bits) (n : ℕ) → (length xs + 7) / 8 ≡ n

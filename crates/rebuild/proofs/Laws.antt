@@ -1,5 +1,6 @@
 -- The laws of the record that an order leaves, by topic.
-pub mod Blocks
+pub mod Skeleton
+pub mod Index
 pub mod Site
 pub mod Splice
 pub mod Sizes

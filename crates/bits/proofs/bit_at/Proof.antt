@@ -1,3 +1,4 @@
+-- A bit is its byte shifted down to it, modulo 2.
 use Rattle.bits.proofs.Laws.Place.{code-bit}
 use borrow.Author.Needs.{needs}
 use Rattle.bits.proofs.bit_at.Statement.{statement}

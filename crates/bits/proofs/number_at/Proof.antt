@@ -1,3 +1,4 @@
+-- Bit by bit: the number so far is that of the bits passed.
 use Prim.Native.Nat.{ℕ, _≤_, _+_, _-_}
 use mathlib.Core.Path.{_≡_, refl}
 use native.Mathlib.Omega.{arith}

@@ -31,7 +31,7 @@ use Rattle.relist.proofs.Laws.Acts.{remove-lists, join-lists, part-lists}
 use Rattle.reline.proofs.Laws.Lines.{remove-lines}
 use Rattle.rebuild.specs.Blocks.{newIndex, Keeps}
 use Rattle.rebuild.specs.Rebuilt.{Means, newView, newRecord}
-use Rattle.rebuild.proofs.Laws.Blocks.{none-gone}
+use Rattle.rebuild.proofs.Laws.Skeleton.{none-gone}
 
 -- ---- what the orders mean to code
 

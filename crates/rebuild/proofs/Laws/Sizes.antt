@@ -12,7 +12,7 @@ use Rattle.relist.specs.declared.index.Size.{Size}
 use Rattle.rebuild.specs.Blocks.{SkeletonMeasured, IndexMeasured}
 use Rattle.rebuild.specs.Rebuilt.{Placed, Measured}
 use Rattle.rebuild.specs.declared.site.Site.{Site}
-use Rattle.rebuild.proofs.Laws.Blocks.{skeleton-fewer}
+use Rattle.rebuild.proofs.Laws.Skeleton.{skeleton-fewer}
 use Rattle.rebuild.proofs.Laws.Site.{old-skeleton}
 use Rattle.rebuild.proofs.Laws.Splice.{new-size, is-stored}
 

@@ -29,7 +29,7 @@ use Rattle.rebuild.specs.Site.{SiteOf}
 use Rattle.rebuild.specs.Blocks.{sized, headOf, newSkeleton, newIndexBlock}
 use Rattle.rebuild.specs.Rebuilt.{newView, newRecord}
 use Rattle.rebuild.specs.declared.site.Site.{Site}
-use Rattle.rebuild.proofs.Laws.Blocks.{index-bytes}
+use Rattle.rebuild.proofs.Laws.Index.{index-bytes}
 
 -- ---- a record around the blocks of its view i
 

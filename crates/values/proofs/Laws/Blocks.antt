@@ -1,25 +1,22 @@
 -- How many bytes the blocks of a view take in a record, by the bits or bytes of what they hold. A skeleton and an index are filled up
 -- to whole bytes; segments are whole bytes already.
 use mathlib.Core.Path.{_≡_, refl, ap, _∙_}
-use Prim.Native.Nat.{ℕ, suc, _+_, _*_, _/_}
+use Prim.Native.Nat.{ℕ, _+_, _*_, _/_}
 use native.Mathlib.Omega.{arith}
 use native.Mathlib.Nat.{mul-comm}
 use mathlib.Core.Option.{none, some}
 use mathlib.Core.List.{List, [], _∷_}
-use lib.ListN.{length, length-append, length-replicate}
+use lib.ListN.{length, length-append}
 use Rattle.bits.specs.Lists.{total}
-use Rattle.bits.specs.Bits.{Bits, bitsOfNumber, filled}
-use Rattle.bits.specs.BitsLaws.{length-bits}
+use Rattle.bits.specs.Bits.{bitsOfNumber}
+use Rattle.bits.specs.BitsLaws.{length-bits, filled-long}
 use Rattle.bits.specs.CodecLaws.{encAll, encAlong}
 use Rattle.format.specs.Line.{Line, line, skeleton}
 use Rattle.format.specs.Index.{Index, neighbours, up, index, indexBlock}
 use Rattle.format.specs.Segments.{Segment, segment, segment-length, segments}
 use Rattle.format.specs.declared.Widths.{Widths}
-use Rattle.locate.proofs.Laws.Lists.{all-long, list-bits}
+use Rattle.locate.proofs.Laws.Lists.{all-long, along-long, list-bits}
 use Rattle.values.specs.Run.{lineBits, listBits, segmentBytes}
-
-filled-long : (s : Bits) → length (filled s) ≡ 8 * ((length s + 7) / 8)
-filled-long s = simp (length-append, length-replicate) (omega arith)
 
 -- ---- lines
 
@@ -33,9 +30,7 @@ list-long : (w l : ℕ) (ns : List ℕ) → length (neighbours w l .enc ns) ≡ 
 list-long w l ns = list-bits w l ns ∙ ap (λ (n : ℕ). w + n) (mul-comm (length ns) w)
 
 lists-long : (w l : ℕ) (xs : List (List ℕ)) → length (encAlong (neighbours w) up l xs) ≡ total (listBits w) xs
-lists-long w l [] = refl
-lists-long w l (x ∷ xs) =
-    length-append (neighbours w l .enc x) (encAlong (neighbours w) up (suc l) xs) ∙ omega (arith, list-long w l x, lists-long w (suc l) xs)
+lists-long w = along-long (neighbours w) up (listBits w) (list-long w)
 
 index-long : (n : ℕ) (i : Index) → length (index n .enc i) ≡ 8 + length (encAlong (neighbours (i .width)) up 0 (i .lists))
 unfolding index

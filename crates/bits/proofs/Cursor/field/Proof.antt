@@ -1,3 +1,4 @@
+-- A field: there is room for it, or it is short.
 use borrow.Author.Needs.{needs}
 use native.Mathlib.Omega.{arith}
 use Rattle.bits.proofs.Laws.Reads.{field-at, field-past}

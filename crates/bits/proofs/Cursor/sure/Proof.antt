@@ -1,3 +1,4 @@
+-- A field that is known to be there.
 use borrow.Author.Needs.{needs}
 use native.Mathlib.Omega.{arith}
 use mathlib.Core.Path.{refl}

@@ -1,5 +1,5 @@
 -- No index stays none; one that is there is sized.
-use Rattle.rebuild.proofs.Laws.Blocks.{lists-none, with-index, index-there, lists-some}
+use Rattle.rebuild.proofs.Laws.Index.{lists-none, with-index, index-there, lists-some}
 use Rattle.rebuild.proofs.measure.lists_size.Statement.{statement}
 use Rattle.rebuild.proofs.measure.lists_size.Tie as tie
 

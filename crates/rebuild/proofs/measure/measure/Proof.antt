@@ -3,7 +3,7 @@ use native.Mathlib.Omega.{arith}
 use Rattle.bits.specs.Lists.{All}
 use Rattle.bits.specs.Bytes.{Byte}
 use Rattle.bits.proofs.Laws.Place.{all-bytes}
-use Rattle.rebuild.proofs.Laws.Blocks.{index-small}
+use Rattle.rebuild.proofs.Laws.Index.{index-small}
 use Rattle.rebuild.proofs.Laws.Site.{short, old-skeleton, old-index}
 use Rattle.rebuild.proofs.Laws.Sizes.{skeleton-small, measured}
 use Rattle.rebuild.proofs.measure.measure.Statement.{statement}

@@ -1,6 +1,6 @@
 -- A pair order leaves the block as it is; a removal leaves the lines that are counted.
 use native.Mathlib.Omega.{arith}
-use Rattle.rebuild.proofs.Laws.Blocks.{lines-there, skeleton-same, kept-small, skeleton-kept}
+use Rattle.rebuild.proofs.Laws.Skeleton.{lines-there, skeleton-same, kept-small, skeleton-kept}
 use Rattle.rebuild.proofs.measure.skeleton_size.Statement.{statement}
 use Rattle.rebuild.proofs.measure.skeleton_size.Tie as tie
 

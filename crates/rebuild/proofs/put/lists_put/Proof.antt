@@ -1,7 +1,7 @@
 -- Its length, then the block, where there is one.
 use native.Mathlib.Omega.{arith}
 use lib.ListN.{length-take, length-drop}
-use Rattle.rebuild.proofs.Laws.Blocks.{no-lists, put-there, some-lists, index-end}
+use Rattle.rebuild.proofs.Laws.Index.{no-lists, put-there, some-lists, index-end}
 use borrow.Author.Needs.{needs}
 use Rattle.rebuild.proofs.put.lists_put.Statement.{statement}
 use Rattle.rebuild.proofs.put.lists_put.Tie as tie

@@ -1,7 +1,7 @@
 -- Its length, then the block: copied, or with the lines that are left.
 use native.Mathlib.Omega.{arith}
 use lib.ListN.{length-take, length-drop}
-use Rattle.rebuild.proofs.Laws.Blocks.{same-size, lines-room, copied-skeleton, kept-skeleton, kept-end}
+use Rattle.rebuild.proofs.Laws.Skeleton.{same-size, lines-room, copied-skeleton, kept-skeleton, kept-end}
 use borrow.Author.Needs.{needs}
 use Rattle.rebuild.proofs.put.skeleton_put.Statement.{statement}
 use Rattle.rebuild.proofs.put.skeleton_put.Tie as tie
