@@ -1,7 +1,7 @@
 -- The neighbour index. "Length 0 means no index. Otherwise one byte w (1-16), then for each line, in order, a count (w bits) and
 -- that many differences (w bits each), then 0 to 7 zero bits up to the block's end."
 use mathlib.Core.Path.{_≡_, refl, ap₂, _∙_}
-use Prim.Native.Nat.{ℕ, suc, _-_, _^_, _≤_, _<_}
+use Prim.Native.Nat.{ℕ, suc, _^_, _≤_, _<_}
 use native.Mathlib.Omega.{arith}
 use mathlib.Core.Bool.{Bool}
 use mathlib.Core.Option.{Option}

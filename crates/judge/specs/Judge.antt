@@ -5,7 +5,7 @@ use Prim.Native.Nat.{ℕ, _*_, _≤_}
 use mathlib.Core.List.{List}
 use lib.ListN.{length}
 use Rattle.bits.specs.Reads.{Found, found, fault, placed, placeOf, kept}
-use Rattle.format.specs.Record.{Record, views, read}
+use Rattle.format.specs.Record.{Record, read}
 use Rattle.format.specs.SheetSize.{sheetSize}
 use Rattle.format.specs.declared.Header.{Header}
 use Rattle.judge.specs.declared.Verdict.{Verdict}

@@ -1,7 +1,7 @@
 -- The values of a sheet's fields: refusal 22. "A sheet value is right when the record rules allow it at the widths given: numbers
 -- fit c, b, k and w, neighbours obey clause 6.3.2." Each value is a block of its own, and its rules are the record's.
 use mathlib.Core.Path.{refl}
-use Prim.Native.Nat.{ℕ, _+_, _-_, _%_, _^_, _<_}
+use Prim.Native.Nat.{ℕ, _+_, _%_, _^_, _<_}
 use native.Mathlib.Omega.{arith}
 use native.Mathlib.Nat.{mod-lt}
 use mathlib.Core.Bool.{Bool, true, _&&_}

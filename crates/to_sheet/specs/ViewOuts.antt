@@ -6,7 +6,6 @@ use lib.ListN.{length}
 use Rattle.bits.specs.Lists.{total}
 use Rattle.bits.specs.Reads.{found, Reads}
 use Rattle.lay.specs.Laid.{Laid}
-use Rattle.format.specs.Segments.{segments}
 use Rattle.format.specs.View.{View, view}
 use Rattle.format.specs.SheetSize.{lineSize, indexSize, segmentSize, viewSize}
 use Rattle.format.specs.declared.Widths.{Widths}

@@ -8,7 +8,7 @@ use lib.ListN.{length}
 use Rattle.bits.specs.Bits.{Bits}
 use Rattle.bits.specs.Codec.{Read}
 use Rattle.bits.specs.Codec as C
-use Rattle.outcome.specs.Outcome.{Outcome, refused, given}
+use Rattle.outcome.specs.Outcome.{Outcome, given}
 use Rattle.format.specs.Record.{Record, read}
 use Rattle.format.specs.Call.{fromRead, onRecord}
 

@@ -1,6 +1,6 @@
 -- The index block of an accepted view: it has an index where it is not empty, and its bits are its width's and its lists'.
 use mathlib.Core.Path.{_≡_, refl, sym, ap, _∙_}
-use Prim.Native.Nat.{ℕ, _+_, _%_, _<_}
+use Prim.Native.Nat.{ℕ, _%_, _<_}
 use native.Mathlib.Omega.{arith}
 use mathlib.Core.Option.{Option, some}
 use mathlib.Core.List.{List, _++_, append-assoc}

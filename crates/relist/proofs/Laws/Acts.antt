@@ -20,7 +20,7 @@ use Rattle.survivors.specs.Rank.{below}
 use Rattle.survivors.specs.Kept.{kept}
 use Rattle.survivors.proofs.Laws.Place.{place-is}
 use Rattle.survivors.proofs.Laws.Kept.{kept-same, kept-survivors, kept-set}
-use Rattle.relist.specs.Walk.{putIn, gone, stayed}
+use Rattle.relist.specs.Walk.{putIn, stayed}
 use Rattle.relist.specs.Lists.{waits, leaves, newList, newFrom}
 use Rattle.relist.specs.declared.lists.Change.{Change}
 

@@ -10,7 +10,6 @@ use Rattle.bits.specs.Lists.{total}
 use Rattle.lay.specs.Laid.{Laid}
 use Rattle.lay.proofs.Laws.{laid-next, lent, back}
 use Rattle.format.specs.Index.{indexBlock}
-use Rattle.format.specs.Segments.{segments}
 use Rattle.format.specs.View.{View}
 use Rattle.format.specs.SheetSize.{lineSize, indexSize, segmentSize}
 use Rattle.format.specs.declared.Widths.{Widths}

@@ -12,7 +12,7 @@ use Rattle.bits.specs.Codec.{got}
 use Rattle.outcome.specs.Refusals.{badHeader}
 use Rattle.lay.specs.Laid.{Laid}
 use Rattle.lay.proofs.Laws.{laid-next, lent, back}
-use Rattle.format.specs.Record.{Record, FitsHeader, scale, header, views, read}
+use Rattle.format.specs.Record.{Record, FitsHeader, scale, header, read}
 use Rattle.format.specs.SheetSize.{viewSize, sheetSize}
 use Rattle.format.specs.declared.Widths.{Widths}
 use Rattle.format.specs.declared.Header.{Header}

@@ -8,7 +8,6 @@ use Rattle.bits.specs.CodecLaws.{field}
 use Rattle.outcome.specs.Refusals.{badValue}
 use Rattle.format.specs.Line.{Line}
 use Rattle.format.specs.Segments.{Segment}
-use Rattle.format.specs.Record.{scale}
 use Rattle.format.specs.declared.Widths.{Widths}
 use Rattle.format.specs.declared.End.{End}
 use Rattle.format.specs.declared.Header.{Header}

@@ -5,7 +5,6 @@ use native.Mathlib.Omega.{arith}
 use mathlib.Core.List.{List}
 use lib.ListN.{length}
 use Rattle.sheet.specs.Fields.{Field}
-use Rattle.shape.specs.Shape.{starts}
 use Rattle.shape.proofs.Laws.Stand.{told, denied}
 use Rattle.values.specs.Run.{Segments}
 use Rattle.values.proofs.Laws.Stand.{Next, three, next-field}

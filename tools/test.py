@@ -1,0 +1,248 @@
+"""Tests of the proof loop's parts that work on texts: what rt says taken apart, a function's places, a proof file filled
+from its answers, names that are not used. They need no rt and take no time; that the loop fits the toolchain shows in
+every proof made with it.
+"""
+import sys
+import tempfile
+import unittest
+from pathlib import Path
+
+sys.dont_write_bytecode = True
+sys.path.insert(0, str(Path(__file__).resolve().parent))
+
+from proofloop import answers, names, said, skeleton, tidy
+from proofloop.places import Places
+from proofloop.tree import Stop, Tree
+
+PRINTED = """\
+use Rattle.lay.proofs.copy.Statement.{statement}
+use Rattle.lay.proofs.copy.Tie as tie
+use Rattle.bits.proofs.two_at.Reads as two-at-reads
+
+abbrev Inv-loop : tie.InvT-loop
+Inv-loop src i₀ i = ?
+
+-- src/lib.rt:14:5
+two-at-requires : tie.Need-two-at-requires Inv-loop
+two-at-requires c κs = ?
+
+-- src/lib.rt:16:9
+add-i : tie.Need-add-i Inv-loop
+add-i c = ?
+
+-- src/lib.rt:9:1
+returns : tie.Need-returns Inv-loop
+returns c = ?
+
+pub copy-spec : {M : Type 1} → statement M
+copy-spec =
+    tie.close
+    (tie.spec Inv-loop two-at-requires add-i returns)
+"""
+
+ANSWERS = """\
+-- The copy so far.
+use lib.ListN.{length}
+## Inv-loop
+i ≤ length src
+## helper In-loop
+inside : (c : tie.In-loop Inv-loop) → Unit
+inside c = «At-loop» .loop .inv
+## two-at-requires
+inside (c)
+## returns
+unfolding copied
+let i = «At-loop» .loop .i in
+    i
+"""
+
+LTS = """\
+      pub record Start : Type 0 where
+        pub args : Args κs
+        pub record At-loop·own : Type 0 where
+          pub inv : Inv·0
+      pub record At-loop : Type 0 where
+        pub before : Start
+        pub loop : At-loop·own before
+      pub record In-loop : Type 0 where
+        pub before : At-loop
+        pub loop-test : In-loop·own before
+      Need-two-at-requires = (c : In-loop) → s21 .asks
+      pub record After-loop : Type 0 where
+        pub before : At-loop
+        pub loop-test : After-loop·own before
+      pub record Then1 : Type 0 where
+        pub before : After-loop
+        pub if1 : Then1·own before
+      pub record After-n : Type 0 where
+        pub before : Then1
+        pub n : After-n·own before
+      pub record Else1 : Type 0 where
+        pub before : After-loop
+        pub if1 : Else1·own before
+        pub record Joined1·own : Type 0 where
+          pub n : Nat
+          pub came : Logic._⊎_ ((if1 : Then1·own before·) × (n : After-n·own record {
+            before = before·; }) × Path'._≡_ {A = Nat.ℕ} n (m3 before·))
+            (Logic._⊎_ ((if1 : Else1·own before·) × Path'._≡_ n 0) ((if1 : Else1·own before·) × Path'._≡_ n 1))
+      pub record Joined1 : Type 0 where
+        pub before : After-loop
+        pub if1 : Joined1·own before
+      Need-returns =
+          (c : After-loop) →
+"""
+
+SAID = """\
+rt: bits proved (unchanged since it was last proved)
+fn bits::wide: proved
+crates/lay/proofs/copy/Proof.antt:41:235: error: `returns`: the two types differ
+  expected type `A`
+crates/lay/proofs/copy/Proof.antt:53:1: `add-i` is not admitted: has-holes
+crates/lay/proofs/copy/Proof.antt:54:16: goal ? in `add-i`
+    c : lts.Else4
+  ⊢ A
+note: antt's advice
+  on a search
+struct lay::Rank: no holes
+fn lay::copy: not proved
+fn lay::put_two: no proof: expected `put-two-spec`
+help: write crates/lay/proofs/put_two/Proof.antt with these lines, and check again
+    use borrow.Author.Needs.{needs}
+    
+    returns : tie.Need-returns
+    returns c = ?
+holes=1
+"""
+
+
+class WhatRtSays(unittest.TestCase):
+    def test_left(self):
+        self.assertEqual(said.unproved(SAID), ["lay::copy", "lay::put_two"])
+        self.assertEqual(said.holes(SAID), ["copy.add-i"])
+
+    def test_told(self):
+        told = said.told(SAID, "the file")
+        self.assertIn("\nno file yet: crates/lay/proofs/put_two/Proof.antt\n", told)
+        self.assertIn("\n  ⊢ A\n", told)
+        self.assertNotRegex(told, "bits::wide|advice|on a search")
+
+    def test_short(self):
+        short = said.short(SAID, "the file").split("\n")
+        self.assertEqual(short[1:], ["errors: 1", "functions not proved: lay::copy lay::put_two"])
+        self.assertIn("cut here; the whole text is in the file", said.short(("x" * 400 + "\n") * 60, "the file"))
+
+    def test_goal(self):
+        self.assertEqual(said.goal(SAID, "add-i").split("\n")[-1], "  ⊢ A")
+        self.assertIn("expected type", said.goal(SAID, "returns"))
+        self.assertIsNone(said.goal(SAID, "wide"))
+
+    def test_files(self):
+        text = said.files(SAID)["crates/lay/proofs/put_two/Proof.antt"]
+        self.assertEqual(text.split("\n")[1:3], ["", "returns : tie.Need-returns"])
+        self.assertIn("returns c = search needs\n", skeleton.by_search(text))
+
+
+class ThePlaces(unittest.TestCase):
+    def test_paths(self):
+        places = Places(LTS)
+        self.assertEqual(places.path("In-loop", "Start"), " .before .before")
+        self.assertEqual(places.told("returns"), "returns | 0:After-loop.loop-test 1:At-loop.loop 2:Start")
+        with self.assertRaisesRegex(Stop, "no such place before After-loop"):
+            places.path("After-loop", "In-loop")
+
+    def test_ways(self):
+        ways = Places(LTS).ways("Joined1")
+        self.assertEqual([str(way) for way in ways], [".0 if1:Then1 .1 n:After-n .2 =n"] + 2 * [".0 if1:Else1 .1 =n"])
+        self.assertEqual(ways[0].record("c", "x"), "record { before = record { before = c; if1 = x .0 }; n = x .1 }")
+        with self.assertRaisesRegex(Stop, "no ways meet at In-loop"):
+            Places(LTS).ways("In-loop")
+
+
+def filled(frame, given=ANSWERS):
+    return answers.fill(skeleton.parse(frame), answers.parse(given), Places(LTS))
+
+
+class AProofFilled(unittest.TestCase):
+    def test_frame(self):
+        frame = skeleton.parse(PRINTED)
+        self.assertEqual(frame.names, ["Inv-loop", "two-at-requires", "add-i", "returns"])
+        self.assertEqual([part.left for part in frame.needs], ["two-at-requires c κs =", "add-i c =", "returns c ="])
+        with self.assertRaises(Stop):
+            skeleton.parse("pub copy-spec : statement M\ncopy-spec 𝓤 H = ?\n")
+
+    def test_fill(self):
+        text = filled(PRINTED)
+        self.assertIn("Inv-loop src i₀ i =\n    i ≤ length src\n", text)
+        self.assertIn("inside c = c .before .loop .inv\n", text)
+        self.assertIn("unfolding copied\nreturns c =\n    let i = c .before .loop .i in\n        i\n", text)
+        self.assertIn("add-i c = search needs\n", text)
+        self.assertIn("use borrow.Author.Needs.{needs}\nuse Rattle.lay", text)
+        self.assertNotIn("-- src/", text)
+
+    def test_fill_again(self):
+        self.assertEqual(filled(filled(PRINTED)), filled(PRINTED))
+
+    def test_ways(self):
+        text = filled(PRINTED, "## ways Joined1\nmet : A\nmet c =\n# 0\nf («=») «At-loop»\n# 1\ng\n# 2\nh\n")
+        self.assertIn("met c =\n    ⊎-elim\n    (λ x.\n    let k : tie.After-n Inv-loop = record {", text)
+        self.assertIn(" in\n    f (x .2) k .before .before .before)\n    (⊎-elim\n", text)
+        self.assertIn(" in\n    h))\n    (c .if1 .came)\n", text)
+
+    def test_refused(self):
+        for given, words in (("## returns\n«In-loop»\n", "in the block returns: «In-loop»"),
+                             ("## ways Joined1\nmet c =\n# 0\nf\n", "3 ways meet there, and 1 are answered"),
+                             ("## returns\na\n## returns\nb\n", "answered twice"), ("## ways\n", "## ways PLACE")):
+            with self.assertRaisesRegex(Stop, words):
+                filled(PRINTED, given)
+
+    def test_not_asked(self):
+        frame, given = skeleton.parse(PRINTED), answers.parse("## returns-2\na\n")
+        self.assertEqual(answers.unknown(frame, given), ["returns-2"])
+        self.assertEqual(answers.searched(frame, given), ["two-at-requires", "add-i", "returns"])
+
+
+def unused(text):
+    return [(line.module, kept) for line, kept in names.unused(text)]
+
+
+class WhatIsNotUsed(unittest.TestCase):
+    def test_names(self):
+        text = "use A.{_++_, _∷_, _≤_, le, le-add, ₀}\n\nf : ℕ\nf = x ++ y le-add₀ -- le ₀\ng = _≤_ a b\n"
+        self.assertEqual(unused(text), [("A", ["_++_", "_≤_"])])
+
+    def test_operators_by_their_parts(self):
+        for body, kept in (("if a then b else c", []), ("if a then b", [("A", [])])):
+            self.assertEqual(unused(f"use A.{{if_then_else_}}\n\nf = {body}\n"), kept)
+
+    def test_behind_a_dot(self):
+        self.assertEqual(unused("use A.{below, got}\nuse B as C\n\nf = r .below (C.got x)\n"), [("A", [])])
+        self.assertEqual(unused("use A.{ℕ}\nuse B as C\nuse C.{x}\n\nf = ℕ.zero x\n"), [])
+        self.assertEqual(unused("use B as s\nuse B.Nat\n\nf s = s\n"), [("B", []), ("B.Nat", [])])
+
+    def test_renamed_and_passed_on(self):
+        self.assertEqual(unused("use A.{a as b, N.d}\npub use A.{x}\n\nf = a d\n"), [("A", ["N.d"])])
+
+    def test_file(self):
+        text, changes = tidy.file("use A.{a, b}\nuse B.{c}\n\n-- src/lib.rt:1:2\nf = b\n", True)
+        self.assertEqual(text, "use A.{b}\n\nf = b\n")
+        self.assertEqual(changes, ["1 places of the source", "a of A", "the line of B"])
+
+    def test_answers(self):
+        proof = "use A.{b}\nuse borrow.Author.Needs.{needs}\nuse X.Tie as tie\nuse E.{e}\n\nf = b\n"
+        text, _ = tidy.answers("-- What.\nuse A.{a, b}\nuse B.{c}\n## returns\nb\n", proof)
+        self.assertEqual(text, "-- What.\nuse A.{b}\nuse E.{e}\n## returns\nb\n")
+        self.assertEqual(tidy.answers(text, proof), (text, []))
+
+    def test_crate(self):
+        with tempfile.TemporaryDirectory() as top:
+            Path(top, "crates.txt").write_text("a:\n")
+            tree = Tree(top)
+            tree.write(tree.proof("a", "m/f"), "use A.{a}\n\nf = b\n")
+            tree.write(tree.answers("a", "m/f"), "use A.{a}\n## f\nb\n")
+            tree.write(tree.answers("a", "g"), "## g\n")
+            found = {path.name: text for path, text, _ in tidy.crate(tree, "a")}
+        self.assertEqual(found, {"Proof.antt": "f = b\n", "g.ans": None, "m.f.ans": "## f\nb\n"})
+
+
+if __name__ == "__main__":
+    unittest.main()
