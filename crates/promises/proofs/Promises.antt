@@ -28,6 +28,7 @@ use Rattle.sheet.specs.Sheet.{readSheet, reading, writing}
 use Rattle.sheet.proofs.Laws.Calls as S
 use Rattle.sheet.proofs.Laws.BothWays as B
 use Rattle.sheet.proofs.Laws.Refuses as G
+use Rattle.to_sheet.proofs.Laws.Room as M
 use Rattle.orders.specs.Least.{leastWidth}
 use Rattle.orders.specs.Act.{remove}
 use Rattle.orders.specs.Order.{Order, edited, verdict, order, holds}
@@ -72,6 +73,10 @@ write-after-read = S.write-after-read
 -- reading the record that writing gave gives the sheet back
 pub read-after-write : (sheet bytes : List ℕ) → All Byte sheet → writing sheet ≡ given bytes → reading bytes ≡ given sheet
 read-after-write = S.read-after-write
+
+-- seven times a record's length is room for its sheet
+pub sheet-room : (bytes sheet : List ℕ) → All Byte bytes → reading bytes ≡ given sheet → length sheet ≤ 7 * length bytes
+sheet-room = M.reading-room
 
 -- the calls themselves, whose contracts `Answers (reading bytes)` and `Answers (writing sheet)` are: where the first answers 0, and
 -- the second is lent what it wrote and room enough, the second gives back what the first was lent. Functions that make the two calls

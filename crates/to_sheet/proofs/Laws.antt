@@ -11,3 +11,4 @@ pub mod Blocks
 pub mod View
 pub mod Views
 pub mod Record
+pub mod Room
