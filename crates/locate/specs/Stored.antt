@@ -27,9 +27,12 @@ scaleBytes s = s .points ∷ s .widths .c ∷ s .widths .b ∷ s .widths .k ∷ 
 
 -- ---- a view
 
--- a block behind its length
+-- behind its length
+abbrev pub sized : List ℕ → List ℕ
+sized block = two (length block) ++ block
+
 abbrev pub sizedOut : {A : Type 0} → Block A → A → List ℕ
-sizedOut w v = two (length (inBytes (w .enc v))) ++ inBytes (w .enc v)
+sizedOut w v = sized (inBytes (w .enc v))
 
 abbrev pub blocksOut : Widths → View → List ℕ
 blocksOut w v = sizedOut (skeleton w) (v .lines) ++ (sizedOut (indexBlock (length (v .lines))) (v .index) ++ sizedOut segments (v .segments))

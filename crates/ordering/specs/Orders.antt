@@ -57,11 +57,9 @@ pub record CarriedOut (s : List ℕ) (x : Site) (ch : Change) (removal before af
   pub is : (o : Order) (r : Record) → read s ≡ got r [] → SiteOf r s (o .view) x → Tested o r → Means (o .act) (viewAt r (o .view)) removal ch
       → Answers (order o s) before after a
 
-pub record PairThere (s : List ℕ) (x : Site) : Type 0 where
-  pub value : Record
-  pub reads : read s ≡ got value []
-  pub view : ℕ
-  pub at : SiteOf value s view x
+-- some view stands there, with as many lines as code has counted
+abbrev pub PairThere : List ℕ → Site → Type 0
+PairThere s x = (view : ℕ) × Sought s view (x .lines) x
 
 pub record PairDone (s : List ℕ) (x : Site) (p q : ℕ) (joins : Bool) (before after : List ℕ) (a : Answer) : Type 0 where
   pub is : (view n : ℕ) → Sought s view n x → Answers (order (pairOrder view n p q joins) s) before after a

@@ -16,16 +16,12 @@ use Rattle.format.specs.Index.{Index, up, indexBlock}
 use Rattle.format.specs.Record.{Narrow}
 use Rattle.format.specs.declared.Widths.{Widths}
 use Rattle.orders.specs.Least.{leastWidth, indexOf}
-use Rattle.orders.specs.Listed.{listed}
 use Rattle.survivors.specs.Rank.{Rising}
+use Rattle.locate.specs.Stored.{sized}
 use Rattle.relist.specs.Index.{left}
 use Rattle.relist.specs.declared.lists.Change.{Change}
 use Rattle.relist.specs.declared.index.Size.{Size}
-use Rattle.reline.specs.Lines.{keptFrom}
-
--- behind its length
-abbrev pub sized : List ℕ → List ℕ
-sized block = two (length block) ++ block
+use Rattle.reline.specs.Lines.{keptBlock}
 
 -- ---- the record's first bytes, up to byte `to`, with another record length
 
@@ -43,9 +39,6 @@ HeadLaid s to n before after r = Laid (headOf s to n) before after r
 
 -- ---- the skeleton block, whose old bytes are s
 
-abbrev pub newSkeleton : Widths → List ℕ → List Line → List ℕ
-newSkeleton w removal ls = inBytes (skeleton w .enc (keptFrom (listed removal) 0 ls))
-
 pub record OldSkeleton (w : Widths) (s : List ℕ) (lines : ℕ) (removal : List ℕ) : Type 0 where
   pub narrow : Narrow w
   pub bytes : All Byte s
@@ -56,23 +49,23 @@ pub record OldSkeleton (w : Widths) (s : List ℕ) (lines : ℕ) (removal : List
   pub count : lines ≡ length value
 
 pub record SkeletonMeasured (w : Widths) (s removal : List ℕ) (r : ℕ) : Type 0 where
-  pub is : (ls : List Line) → skeleton w .dec (bitsOf s) ≡ got ls [] → r ≡ length (newSkeleton w removal ls)
+  pub is : (ls : List Line) → skeleton w .dec (bitsOf s) ≡ got ls [] → r ≡ length (keptBlock w removal ls)
 
 pub record SkeletonRoom (w : Widths) (s : List ℕ) (lines : ℕ) (removal : List ℕ) (n : ℕ) (out : List ℕ) : Type 0 where
   pub there : OldSkeleton w s lines removal
-  pub size : n ≡ length (newSkeleton w removal (there .value))
+  pub size : n ≡ length (keptBlock w removal (there .value))
   pub small : n < 65536
   pub room : 2 + n ≤ length out
 
 pub record SkeletonLaid (w : Widths) (s removal before after : List ℕ) (r : ℕ) : Type 0 where
-  pub is : (ls : List Line) → skeleton w .dec (bitsOf s) ≡ got ls [] → Laid (sized (newSkeleton w removal ls)) before after r
+  pub is : (ls : List Line) → skeleton w .dec (bitsOf s) ≡ got ls [] → Laid (sized (keptBlock w removal ls)) before after r
 
 -- ---- the index block of so many lines, whose old bytes are s
 
 abbrev pub newIndex : List ℕ → Change → Option Index → Option Index
 newIndex removal ch o = Option·map (λ i. indexOf (left removal ch i)) o
 
--- how many lines it is for does not change its bytes
+-- its bytes; where there is one, relist's newBlock
 abbrev pub newIndexBlock : List ℕ → Change → Option Index → List ℕ
 newIndexBlock removal ch o = inBytes (indexBlock 0 .enc (newIndex removal ch o))
 

@@ -17,9 +17,9 @@ use Rattle.survivors.specs.Rank.{Rising}
 use Rattle.locate.specs.Stored.{recordOut}
 use Rattle.relist.specs.Index.{left}
 use Rattle.relist.specs.declared.lists.Change.{Change}
-use Rattle.reline.specs.Lines.{keptFrom}
+use Rattle.reline.specs.Lines.{keptFrom, keptBlock}
 use Rattle.rebuild.specs.Site.{SiteOf}
-use Rattle.rebuild.specs.Blocks.{newSkeleton, newIndex, Keeps, SizeOf}
+use Rattle.rebuild.specs.Blocks.{newIndex, Keeps, SizeOf}
 use Rattle.rebuild.specs.declared.site.Site.{Site}
 use Rattle.rebuild.specs.declared.measure.Sizes.{Sizes}
 
@@ -47,7 +47,7 @@ pub record Placed (s : List ℕ) (x : Site) (ch : Change) (removal : List ℕ) :
 
 -- m says how long the blocks of view i and the record r become
 pub record SizesOf (r : Record) (i : ℕ) (ch : Change) (removal : List ℕ) (m : Sizes) : Type 0 where
-  pub skeleton : m .skeleton ≡ length (newSkeleton (r .head .scale .widths) removal (viewAt r i .lines))
+  pub skeleton : m .skeleton ≡ length (keptBlock (r .head .scale .widths) removal (viewAt r i .lines))
   pub index : SizeOf removal ch (viewAt r i .index) (record { width = m .width; bytes = m .index })
   pub bytes : m .bytes ≡ size (newRecord removal ch i r)
 

@@ -24,8 +24,7 @@ fn skeleton_size(s: &[u8], w: Widths, lines: usize, removal: &[u8]) -> usize
     if removal.len() == 0 {
         return s.len();
     }
-    let kept = lines_size(s, w, lines, removal);
-    (kept.bits + 7) / 8
+    lines_size(s, w, lines, removal)
 }
 
 // The index block s; an empty one has no index, and stays so.

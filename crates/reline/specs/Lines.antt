@@ -4,21 +4,24 @@ use Prim.Native.Nat.{ℕ, _*_, _≤_}
 use mathlib.Core.List.{List, _++_}
 use lib.ListN.{length, drop}
 use Rattle.bits.specs.Lists.{All}
-use Rattle.bits.specs.Bits.{Bits, filled}
+use Rattle.bits.specs.Bits.{Bits}
 use Rattle.bits.specs.Bytes.{bitsOf, inBytes}
 use Rattle.bits.specs.CodecLaws.{encAll}
 use Rattle.lay.specs.Laid.{Laid}
-use Rattle.format.specs.Line.{Line, FitsLine, line}
+use Rattle.format.specs.Line.{Line, FitsLine, line, skeleton}
 use Rattle.format.specs.Record.{Narrow}
 use Rattle.format.specs.declared.Widths.{Widths}
 use Rattle.orders.specs.Listed.{listed}
 use Rattle.survivors.specs.Rank.{Rising}
 use Rattle.survivors.specs.Kept.{kept}
-use Rattle.reline.specs.declared.Kept.{Kept}
 
 -- of the lines from l on, those that the removal of rs leaves
 abbrev pub keptFrom : List ℕ → ℕ → List Line → List Line
 keptFrom rs l xs = kept (λ i x. x) rs l xs
+
+-- their block
+abbrev pub keptBlock : Widths → List ℕ → List Line → List ℕ
+keptBlock w removal ls = inBytes (skeleton w .enc (keptFrom (listed removal) 0 ls))
 
 -- lines stand from place p of the block s on, and the bits u follow them
 pub record LinesAt (w : Widths) (s : List ℕ) (p : ℕ) (ls : List Line) (u : Bits) : Type 0 where
@@ -36,13 +39,8 @@ pub record LinesThere (w : Widths) (s : List ℕ) (count : ℕ) (removal : List 
   pub at : LinesAt w s 0 value behind
   pub counts : length value ≡ count
 
-pub record LinesSized (w : Widths) (s : List ℕ) (count : ℕ) (removal : List ℕ) (r : Kept) : Type 0 where
-  pub is : (ls : List Line) (u : Bits) → LinesAt w s 0 ls u → length ls ≡ count
-      → (r .lines ≡ length (keptFrom (listed removal) 0 ls)) × (r .bits ≡ length (encAll (line w) (keptFrom (listed removal) 0 ls)))
-
--- the block of the lines that are left
-abbrev pub keptBlock : Widths → List ℕ → List Line → List ℕ
-keptBlock w removal ls = inBytes (filled (encAll (line w) (keptFrom (listed removal) 0 ls)))
+pub record LinesSized (w : Widths) (s : List ℕ) (count : ℕ) (removal : List ℕ) (r : ℕ) : Type 0 where
+  pub is : (ls : List Line) (u : Bits) → LinesAt w s 0 ls u → length ls ≡ count → r ≡ length (keptBlock w removal ls)
 
 pub record LinesPutThere (w : Widths) (s : List ℕ) (count : ℕ) (removal out : List ℕ) : Type 0 where
   pub there : LinesThere w s count removal

@@ -1,5 +1,5 @@
-// The lines that a removal leaves, from an accepted record's skeleton block: how many they are and how many bits they take, and the
-// block with them alone. A line's bits are copied as they stand.
+// The lines that a removal leaves, from an accepted record's skeleton block: the block with them alone, measured or put. A line's
+// bits are copied as they stand.
 ghost use mathlib.Core.Path.{_≡_};
 ghost use Prim.Native.Nat.{min};
 ghost use Rattle.reline.specs.Copy.{CopyThere, Copied};
@@ -9,12 +9,6 @@ use format::Widths;
 use locate::line::line_end;
 use puts::put_bits;
 use survivors::rank_of;
-
-// How many lines there are, and how many bits they take.
-pub struct Kept {
-    pub lines: usize,
-    pub bits: usize,
-}
 
 fn smaller(a: usize, b: usize) -> usize
     ensures { λ r. ⌜ r ≡ min a b ⌝ }
@@ -38,14 +32,13 @@ fn copy_bits(out: &mut [u8], at: usize, s: &[u8], p: usize, end: usize) -> usize
     q
 }
 
-// Of so many lines in the block s, those that the removal leaves.
-pub fn lines_size(s: &[u8], w: Widths, count: usize, removal: &[u8]) -> Kept
+// The bytes of the block with the lines alone that the removal leaves, of so many in the block s.
+pub fn lines_size(s: &[u8], w: Widths, count: usize, removal: &[u8]) -> usize
     requires { ⌜ LinesThere w (now s) count (now removal) ⌝ }
     ensures { λ r. ⌜ LinesSized w (now (s .entry)) count (now (removal .entry)) r ⌝ }
 {
     let mut p: usize = 0;
     let mut l: usize = 0;
-    let mut lines: usize = 0;
     let mut bits: usize = 0;
     while l < count {
         let from = p;
@@ -56,9 +49,8 @@ pub fn lines_size(s: &[u8], w: Widths, count: usize, removal: &[u8]) -> Kept
             continue;
         }
         bits += p - from;
-        lines += 1;
     }
-    Kept { lines, bits }
+    (bits + 7) / 8
 }
 
 // The block with these lines alone, at the start of the output; the answer is its bytes.

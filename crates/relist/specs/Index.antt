@@ -25,7 +25,7 @@ left removal ch i = newFrom (listed removal) ch 0 (i .lists)
 
 -- the bytes of the new block; how many lines it is for does not change them
 abbrev pub newBlock : List ℕ → Change → Index → List ℕ
-newBlock removal ch i = inBytes (indexBlock (length (left removal ch i)) .enc (some (indexOf (left removal ch i))))
+newBlock removal ch i = inBytes (indexBlock 0 .enc (some (indexOf (left removal ch i))))
 
 pub record IndexThere (s : List ℕ) (lines : ℕ) (ch : Change) (removal : List ℕ) : Type 0 where
   pub short : length s ≤ 65535

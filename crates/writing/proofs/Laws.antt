@@ -29,8 +29,7 @@ use Rattle.to_sheet.specs.Bytes.{recordBytes}
 use Rattle.to_sheet.proofs.Laws.Rendered.{rendered}
 use Rattle.locate.specs.Stored.{recordOut}
 use Rattle.to_record.specs.Records.{RecordThere, RecordPut}
-use Rattle.locate.proofs.Laws.Written.{written}
-use Rattle.to_record.proofs.Laws.Record.{record-long}
+use Rattle.locate.proofs.Laws.Written.{stored-long, written}
 use Rattle.writing.specs.Judged.{SheetRight, SheetRefused, InOrder}
 
 -- ---- the sheet
@@ -87,7 +86,7 @@ module _ (s before : List ℕ) where
     gives = writing-is s (h .value) [] (h .reads) ∙ ap given (written (h .value) allowed)
 
     long : length (recordOut (h .value)) ≡ z
-    long = record-long (h .value) allowed stands ∙ sym (h .all)
+    long = stored-long (h .value) ∙ sym (h .all)
 
     pub no-room : length before < z → Answers (writing s) before before (record { number = noRoom; place = 0; length = 0 })
     no-room l = answer-full (λ xs. xs) (length before) before gives (omega (arith, long))

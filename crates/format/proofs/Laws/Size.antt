@@ -5,12 +5,13 @@ use native.Mathlib.Omega.{arith}
 use mathlib.Core.List.{List, [], _∷_}
 use lib.ListN.{length, length-append}
 use Rattle.bits.specs.BitsLaws.{length-bits}
+use Rattle.bits.specs.BytesLaws.{length-bytesOf}
 use Rattle.bits.specs.CodecLaws.{encAlong}
 use Rattle.format.specs.Line.{skeleton}
 use Rattle.format.specs.Index.{indexBlock}
 use Rattle.format.specs.Segments.{segments}
 use Rattle.format.specs.View.{View, view, viewHeader}
-use Rattle.format.specs.Record.{Record, tellSeen, recordOf, header, views, size}
+use Rattle.format.specs.Record.{Record, tellSeen, recordOf, header, views, size, write}
 use Rattle.format.specs.declared.Widths.{Widths}
 
 -- a view: 14 bytes of header and length fields, and its blocks
@@ -38,3 +39,7 @@ size-is n r = omega (arith, record-length n r, record-length 0 r, views-bytes (r
 
 pub views-length : (r : Record) → 192 + length (encAlong (view (r .head .scale .widths)) tellSeen [] (r .views)) ≡ 8 * size r
 views-length r = omega (arith, record-length 0 r, size-is 0 r)
+
+pub write-long : (r : Record) → length (write r) ≡ size r
+unfolding write
+write-long r = length-bytesOf (size r) _

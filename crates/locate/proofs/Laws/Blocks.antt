@@ -23,6 +23,10 @@ use Rattle.locate.specs.Finds.{BlockEnd, BlocksFound}
 use Rattle.locate.specs.declared.view.Blocks.{Blocks}
 use Rattle.locate.proofs.Laws.Prefixed.{block-end}
 
+-- bytes that read as a value, with nothing left, are what its block writes
+pub whole-is : {A : Type 0} (w : Block A) (s : List ℕ) {v : A} → w .dec (bitsOf s) ≡ got v [] → w .Fits v × (bitsOf s ≡ w .enc v)
+whole-is w s {v} e = let l : length (bitsOf s) % 8 ≡ 0 = omega (arith, length-bitsOf s) in w .back (bitsOf s) v l e
+
 -- the bytes that code cuts out for the block whose length is at byte b
 abbrev pub cut : List ℕ → ℕ → ℕ → List ℕ
 cut s b e = part s (b + 2) (e - (b + 2))
@@ -30,9 +34,7 @@ cut s b e = part s (b + 2) (e - (b + 2))
 module _ {A : Type 0} {w : Block A} {s : List ℕ} {b e : ℕ} {v : A} (h : BlockAt w s b e v) where
   -- it is what its block writes
   pub block-is : w .Fits v × (bitsOf (cut s b e) ≡ w .enc v)
-  block-is =
-      let l : length (bitsOf (cut s b e)) % 8 ≡ 0 = omega (arith, length-bitsOf (cut s b e)) in
-      w .back (bitsOf (cut s b e)) v l (h .value)
+  block-is = whole-is w (cut s b e) (h .value)
 
   pub block-bits : length (w .enc v) ≡ 8 * (e - (b + 2))
   block-bits =

@@ -1,6 +1,6 @@
 -- The index block of an accepted view: it has an index where it is not empty, and its bits are its width's and its lists'.
 use mathlib.Core.Path.{_≡_, refl, sym, ap, _∙_}
-use Prim.Native.Nat.{ℕ, _%_, _<_}
+use Prim.Native.Nat.{ℕ, _<_}
 use native.Mathlib.Omega.{arith}
 use mathlib.Core.Option.{Option, some}
 use mathlib.Core.List.{List, _++_, append-assoc}
@@ -13,6 +13,7 @@ use Rattle.bits.specs.CodecLaws.{next-got, encAlong}
 use Rattle.bits.specs.BlockLaws.{ended}
 use Rattle.bits.proofs.Laws.Parts.{maybe-more}
 use Rattle.outcome.specs.Refusals.{badIndex}
+use Rattle.locate.proofs.Laws.Blocks.{whole-is}
 use Rattle.format.specs.Index.{neighbours, Index, up, FitsIndex, index, indexBlock}
 
 -- a block that is not empty has an index
@@ -32,8 +33,7 @@ pub record IndexAt (lines : ℕ) (s : List ℕ) (i : Index) : Type 0 where
 pub index-at : (lines : ℕ) (s : List ℕ) {i : Index} {u : Bits} → indexBlock lines .dec (bitsOf s) ≡ got (some i) u → IndexAt lines s i
 unfolding indexBlock index
 index-at lines s {i} {u} e =
-    let l : length (bitsOf s) % 8 ≡ 0 = omega (arith, length-bitsOf s) in
-    let (f, b) = indexBlock lines .back (bitsOf s) (some i) l (e ∙ ap (got (some i)) (indexBlock lines .all (bitsOf s) (some i) u e)) in
+    let (f, b) = whole-is (indexBlock lines) s (e ∙ ap (got (some i)) (indexBlock lines .all (bitsOf s) (some i) u e)) in
     record { fits = f; after = _; bits = b ∙ append-assoc (bitsOfNumber 8 (i .width)) (encAlong (neighbours (i .width)) up 0 (i .lists)) _ }
 
 -- what is written of one

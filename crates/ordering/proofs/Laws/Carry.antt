@@ -6,7 +6,6 @@ use mathlib.Core.List.{List, []}
 use lib.ListN.{length}
 use Rattle.bits.specs.Lists.{All}
 use Rattle.bits.specs.Bytes.{Byte}
-use Rattle.bits.specs.BytesLaws.{length-bytesOf}
 use Rattle.bits.specs.Codec.{got}
 use Rattle.outcome.specs.Refusals.{tooLong, noRoom}
 use Rattle.outcome.specs.Outcome.{given}
@@ -15,6 +14,7 @@ use Rattle.lay.specs.Laid.{Laid}
 use Rattle.format.specs.Limits.{mostBytes}
 use Rattle.format.specs.Record.{Record, read, size, write}
 use Rattle.format.specs.Places.{viewAt}
+use Rattle.format.proofs.Laws.Size.{write-long}
 use Rattle.format.proofs.Laws.Record.{read-back}
 use Rattle.orders.specs.Order.{Order, edited, verdict, order}
 use Rattle.orders.proofs.Laws.Accept.{verdict-zero}
@@ -29,10 +29,6 @@ use Rattle.rebuild.specs.declared.site.Site.{Site}
 use Rattle.rebuild.specs.declared.measure.Sizes.{Sizes}
 use Rattle.rebuild.proofs.Laws.Acts.{record-after}
 use Rattle.ordering.specs.Orders.{Tested, CarriedOut}
-
-write-long : (r : Record) → length (write r) ≡ size r
-unfolding write
-write-long r = length-bytesOf (size r) _
 
 module _ {s : List ℕ} {x : Site} {ch : Change} {removal : List ℕ} {m : Sizes} (D : Measured s x ch removal m) where
   module _ (o : Order) (r : Record) (e : read s ≡ got r []) (S : SiteOf r s (o .view) x) (T : Tested o r) (M : Means (o .act) (viewAt r (o .view)) removal ch) where

@@ -28,12 +28,8 @@ use Rattle.relist.specs.Near.{NearThere, Near}
 use Rattle.rebuild.specs.Rebuilt.{Means}
 use Rattle.rebuild.specs.declared.site.Site.{Site}
 use Rattle.rebuild.proofs.Laws.Acts.{join-means, part-means}
-use Rattle.ordering.specs.Orders.{pairAct, pairOrder, Sought, PairThere}
+use Rattle.ordering.specs.Orders.{pairAct, pairOrder, Sought}
 use Rattle.ordering.proofs.Laws.View.{own-refused}
-
--- the view, for an order that was made for as many lines as it has
-pub as-found : {s : List ℕ} {x : Site} (t : PairThere s x) → Sought s (t .view) (x .lines) x
-as-found t = record { value = t .value; reads = t .reads; at = t .at; count = refl }
 
 -- no line is named
 pub none-rise : Rising []

@@ -1,5 +1,5 @@
 -- The view, then the order on it.
-use mathlib.Core.Path.{subst}
+use mathlib.Core.Path.{refl, subst}
 use Rattle.outcome.proofs.Laws.{answer-refused}
 use Rattle.ordering.specs.Orders.{pairAct, Sought, Finds}
 use Rattle.ordering.specs.declared.Found.{Found}
@@ -24,7 +24,7 @@ enum-known-site c = search needs
 
 pair-at-requires : tie.Need-pair-at-requires
 pair-at-requires c κs =
-    let f = found (c .before .before) in record { value = f .value; reads = f .reads; view = c .before .before .before .before .before .before .before .args .view; at = f .at }
+    let f = found (c .before .before) in (c .before .before .before .before .before .before .before .args .view, record { value = f .value; reads = f .reads; at = f .at; count = refl })
 
 returns : tie.Need-returns
 returns c =

@@ -11,7 +11,7 @@ use Rattle.locate.proofs.Laws.Record.{record-apart}
 use Rattle.relist.specs.Near.{Near}
 use Rattle.ordering.specs.Orders.{pairAct, pairOrder}
 use Rattle.ordering.proofs.Laws.View.{right, few, tested, placed}
-use Rattle.ordering.proofs.Laws.Pair.{as-found, none-rise, pair-means, near-there, no-index-there, no-first, no-second, nothing-to-do, pair-passes}
+use Rattle.ordering.proofs.Laws.Pair.{none-rise, pair-means, near-there, no-index-there, no-first, no-second, nothing-to-do, pair-passes}
 use borrow.Author.Needs.{needs}
 use Rattle.ordering.proofs.pair_at.Statement.{statement}
 use Rattle.ordering.proofs.pair_at.Tie as tie
@@ -24,7 +24,7 @@ looked c = rw (c .before .before .pair-of .ensures) at (c .are-near .ensures)
 
 add-from : tie.Need-add-from
 add-from c =
-    let b = c .before .before .before .pre .at .index in omega (arith, b .from, b .within, record-apart _ (c .before .before .before .pre .reads) .short)
+    let b = c .before .before .before .pre .1 .at .index in omega (arith, b .from, b .within, record-apart _ (c .before .before .before .pre .1 .reads) .short)
 
 refuse-requires : tie.Need-refuse-requires
 refuse-requires c κs = search needs
@@ -52,20 +52,20 @@ pair-of-requires c κs = search needs
 
 sub-are-near : tie.Need-sub-are-near
 sub-are-near c =
-    let b = c .before .before .before .before .before .before .before .before .before .pre .at .index in omega (arith, b .from, b .within, record-apart _ (c .before .before .before .before .before .before .before .before .before .pre .reads) .short)
+    let b = c .before .before .before .before .before .before .before .before .before .pre .1 .at .index in omega (arith, b .from, b .within, record-apart _ (c .before .before .before .before .before .before .before .before .before .pre .1 .reads) .short)
 
 part-are-near-start : tie.Need-part-are-near-start
 part-are-near-start c =
-    let b = c .before .before .before .before .before .before .before .before .before .pre .at .index in omega (arith, b .from, b .within, record-apart _ (c .before .before .before .before .before .before .before .before .before .pre .reads) .short)
+    let b = c .before .before .before .before .before .before .before .before .before .pre .1 .at .index in omega (arith, b .from, b .within, record-apart _ (c .before .before .before .before .before .before .before .before .before .pre .1 .reads) .short)
 
 part-are-near-end : tie.Need-part-are-near-end
 part-are-near-end c =
-    let b = c .before .before .before .before .before .before .before .before .before .pre .at .index in omega (arith, b .from, b .within, record-apart _ (c .before .before .before .before .before .before .before .before .before .pre .reads) .short)
+    let b = c .before .before .before .before .before .before .before .before .before .pre .1 .at .index in omega (arith, b .from, b .within, record-apart _ (c .before .before .before .before .before .before .before .before .before .pre .1 .reads) .short)
 
 are-near-requires : tie.Need-are-near-requires
 are-near-requires c κs =
-    let f = as-found (c .before .before .before .before .before .before .before .before .before .before .pre) in
-    rw (c .before .pair-of .ensures) (near-there f (c .before .before .before .before .before .before .if1 .left) (omega (arith, c .before .before .before .before .if2 .left, c .before .before .if3 .left)) (omega (arith, c .before .before .before .before .before .before .before .before .before .before .pre .at .count, few-lines (c .before .before .before .before .before .before .before .before .before .before .args .site .widths) (c .before .before .before .before .before .before .before .before .before .before .pre .at .lines))) (record-apart _ (c .before .before .before .before .before .before .before .before .before .before .pre .reads) .short))
+    let f = c .before .before .before .before .before .before .before .before .before .before .pre .1 in
+    rw (c .before .pair-of .ensures) (near-there f (c .before .before .before .before .before .before .if1 .left) (omega (arith, c .before .before .before .before .if2 .left, c .before .before .if3 .left)) (omega (arith, c .before .before .before .before .before .before .before .before .before .before .pre .1 .at .count, few-lines (c .before .before .before .before .before .before .before .before .before .before .args .site .widths) (c .before .before .before .before .before .before .before .before .before .before .pre .1 .at .lines))) (record-apart _ (c .before .before .before .before .before .before .before .before .before .before .pre .1 .reads) .short))
 
 already-so-requires : tie.Need-already-so-requires
 already-so-requires c κs = search needs
@@ -88,10 +88,10 @@ part-carry-out-end c = search needs
 
 carry-out-requires : tie.Need-carry-out-requires
 carry-out-requires c κs =
-    let f = as-found (c .before .before .before .before .before .before .before .before .before .before .before .before .before .before .before .pre) in
+    let f = c .before .before .before .before .before .before .before .before .before .before .before .before .before .before .before .pre .1 in
     let b = bytes (c .before .before .before .before .before .before .before .before .before .before .before .before .before .before) in
     let p = pair-passes f (c .before .before .before .before .before .before .before .before .before .before .before .before .before .before .before .args .a) (c .before .before .before .before .before .before .before .before .before .before .before .before .before .before .before .args .b) (c .before .before .before .before .before .before .before .before .before .before .before .before .before .before .before .args .joins) (c .before .before .before .before .before .before .before .before .before .before .before .if1 .left) (c .before .before .before .before .before .before .before .before .before .if2 .left) (c .before .before .before .before .before .before .before .if3 .left) (looked (c .before .before .before .before)) (c .before .before .before .already-so .ensures) (c .before .before .if4 .left) in
-    rw (c .before .before .before .before .before .before .pair-of .ensures) (placed f b none-rise (pair-means (c .before .before .before .before .before .before .before .before .before .before .before .before .before .before .before .args .a) (c .before .before .before .before .before .before .before .before .before .before .before .before .before .before .before .args .b) (c .before .before .before .before .before .before .before .before .before .before .before .before .before .before .before .args .joins) (viewAt (f .value) (c .before .before .before .before .before .before .before .before .before .before .before .before .before .before .before .pre .view)) (right f b) (few f b)) p)
+    rw (c .before .before .before .before .before .before .pair-of .ensures) (placed f b none-rise (pair-means (c .before .before .before .before .before .before .before .before .before .before .before .before .before .before .before .args .a) (c .before .before .before .before .before .before .before .before .before .before .before .before .before .before .before .args .b) (c .before .before .before .before .before .before .before .before .before .before .before .before .before .before .before .args .joins) (viewAt (f .value) (c .before .before .before .before .before .before .before .before .before .before .before .before .before .before .before .pre .0)) (right f b) (few f b)) p)
 
 same-length : tie.Need-same-length
 same-length c = search needs

@@ -25,13 +25,13 @@ use Rattle.orders.proofs.Laws.Survive.{survivors-le}
 use Rattle.orders.proofs.Laws.Near.{lines-after, lists-after}
 use Rattle.orders.proofs.Laws.Right.{RightLists, Right, after-right}
 use Rattle.survivors.specs.Rank.{Rising}
+use Rattle.survivors.proofs.Laws.Kept.{kept-all}
 use Rattle.relist.specs.Index.{left}
 use Rattle.relist.specs.declared.lists.Change.{Change}
 use Rattle.relist.proofs.Laws.Acts.{remove-lists, join-lists, part-lists}
 use Rattle.reline.proofs.Laws.Lines.{remove-lines}
 use Rattle.rebuild.specs.Blocks.{newIndex, Keeps}
 use Rattle.rebuild.specs.Rebuilt.{Means, newView, newRecord}
-use Rattle.rebuild.proofs.Laws.Skeleton.{none-gone}
 
 -- ---- what the orders mean to code
 
@@ -53,10 +53,10 @@ module _ (v : View) (r : Right v) (few : count v ≤ 1024) where
       }
 
   pub join-means : (a b : ℕ) → Means (join a b) v [] (record { high = max a b; low = min a b; joins = true })
-  join-means a b = record { lines = none-gone 0 (v .lines); lists = λ i e. let (g, n) = as-many e in join-lists a b (count v) (i .lists) g (omega (arith, n)) }
+  join-means a b = record { lines = kept-all 0 (v .lines); lists = λ i e. let (g, n) = as-many e in join-lists a b (count v) (i .lists) g (omega (arith, n)) }
 
   pub part-means : (a b : ℕ) → Means (part a b) v [] (record { high = max a b; low = min a b; joins = false })
-  part-means a b = record { lines = none-gone 0 (v .lines); lists = λ i e. let (g, n) = as-many e in part-lists a b (count v) (i .lists) g (omega (arith, n)) }
+  part-means a b = record { lines = kept-all 0 (v .lines); lists = λ i e. let (g, n) = as-many e in part-lists a b (count v) (i .lists) g (omega (arith, n)) }
 
 -- ---- the view and the record
 

@@ -6,21 +6,22 @@ use mathlib.Core.Logic.{_≢_}
 use mathlib.Core.Option.{Option, none, some, Option·none-ne-some, Option·some-injective}
 use mathlib.Core.List.{List, []}
 use lib.ListN.{length}
-use Rattle.bits.specs.Bytes.{bitsOf, bytesOf, inBytes}
+use Rattle.bits.specs.Bytes.{bitsOf, bytesOf}
 use Rattle.bits.specs.Codec.{got}
 use Rattle.lay.specs.Laid.{Laid}
 use Rattle.lay.specs.HighFirst.{two}
 use Rattle.lay.proofs.Laws.{lent, back}
 use Rattle.format.specs.Index.{Index, indexBlock}
-use Rattle.orders.specs.Least.{leastWidth, indexOf}
+use Rattle.orders.specs.Least.{leastWidth}
 use Rattle.survivors.specs.Kept.{kept}
 use Rattle.locate.proofs.Laws.Blocks.{no-index}
 use Rattle.locate.proofs.Laws.Index.{an-index, index-enc}
+use Rattle.locate.specs.Stored.{sized}
 use Rattle.relist.specs.Index as r
 use Rattle.relist.proofs.Laws.Index.{block-long, small-block}
 use Rattle.relist.specs.declared.lists.Change.{Change}
 use Rattle.relist.specs.declared.index.Size.{Size}
-use Rattle.rebuild.specs.Blocks.{sized, newIndexBlock, Keeps, OldIndex, IndexMeasured, IndexRoom, IndexLaid}
+use Rattle.rebuild.specs.Blocks.{newIndexBlock, Keeps, OldIndex, IndexMeasured, IndexRoom, IndexLaid}
 use Rattle.rebuild.proofs.Laws.Skeleton.{sized-laid}
 
 pub index-bytes : (n : ℕ) (o : Option Index) → indexBlock n .enc o ≡ indexBlock 0 .enc o
@@ -31,9 +32,6 @@ index-bytes n (some i) = index-enc n i ∙ sym (index-enc 0 i)
 index-none : (removal : List ℕ) (ch : Change) → newIndexBlock removal ch none ≡ []
 unfolding indexBlock bytesOf
 index-none removal ch = refl
-
-index-some : (removal : List ℕ) (ch : Change) (i : Index) → r.newBlock removal ch i ≡ newIndexBlock removal ch (some i)
-index-some removal ch i = ap inBytes (index-bytes (length (r.left removal ch i)) (some (indexOf (r.left removal ch i))))
 
 module _ {s : List ℕ} {lines : ℕ} {ch : Change} {removal : List ℕ} (t : OldIndex s lines ch removal) where
   the-index : {o : Option Index} → indexBlock lines .dec (bitsOf s) ≡ got o [] → t .value ≡ o
@@ -65,7 +63,7 @@ module _ {s : List ℕ} {lines : ℕ} {ch : Change} {removal : List ℕ} (t : Ol
             let (a, b) = S .is i [] (index-reads q) (t .keeps i q .0) (t .keeps i q .1) in
             rw (sym (the-index e) ∙ q) (record {
               width = λ j y. a ∙ ap (λ (k : Index). leastWidth (r.left removal ch k)) (Option·some-injective i j y);
-              bytes = b ∙ ap length (index-some removal ch i);
+              bytes = b;
             });
       }
 
@@ -78,7 +76,7 @@ module _ {s : List ℕ} {lines : ℕ} {ch : Change} {removal : List ℕ} (t : Ol
       go (some i) e k =
           let (f, n) = k i refl in
           let ls : List (List ℕ) = r.left removal ch i in
-          omega (arith, e, ap length (index-some removal ch i), block-long ls, small-block ls f n)
+          omega (arith, e, block-long ls, small-block ls f n)
 
   laid-index : {before after : List ℕ} {m : ℕ} → Laid (sized (newIndexBlock removal ch (t .value))) before after m → IndexLaid s lines ch removal before after m
   laid-index h = record { is = λ o e. rw (sym (the-index e)) h }
@@ -93,14 +91,14 @@ module _ {s : List ℕ} {lines : ℕ} {ch : Change} {removal : List ℕ} {width 
   pub put-there : length s ≢ 0 → {out : List ℕ} → n ≤ length out → r.IndexPutThere s lines ch removal width out
   put-there z l =
       with-index (t .there) z λ i e.
-      let b : n ≡ length (r.newBlock removal ch i) = t .size .bytes ∙ ap (λ (o : Option Index). length (newIndexBlock removal ch o)) e ∙ sym (ap length (index-some removal ch i)) in
+      let b : n ≡ length (r.newBlock removal ch i) = t .size .bytes ∙ ap (λ (o : Option Index). length (newIndexBlock removal ch o)) e in
       record { there = index-there (t .there) e; least = t .size .width i e; small = omega (arith, t .small, b); room = omega (arith, b) }
 
   pub some-lists : length s ≢ 0 → {ys : List ℕ} {m : ℕ} → r.IndexPut s lines ch removal (lent xs a) ys m → IndexLaid s lines ch removal d (back xs a ys) (a + m)
   some-lists z {ys} {m} k =
       with-index (t .there) z λ i e.
       let o = t .there in
-      let b = index-some removal ch i ∙ ap (newIndexBlock removal ch) (sym e) in
+      let b = ap (newIndexBlock removal ch) (sym e) in
       laid-index o (sized-laid (t .size .bytes) h (subst (λ (block : List ℕ). Laid block (lent xs a) ys m) b (k .is i [] (index-reads o e) (o .keeps i e .0) (o .keeps i e .1))))
 
 pub index-end : {s : List ℕ} {lines : ℕ} {ch : Change} {removal : List ℕ} {width n : ℕ} {d : List ℕ} → IndexRoom s lines ch removal width n d → length s ≢ 0
@@ -108,4 +106,4 @@ pub index-end : {s : List ℕ} {lines : ℕ} {ch : Change} {removal : List ℕ} 
 index-end {ch = ch} {removal = removal} t z k =
     with-index (t .there) z λ i e.
     let o = t .there in
-    k .is i [] (index-reads o e) (o .keeps i e .0) (o .keeps i e .1) .count ∙ ap length (index-some removal ch i) ∙ ap (λ p. length (newIndexBlock removal ch p)) (sym e) ∙ sym (t .size .bytes)
+    k .is i [] (index-reads o e) (o .keeps i e .0) (o .keeps i e .1) .count ∙ ap (λ p. length (newIndexBlock removal ch p)) (sym e) ∙ sym (t .size .bytes)

@@ -13,11 +13,12 @@ use Rattle.lay.specs.Laid.{Laid}
 use Rattle.lay.proofs.Laws.{laid-same, laid-next, lent, back}
 use Rattle.format.specs.Record.{size}
 use Rattle.format.specs.Places.{viewAt}
-use Rattle.locate.specs.Stored.{recordOut}
+use Rattle.locate.specs.Stored.{sized, recordOut}
 use Rattle.locate.proofs.Laws.Blocks.{cut}
 use Rattle.locate.proofs.Laws.Written.{stored-long}
 use Rattle.relist.specs.declared.lists.Change.{Change}
-use Rattle.rebuild.specs.Blocks.{sized, headOf, HeadLaid, newSkeleton, SkeletonRoom, SkeletonLaid, newIndexBlock, IndexRoom, IndexLaid}
+use Rattle.reline.specs.Lines.{keptBlock}
+use Rattle.rebuild.specs.Blocks.{headOf, HeadLaid, SkeletonRoom, SkeletonLaid, newIndexBlock, IndexRoom, IndexLaid}
 use Rattle.rebuild.specs.Rebuilt.{newRecord, RebuildRoom, Rebuilt}
 use Rattle.rebuild.specs.declared.site.Site.{Site}
 use Rattle.rebuild.specs.declared.measure.Sizes.{Sizes}
@@ -55,7 +56,7 @@ module _ {s : List ℕ} {x : Site} {ch : Change} {removal : List ℕ} {m : Sizes
   skeleton-end h =
       let a = t .placed .at in
       let v = viewAt (t .placed .value) (t .placed .view) in
-      let z : m .skeleton ≡ length (newSkeleton (x .widths) removal (v .lines)) = rw (a .widths) (t .sizes .skeleton) in
+      let z : m .skeleton ≡ length (keptBlock (x .widths) removal (v .lines)) = rw (a .widths) (t .sizes .skeleton) in
       omega (arith, h .is (v .lines) (a .lines .value) .count, z)
 
   pub index-room : {rest : List ℕ} → 2 + m .index ≤ length rest → IndexRoom (cut s (x .index) (x .extended)) (x .lines) ch removal (m .width) (m .index) rest
@@ -101,7 +102,7 @@ module _ {s : List ℕ} {x : Site} {ch : Change} {removal : List ℕ} {m : Sizes
             let g : part s (x .extended) (length s - x .extended) ≡ drop (x .extended) s = take-all (length s - x .extended) (drop (x .extended) s) (omega (arith, length-drop (x .extended) s)) in
             let all = laid-next (laid-next (laid-next H k) y) (rw g at T) in
             let w = r .head .scale .widths in
-            let q : ((headOf s (x .skeleton) (m .bytes) ++ sized (newSkeleton w removal (v .lines))) ++ sized (newIndexBlock removal ch (v .index))) ++ drop (x .extended) s ≡ recordOut (newRecord removal ch i r) =
-            ap (λ (n : ℕ). ((headOf s (x .skeleton) n ++ sized (newSkeleton w removal (v .lines))) ++ sized (newIndexBlock removal ch (v .index))) ++ drop (x .extended) s) (z .bytes) ∙ sym (spliced S (is-stored f e) removal ch) in
+            let q : ((headOf s (x .skeleton) (m .bytes) ++ sized (keptBlock w removal (v .lines))) ++ sized (newIndexBlock removal ch (v .index))) ++ drop (x .extended) s ≡ recordOut (newRecord removal ch i r) =
+            ap (λ (n : ℕ). ((headOf s (x .skeleton) n ++ sized (keptBlock w removal (v .lines))) ++ sized (newIndexBlock removal ch (v .index))) ++ drop (x .extended) s) (z .bytes) ∙ sym (spliced S (is-stored f e) removal ch) in
             subst (λ (ys : List ℕ). Laid ys o (back (back (back o1 a o2) (a + b) o3) (a + b + c) o4) (a + b + c + d)) q all;
       }

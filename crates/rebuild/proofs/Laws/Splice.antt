@@ -21,12 +21,13 @@ use Rattle.format.specs.Places.{noViewThere, viewAt}
 use Rattle.format.specs.declared.Widths.{Widths}
 use Rattle.format.proofs.Laws.Record.{read-back}
 use Rattle.locate.specs.Stands.{BlockAt}
-use Rattle.locate.specs.Stored.{headBytes, scaleBytes, sizedOut, viewOut, headerOut, recordOut}
+use Rattle.locate.specs.Stored.{sized, headBytes, scaleBytes, sizedOut, viewOut, headerOut, recordOut}
 use Rattle.locate.proofs.Laws.Blocks.{block-bits, block-long}
 use Rattle.locate.proofs.Laws.Written.{views-long, stored-long, written}
 use Rattle.relist.specs.declared.lists.Change.{Change}
+use Rattle.reline.specs.Lines.{keptBlock}
 use Rattle.rebuild.specs.Site.{SiteOf}
-use Rattle.rebuild.specs.Blocks.{sized, headOf, newSkeleton, newIndexBlock}
+use Rattle.rebuild.specs.Blocks.{headOf, newIndexBlock}
 use Rattle.rebuild.specs.Rebuilt.{newView, newRecord}
 use Rattle.rebuild.specs.declared.site.Site.{Site}
 use Rattle.rebuild.proofs.Laws.Index.{index-bytes}
@@ -136,7 +137,7 @@ module _ {r : Record} {s : List ℕ} {i : ℕ} {x : Site} (S : SiteOf r s i x) (
       ap (drop (x .extended)) a ∙ drop-at front (tail r i) (x .extended) n
 
   pub spliced : (removal : List ℕ) (ch : Change) → recordOut (newRecord removal ch i r)
-      ≡ ((headOf s (x .skeleton) (size (newRecord removal ch i r)) ++ sized (newSkeleton (r .head .scale .widths) removal (viewAt r i .lines)))
+      ≡ ((headOf s (x .skeleton) (size (newRecord removal ch i r)) ++ sized (keptBlock (r .head .scale .widths) removal (viewAt r i .lines)))
       ++ sized (newIndexBlock removal ch (viewAt r i .index))) ++ drop (x .extended) s
   unfolding newRecord newView
   spliced removal ch =
@@ -156,11 +157,11 @@ module _ {r : Record} {s : List ℕ} {i : ℕ} {x : Site} (S : SiteOf r s i x) (
   head-long n = ap length (head-same n) ∙ omega (arith, middle-long, from-long)
 
   pub new-size : (removal : List ℕ) (ch : Change) → size (newRecord removal ch i r)
-      ≡ x .skeleton + 4 + length (newSkeleton (r .head .scale .widths) removal (viewAt r i .lines)) + length (newIndexBlock removal ch (viewAt r i .index)) + (length s - x .extended)
+      ≡ x .skeleton + 4 + length (keptBlock (r .head .scale .widths) removal (viewAt r i .lines)) + length (newIndexBlock removal ch (viewAt r i .index)) + (length s - x .extended)
   new-size removal ch =
       let n : ℕ = size (newRecord removal ch i r) in
       let a : List ℕ = headOf s (x .skeleton) n in
-      let b : List ℕ = sized (newSkeleton (r .head .scale .widths) removal (viewAt r i .lines)) in
+      let b : List ℕ = sized (keptBlock (r .head .scale .widths) removal (viewAt r i .lines)) in
       let c : List ℕ = sized (newIndexBlock removal ch (viewAt r i .index)) in
       omega (
         arith,

@@ -14,14 +14,14 @@ use Rattle.format.specs.Line.{Line, line}
 use Rattle.format.specs.declared.Widths.{Widths}
 use Rattle.locate.specs.Finds.{LineEnd}
 use Rattle.puts.specs.Put.{Puts}
-use Rattle.puts.proofs.Bytes.{filled-length}
 use Rattle.puts.proofs.Laws.{put-none, put-laid}
 use Rattle.puts.proofs.Chain.{puts-none, _then_, puts-as}
 use Rattle.orders.specs.Survive.{elem}
 use Rattle.orders.specs.Listed.{listed}
 use Rattle.reline.specs.Copy.{Copied}
 use Rattle.reline.specs.Lines.{keptFrom, LinesAt, keptBlock, LinesPut}
-use Rattle.reline.proofs.Laws.Lines.{line-reads, line-copied, others-at}
+use Rattle.locate.proofs.Laws.Blocks.{skeleton-is}
+use Rattle.reline.proofs.Laws.Lines.{line-reads, line-copied, others-at, block-bytes}
 
 pub record PutSoFar (w : Widths) (s rs : List ℕ) (all : List Line) (u : Bits) (count l p : ℕ) (old now : List ℕ) (q : ℕ) : Type 0 where
   pub more : List Line
@@ -76,7 +76,7 @@ module _ {w : Widths} {s rs : List ℕ} {all : List Line} {u : Bits} {count l p 
 
 -- room for the block is room for its bits
 pub block-room : (w : Widths) (removal : List ℕ) (ls : List Line) {n : ℕ} → length (keptBlock w removal ls) ≤ n → length (encAll (line w) (keptFrom (listed removal) 0 ls)) ≤ 8 * n
-block-room w removal ls r = omega (arith, filled-length (encAll (line w) (keptFrom (listed removal) 0 ls)))
+block-room w removal ls r = omega (arith, block-bytes w removal ls)
 
 module _ (w : Widths) (s removal : List ℕ) (count : ℕ) where
   pub put-first : (old : List ℕ) → PutAll w s removal count 0 0 old old 0
@@ -98,7 +98,7 @@ module _ (w : Widths) (s removal : List ℕ) (count : ℕ) where
 
   pub put-done : {l p : ℕ} {old now : List ℕ} {q r : ℕ} → PutAll w s removal count l p old now q → count ≤ l → r ≡ (q + 7) / 8 → LinesPut w s count removal old now r
   put-done {l} {old = old} G k z =
-      record { is = λ ls u a c. let g = G ls u a c in put-laid (puts-as (end (g .done) (g .more) l k (g .left) (g .whole)) (g .puts) .is [] old (put-none old)) z }
+      record { is = λ ls u a c. let g = G ls u a c in rw (skeleton-is w (keptFrom (listed removal) 0 ls)) (put-laid (puts-as (end (g .done) (g .more) l k (g .left) (g .whole)) (g .puts) .is [] old (put-none old)) z) }
     where
       end : {x : Bits} (done : Bits) (xs : List Line) (l : ℕ) → count ≤ l → l + length xs ≡ count → done ++ encAll (line w) (keptFrom (listed removal) l xs) ≡ x → done ≡ x
       end done [] l k c b = sym (append-nil done) ∙ b

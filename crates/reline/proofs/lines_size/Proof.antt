@@ -11,14 +11,14 @@ use Rattle.reline.proofs.lines_size.Statement.{statement}
 use Rattle.reline.proofs.lines_size.Tie as tie
 
 abbrev Inv-loop : tie.InvT-loop
-Inv-loop s w count removal p₀ l₀ lines₀ bits₀ p l lines bits =
-    (lines ≤ l) × (bits ≤ p) × SizingAll w s removal count l p lines bits
+Inv-loop s w count removal p₀ l₀ bits₀ p l bits =
+    (bits ≤ p) × (p ≤ 8 * length s) × SizingAll w s removal count l p bits
 
 abbrev μ-loop : tie.MeasureT-loop
-μ-loop s w count removal p₀ l₀ lines₀ bits₀ p l lines bits =
+μ-loop s w count removal p₀ l₀ bits₀ p l bits =
     count - l
 
-next : (c : tie.In-loop Inv-loop μ-loop) → Next (c .before .before .before .before .args .w) (c .before .before .before .before .args .s .now) (listed (c .before .before .before .before .args .removal .now)) (keptFrom (listed (c .before .before .before .before .args .removal .now)) 0 (c .before .before .before .before .pre .value)) (c .before .before .before .before .pre .behind) (c .before .before .before .before .args .count) (c .before .loop .l) (c .before .loop .p) (c .before .loop .lines) (c .before .loop .bits)
+next : (c : tie.In-loop Inv-loop μ-loop) → Next (c .before .before .before .before .args .w) (c .before .before .before .before .args .s .now) (listed (c .before .before .before .before .args .removal .now)) (keptFrom (listed (c .before .before .before .before .args .removal .now)) 0 (c .before .before .before .before .pre .value)) (c .before .before .before .before .pre .behind) (c .before .before .before .before .args .count) (c .before .loop .l) (c .before .loop .p) (c .before .loop .bits)
 next c = let p = c .before .before .before .before .pre in next-line (c .before .loop .inv .2 (p .value) (p .behind) (p .at) (p .counts)) (c .loop-test .taken)
 
 ends : (c : tie.After-line-end Inv-loop μ-loop) → (c .before .before .loop .p ≤ c .line-end .result) × (c .line-end .result ≤ 8 * length (c .before .before .before .before .before .args .s .now))
@@ -43,7 +43,7 @@ rank-of-requires c κs =
 
 add-l : tie.Need-add-l Inv-loop μ-loop
 add-l c =
-    omega (arith, c .before .before .before .before .before .before .pre .few, c .before .before .loop-test .taken, c .before .before .before .loop .inv .0)
+    omega (arith, c .before .before .before .before .before .before .pre .few, c .before .before .loop-test .taken)
 
 loop-less : tie.Need-loop-less Inv-loop μ-loop
 loop-less c =
@@ -51,7 +51,7 @@ loop-less c =
 
 loop-again : tie.Need-loop-again Inv-loop μ-loop
 loop-again c =
-    (omega (arith, c .before .before .before .before .loop .inv .0), omega (arith, c .before .before .before .before .loop .inv .1, ends (c .before .before) .0), sizing-gone (c .before .before .before .before .before .before .before .args .w) (c .before .before .before .before .before .before .before .args .s .now) (c .before .before .before .before .before .before .before .args .removal .now) (c .before .before .before .before .before .before .before .args .count) (c .before .before .before .before .loop .inv .2) (c .before .before .before .loop-test .taken) (c .before .before .line-end .ensures) (sym (c .before .rank-of .ensures .gone) ∙ c .if1 .taken))
+    (omega (arith, c .before .before .before .before .loop .inv .0, ends (c .before .before) .0), ends (c .before .before) .1, sizing-gone (c .before .before .before .before .before .before .before .args .w) (c .before .before .before .before .before .before .before .args .s .now) (c .before .before .before .before .before .before .before .args .removal .now) (c .before .before .before .before .before .before .before .args .count) (c .before .before .before .before .loop .inv .2) (c .before .before .before .loop-test .taken) (c .before .before .line-end .ensures) (sym (c .before .rank-of .ensures .gone) ∙ c .if1 .taken))
 
 sub-bits : tie.Need-sub-bits Inv-loop μ-loop
 sub-bits c =
@@ -59,11 +59,7 @@ sub-bits c =
 
 add-bits : tie.Need-add-bits Inv-loop μ-loop
 add-bits c =
-    omega (arith, ends (c .before .before), c .before .before .before .before .loop .inv .1, c .before .before .before .before .before .before .before .pre .short)
-
-add-lines : tie.Need-add-lines Inv-loop μ-loop
-add-lines c =
-    omega (arith, c .before .before .before .before .before .before .before .pre .few, c .before .before .before .loop-test .taken, c .before .before .before .before .loop .inv .0)
+    omega (arith, ends (c .before .before), c .before .before .before .before .loop .inv .0, c .before .before .before .before .before .before .before .pre .short)
 
 loop-less-2 : tie.Need-loop-less-2 Inv-loop μ-loop
 loop-less-2 c =
@@ -71,7 +67,11 @@ loop-less-2 c =
 
 loop-again-2 : tie.Need-loop-again-2 Inv-loop μ-loop
 loop-again-2 c =
-    (omega (arith, c .before .before .before .before .loop .inv .0), omega (arith, c .before .before .before .before .loop .inv .1, ends (c .before .before) .0), sizing-stays (c .before .before .before .before .before .before .before .args .w) (c .before .before .before .before .before .before .before .args .s .now) (c .before .before .before .before .before .before .before .args .removal .now) (c .before .before .before .before .before .before .before .args .count) (c .before .before .before .before .loop .inv .2) (c .before .before .before .loop-test .taken) (c .before .before .line-end .ensures) (sym (c .before .rank-of .ensures .gone) ∙ c .if1 .left))
+    (omega (arith, c .before .before .before .before .loop .inv .0, ends (c .before .before) .0), ends (c .before .before) .1, sizing-stays (c .before .before .before .before .before .before .before .args .w) (c .before .before .before .before .before .before .before .args .s .now) (c .before .before .before .before .before .before .before .args .removal .now) (c .before .before .before .before .before .before .before .args .count) (c .before .before .before .before .loop .inv .2) (c .before .before .before .loop-test .taken) (c .before .before .line-end .ensures) (sym (c .before .rank-of .ensures .gone) ∙ c .if1 .left))
+
+add-result : tie.Need-add-result Inv-loop μ-loop
+add-result c =
+    omega (arith, c .before .loop .inv .0, c .before .loop .inv .1, c .before .before .before .before .pre .short)
 
 returns : tie.Need-returns Inv-loop μ-loop
 returns c =
@@ -91,7 +91,7 @@ lines-size-spec =
     loop-again
     sub-bits
     add-bits
-    add-lines
     loop-less-2
     loop-again-2
+    add-result
     returns)

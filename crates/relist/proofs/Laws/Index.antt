@@ -78,12 +78,12 @@ module _ (ls : List (List ℕ)) where
   bits-long : length bits ≡ 8 + (length ls + total length ls) * w
   bits-long = omega (arith, length-append (bitsOfNumber 8 w) (encAlong (neighbours w) up 0 ls), length-bits 8 w, along-bits w 0 ls)
 
-  pub block-long : length (inBytes (indexBlock (length ls) .enc (some (indexOf ls)))) ≡ (8 + (length ls + total length ls) * w + 7) / 8
-  block-long = ap (λ (b : Bits). length (inBytes b)) (index-enc (length ls) (indexOf ls)) ∙ filled-length bits ∙ ap (λ (n : ℕ). (n + 7) / 8) bits-long
+  pub block-long : length (inBytes (indexBlock 0 .enc (some (indexOf ls)))) ≡ (8 + (length ls + total length ls) * w + 7) / 8
+  block-long = ap (λ (b : Bits). length (inBytes b)) (index-enc 0 (indexOf ls)) ∙ filled-length bits ∙ ap (λ (n : ℕ). (n + 7) / 8) bits-long
 
   -- room for the block is room for its lists
-  pub block-room : {out : List ℕ} → length (inBytes (indexBlock (length ls) .enc (some (indexOf ls)))) ≤ 65535
-      → length (inBytes (indexBlock (length ls) .enc (some (indexOf ls)))) ≤ length out → Room out 8 (length (encAlong (neighbours w) up 0 ls))
+  pub block-room : {out : List ℕ} → length (inBytes (indexBlock 0 .enc (some (indexOf ls)))) ≤ 65535
+      → length (inBytes (indexBlock 0 .enc (some (indexOf ls)))) ≤ length out → Room out 8 (length (encAlong (neighbours w) up 0 ls))
   block-room s r = record { room = omega (arith, block-long, along-bits w 0 ls); near = omega (arith, block-long, along-bits w 0 ls) }
 
   pub least-right : Along up (Falls 0) 0 ls → length ls ≤ 1024 → FitsIndex (length ls) (indexOf ls)
@@ -95,8 +95,8 @@ module _ (ls : List (List ℕ)) where
   least-is e f = f ∙ ap (find 15 1) e
 
   pub block-laid : {old mid now : List ℕ} {p q r : ℕ} → PutMore old 0 w 8 mid p → Puts (encAlong (neighbours w) up 0 ls) mid p now q → r ≡ (q + 7) / 8
-      → Laid (inBytes (indexBlock (length ls) .enc (some (indexOf ls)))) old now r
-  block-laid {old} h P e = rw (index-enc (length ls) (indexOf ls)) (put-laid (P .is (bitsOfNumber 8 w) old (h .is [] old (put-none old))) e)
+      → Laid (inBytes (indexBlock 0 .enc (some (indexOf ls)))) old now r
+  block-laid {old} h P e = rw (index-enc 0 (indexOf ls)) (put-laid (P .is (bitsOfNumber 8 w) old (h .is [] old (put-none old))) e)
 
   -- ---- how much there is
 

@@ -49,7 +49,11 @@ kept-survivors g d rs xs =
     ∙ map-rises (λ j. g (getD xs (j - 0) d)) (λ j. g (getD xs j d)) 0 (survivors (length xs) rs) (without-rises 0 rs (upFrom 0 (length xs)) (upFrom-rises 0 (length xs)))
     (λ j l. let z : j - 0 ≡ j = omega arith in rw z refl)
 
--- ---- where no line is removed, and one line's value changes
+-- ---- where no line is removed, and one line's value changes, or none
+
+pub kept-all : {A : Type 0} (i : ℕ) (xs : List A) → kept (λ j x. x) [] i xs ≡ xs
+kept-all i [] = refl
+kept-all i (x ∷ xs) = ap (λ ys. x ∷ ys) (kept-all (suc i) xs)
 
 module _ {A : Type 0} (f : ℕ → A → A) (d : A) (hi : ℕ) (same : (l : ℕ) (x : A) → l ≢ hi → f l x ≡ x) where
   kept-behind : (l : ℕ) (xs : List A) → hi < l → kept f [] l xs ≡ xs

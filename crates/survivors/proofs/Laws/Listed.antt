@@ -132,3 +132,8 @@ pub rising-at : (bs : List ℕ) → Rising bs → (i : ℕ) → i < length (list
 rising-at bs r i l =
     let e : length bs % 2 ≡ 0 = omega (arith, r .even) in
     rw (listed-even bs e) (sym (number-at bs i (omega (arith, r .even))))
+
+-- no bytes name no lines
+pub none-listed : (bs : List ℕ) → length bs ≡ 0 → listed bs ≡ []
+none-listed [] h = refl
+none-listed (b ∷ bs) h = absurd (omega arith)

@@ -7,7 +7,7 @@ use lib.ListN.{length, take, drop, getD, length-append, length-drop}
 use lib.Seq.{append-snoc, length-take-le}
 use Rattle.bits.specs.ChoiceLaws.{within-high}
 use Rattle.bits.specs.Lists.{All, Along}
-use Rattle.bits.specs.BytesLaws.{length-in, length-bytesOf}
+use Rattle.bits.specs.BytesLaws.{length-in}
 use Rattle.lay.specs.Laid.{Laid}
 use Rattle.lay.specs.HighFirst.{two, joined}
 use Rattle.lay.proofs.Laws.{laid-none, laid-next, joined-append, joined-snoc, lent, back}
@@ -16,7 +16,7 @@ use Rattle.format.specs.Line.{line, skeleton}
 use Rattle.format.specs.Index.{indexBlock}
 use Rattle.format.specs.Segments.{segment, segments}
 use Rattle.format.specs.View.{View, viewHeader, view}
-use Rattle.format.specs.Record.{Record, tellSeen, size, write, Allowed}
+use Rattle.format.specs.Record.{Record, tellSeen, size, Allowed}
 use Rattle.format.specs.declared.Widths.{Widths}
 use Rattle.format.proofs.Laws.Record.{narrow}
 use Rattle.to_sheet.specs.Bytes.{viewBytes, recordBytes}
@@ -24,7 +24,7 @@ use Rattle.locate.specs.Stored.{viewOut, headerOut, recordOut}
 use Rattle.to_record.specs.Views.{NextView, RightView, ViewPut}
 use Rattle.to_record.specs.Records.{deviceFrom, scaleFrom, ViewsThere, ViewsPut}
 use Rattle.to_record.specs.declared.Done.{Done}
-use Rattle.locate.proofs.Laws.Written.{written}
+use Rattle.locate.proofs.Laws.Written.{stored-long}
 
 -- ---- the loop over the views: those passed are laid, and the others stand from byte p on
 
@@ -146,8 +146,8 @@ module _ {s : List ℕ} (r : Record) (a : Allowed r) (e : s ≡ recordBytes r) w
   views-at = ap (drop 12) e
 
   pub size-is : size r ≡ 24 + length (joined (viewOut (r .head .scale .widths)) (r .views))
-  unfolding write recordOut
-  size-is = sym (length-bytesOf (size r) _) ∙ ap length (written r a) ∙ omega (arith, length-append (headerOut (size r) (r .head) (length (r .views))) (joined (viewOut (r .head .scale .widths)) (r .views)))
+  unfolding recordOut
+  size-is = sym (stored-long r) ∙ omega (arith, length-append (headerOut (size r) (r .head) (length (r .views))) (joined (viewOut (r .head .scale .widths)) (r .views)))
 
   pub size-small : size r < 65536
   unfolding mostBytes
@@ -172,10 +172,6 @@ module _ {s : List ℕ} (r : Record) (a : Allowed r) (e : s ≡ recordBytes r) w
       let vs : List ℕ = joined (viewOut (r .head .scale .widths)) (r .views) in
       let q : (deviceFrom s (size r) ++ scaleFrom s (length (r .views))) ++ vs ≡ recordOut r = ap (λ (t : List ℕ). t ++ vs) (device-is (size r)) in
       subst (λ (t : List ℕ). Laid t o (back (back o1 h o2) (h + x) o3) (h + x + y)) q (laid-next (laid-next (rw en at D) (rw em at S)) v)
-
-  pub record-long : length (recordOut r) ≡ size r
-  unfolding write
-  record-long = ap length (sym (written r a)) ∙ length-bytesOf (size r) _
 
   pub device-long : (n : ℕ) → length (deviceFrom s n) ≡ 14
   device-long n = omega (arith, length-take-le 2 (drop 3 s) (omega (arith, sheet-long, length-drop 3 s)), length-append ((0x46 ∷ 0x53 ∷ 0x4B ∷ 0x00 ∷ 0x30 ∷ 0x31 ∷ 0x30 ∷ 0x00 ∷ 0x00 ∷ 0x00 ∷ []) ++ two n) (take 2 (drop 3 s)))

@@ -12,18 +12,17 @@ use Rattle.bits.specs.Lists.{All, Along, total}
 use Rattle.bits.specs.Bits.{Bits, bitsOfNumber, zeros, pad}
 use Rattle.bits.specs.BitsLaws.{length-bits}
 use Rattle.bits.specs.Bytes.{Byte}
-use Rattle.bits.specs.BytesLaws.{length-bytesOf}
 use Rattle.bits.specs.CodecLaws.{encAll, encAlong}
 use Rattle.outcome.specs.Outcome.{given}
 use Rattle.format.specs.Line.{Line, line, skeleton}
 use Rattle.format.specs.Index.{Index, FitsList, FitsIndex, up, neighbours, index, indexBlock}
 use Rattle.format.specs.Segments.{Segment, segment, segment-length, segments}
 use Rattle.format.specs.View.{View, view}
-use Rattle.format.specs.Record.{Record, FitsScale, tellSeen, size, write, Allowed}
+use Rattle.format.specs.Record.{Record, FitsScale, tellSeen, size, Allowed}
 use Rattle.format.specs.SheetSize.{lineSize, listSize, indexSize, segmentSize, viewSize, sheetSize}
 use Rattle.format.specs.declared.Widths.{Widths}
 use Rattle.format.specs.declared.Scale.{Scale}
-use Rattle.format.proofs.Laws.Size.{view-length, views-length}
+use Rattle.format.proofs.Laws.Size.{view-length, views-length, write-long}
 use Rattle.format.proofs.Laws.Call.{given-record}
 use Rattle.format.proofs.Laws.Record.{read-back}
 use Rattle.sheet.specs.Sheet.{sheetOf, reading}
@@ -102,10 +101,6 @@ sheet-room r a =
     omega (arith, views-length r, views-room w (within-low 4 8 (w .b) (f .b .1)) (within-low 1 16 (w .c) (f .c .1)) (within-low 2 8 (w .k) (f .k .1)) [] (r .views) (a .fits .views))
 
 -- ---- reading
-
-write-long : (r : Record) → length (write r) ≡ size r
-unfolding write
-write-long r = length-bytesOf (size r) _
 
 pub reading-room : (bytes sheet : List ℕ) → All Byte bytes → reading bytes ≡ given sheet → length sheet ≤ 7 * length bytes
 unfolding reading

@@ -1,6 +1,5 @@
 -- A pair order leaves the block as it is; a removal leaves the lines that are counted.
-use native.Mathlib.Omega.{arith}
-use Rattle.rebuild.proofs.Laws.Skeleton.{lines-there, skeleton-same, kept-small, skeleton-kept}
+use Rattle.rebuild.proofs.Laws.Skeleton.{lines-there, skeleton-same, skeleton-kept}
 use Rattle.rebuild.proofs.measure.skeleton_size.Statement.{statement}
 use Rattle.rebuild.proofs.measure.skeleton_size.Tie as tie
 
@@ -12,13 +11,9 @@ lines-size-requires : tie.Need-lines-size-requires
 lines-size-requires c κs =
     lines-there (c .before .before .before .pre)
 
-add-result : tie.Need-add-result
-add-result c =
-    omega (arith, kept-small (c .before .before .before .before .before .pre) (c .before .lines-size .ensures))
-
 returns-2 : tie.Need-returns-2
 returns-2 c =
-    skeleton-kept (c .before .before .before .before .before .pre) (c .before .lines-size .ensures)
+    skeleton-kept (c .before .before .before .before .pre) (c .lines-size .ensures)
 
 pub skeleton-size-spec : {M : Type 1} → statement M
-skeleton-size-spec = tie.close (tie.spec returns lines-size-requires add-result returns-2)
+skeleton-size-spec = tie.close (tie.spec returns lines-size-requires returns-2)

@@ -1,7 +1,8 @@
 -- The header, then the views: the sheet's first bytes are the header's.
 use native.Mathlib.Omega.{arith}
 use lib.ListN.{length-take, length-drop}
-use Rattle.to_record.proofs.Laws.Record.{sheet-long, widths-are, size-is, size-small, views-small, views-there, record-laid, record-long, device-long, scale-long}
+use Rattle.locate.proofs.Laws.Written.{stored-long}
+use Rattle.to_record.proofs.Laws.Record.{sheet-long, widths-are, size-is, size-small, views-small, views-there, record-laid, device-long, scale-long}
 use borrow.Author.Needs.{needs}
 use Rattle.to_record.proofs.record.record_out.Statement.{statement}
 use Rattle.to_record.proofs.record.record_out.Tie as tie
@@ -79,7 +80,7 @@ add-at-2 c =
     let pre = c .before .before .before .before .before .before .before .before .before .before .before .before .before .before .before .before .before .before .before .before .pre in
     let e = widths-are (pre .value) (pre .allowed) (pre .is) (c .before .before .before .before .before .before .before .before .before .before .before .before .before .before .before .before .wide .ensures) (c .before .before .before .before .before .before .before .before .before .before .before .before .before .before .wide2 .ensures) (c .before .before .before .before .before .before .before .before .before .before .before .before .wide3 .ensures) in
     let l = record-laid (pre .value) (pre .allowed) (pre .is) e (pre .size) (pre .count) (c .before .before .before .before .before .before .before .before .before .before .device-out .ensures) (c .before .before .before .before .before .before .scale-out .ensures) (c .before .before .views-out .ensures) in
-    omega (arith, l .count, record-long (pre .value) (pre .allowed) (pre .is), pre .room, pre .size)
+    omega (arith, l .count, stored-long (pre .value), pre .room, pre .size)
 
 same-length : tie.Need-same-length
 same-length c = search needs
