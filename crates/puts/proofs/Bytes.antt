@@ -3,13 +3,13 @@
 use mathlib.Core.Path.{_≡_, refl, sym, ap, ap₂, _∙_}
 use Prim.Native.Nat.{ℕ, zero, suc, _+_, _-_, _*_, _/_, _%_, _^_, _≤_, _<_}
 use native.Mathlib.Omega.{arith}
-use native.Mathlib.Nat.{add-mul, mul-assoc, add-assoc}
+use native.Mathlib.Nat.{add-mul, mul-assoc, add-assoc, div-eq-of-lt}
 use mathlib.Core.Bool.{false}
 use mathlib.Core.List.{List, [], _∷_, _++_, append-assoc, append-nil}
 use lib.ListN.{length, take, drop, length-append, length-drop, length-replicate, take-append-drop}
-use lib.Pow.{pow-add, high, low}
+use lib.Pow.{pow-pos, pow-add, high, low}
 use lib.Seq.{take-append-le, drop-append-le, take-all}
-use Rattle.bits.specs.Bits.{Bits, val, numberOf, zeros, pad, filled}
+use Rattle.bits.specs.Bits.{Bits, val, bit, numberOf, bitsOfNumber, zeros, pad, filled}
 use Rattle.bits.specs.BitsLaws.{number-lt, filled-long}
 use Rattle.bits.specs.Bytes.{bytesOf, inBytes}
 use Rattle.bits.specs.BytesLaws.{length-in}
@@ -26,10 +26,15 @@ number-append (b ∷ xs) ys =
     ap₂ (λ (n m : ℕ). val b * n + m) (ap (λ (k : ℕ). 2 ^ k) (length-append xs ys) ∙ pow-add 2 (length xs) (length ys)) (number-append xs ys)
     ∙ spread (val b) (2 ^ length xs) (numberOf xs) (2 ^ length ys) (numberOf ys)
 
-number-zeros : (n : ℕ) → numberOf (zeros n) ≡ 0
+pub number-zeros : (n : ℕ) → numberOf (zeros n) ≡ 0
 unfolding numberOf
 number-zeros zero = refl
 number-zeros (suc n) = omega (arith, number-zeros n)
+
+pub zero-bits : (w : ℕ) → bitsOfNumber w 0 ≡ zeros w
+unfolding bitsOfNumber
+zero-bits zero = refl
+zero-bits (suc w) = ap₂ (λ (n : ℕ) (r : Bits). bit (n % 2) ∷ r) (div-eq-of-lt (pow-pos w)) (zero-bits w)
 
 -- n zero bits behind
 pub number-filled : (xs : Bits) (n : ℕ) → numberOf (xs ++ zeros n) ≡ numberOf xs * 2 ^ n

@@ -9,7 +9,8 @@ use Rattle.bits.specs.Bits.{Bits, bitsOfNumber}
 use Rattle.bits.specs.BitsLaws.{length-bits}
 use Rattle.bits.specs.Codec.{Codec}
 use Rattle.bits.specs.CodecLaws.{encAll}
-use Rattle.puts.specs.Put.{PutMore, Puts}
+use Rattle.puts.specs.Put.{PutMore, PutInto, Puts}
+use Rattle.puts.proofs.Bytes.{zero-bits}
 
 pub puts-one : {old now : List ℕ} {at value width r : ℕ} → PutMore old at value width now r → Puts (bitsOfNumber width value) old at now r
 puts-one {value = value} {width = width} h = record { is = h .is; same = h .same; place = omega (arith, h .place, length-bits width value) }
@@ -25,6 +26,16 @@ _then_ {a} {b} h k =
       is = λ xs before p. rw (append-assoc xs a b) at (k .is (xs ++ a) before (h .is xs before p));
       same = k .same ∙ h .same;
       place = omega (arith, h .place, k .place, length-append a b);
+    }
+
+-- into zeros that were put first, with others behind them
+pub puts-later : (width : ℕ) (ys : Bits) {value : ℕ} {old mid now : List ℕ} {at r : ℕ} → Puts (bitsOfNumber width 0 ++ ys) old at mid r → PutInto mid at value width now
+    → Puts (bitsOfNumber width value ++ ys) old at now r
+puts-later width ys {value} {r = r} h k =
+    record {
+      is = λ xs before p. k .is xs ys before r (sym (p .count)) (rw (zero-bits width) at (h .is xs before p));
+      same = k .same ∙ h .same;
+      place = omega (arith, h .place, length-append (bitsOfNumber width 0) ys, length-append (bitsOfNumber width value) ys, length-bits width 0, length-bits width value);
     }
 
 pub puts-as : {a b : Bits} {old now : List ℕ} {at r : ℕ} → a ≡ b → Puts a old at now r → Puts b old at now r

@@ -4,7 +4,7 @@ use mathlib.Core.Path.{_≡_}
 use Prim.Native.Nat.{ℕ, _+_, _*_, _^_, _≤_, _<_}
 use mathlib.Core.List.{List, _++_}
 use lib.ListN.{length, drop}
-use Rattle.bits.specs.Bits.{Bits, bitsOfNumber, filled}
+use Rattle.bits.specs.Bits.{Bits, bitsOfNumber, zeros, filled}
 use Rattle.bits.specs.Bytes.{inBytes}
 
 -- the bits xs stand at the start of the buffer, filled up with zeros to a whole byte; behind that the buffer is as before
@@ -24,6 +24,12 @@ pub record PutMore (old : List ℕ) (at value width : ℕ) (now : List ℕ) (r :
   pub is : (xs : Bits) (before : List ℕ) → Put xs before old at → Put (xs ++ bitsOfNumber width value) before now r
   pub same : length now ≡ length old
   pub place : r ≡ at + width
+
+-- the number is put into zeros that were put at this place, whatever was put before and behind them
+pub record PutInto (old : List ℕ) (at value width : ℕ) (now : List ℕ) : Type 0 where
+  pub is : (xs ys : Bits) (before : List ℕ) (end : ℕ) → length xs ≡ at → Put (xs ++ (zeros width ++ ys)) before old end
+      → Put (xs ++ (bitsOfNumber width value ++ ys)) before now end
+  pub same : length now ≡ length old
 
 -- ---- several numbers, one behind the other
 

@@ -36,13 +36,12 @@ pub record Numbered (w : ℕ) (s : List ℕ) (k : Walk) (low drop : ℕ) (lines 
 
 -- ---- the list put at a width
 
-pub record PutThere (w : ℕ) (s : List ℕ) (k : Walk) (low drop : ℕ) (lines : List ℕ) (l count width : ℕ) (out : List ℕ) (at : ℕ) : Type 0 where
+pub record PutThere (w : ℕ) (s : List ℕ) (k : Walk) (low drop : ℕ) (lines : List ℕ) (l width : ℕ) (out : List ℕ) (at : ℕ) : Type 0 where
   pub there : ListThere w s k low drop lines l
   pub narrow : width ≤ 16
-  pub counts : count ≡ length (become k low drop lines (there .value))
   pub fits : FitsList width l (become k low drop lines (there .value))
   pub room : Room out at (length (neighbours width l .enc (become k low drop lines (there .value))))
 
-pub record ListPut (w : ℕ) (s : List ℕ) (k : Walk) (low drop : ℕ) (lines : List ℕ) (l count width : ℕ) (old : List ℕ) (at : ℕ) (now : List ℕ) (r : ℕ) : Type 0 where
-  pub is : (ns : List ℕ) (u : Bits) → WalkAt w s k ns u → FitsList width l (become k low drop lines ns) → count ≡ length (become k low drop lines ns)
+pub record ListPut (w : ℕ) (s : List ℕ) (k : Walk) (low drop : ℕ) (lines : List ℕ) (l width : ℕ) (old : List ℕ) (at : ℕ) (now : List ℕ) (r : ℕ) : Type 0 where
+  pub is : (ns : List ℕ) (u : Bits) → WalkAt w s k ns u → FitsList width l (become k low drop lines ns)
       → Puts (neighbours width l .enc (become k low drop lines ns)) old at now r

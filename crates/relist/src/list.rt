@@ -7,6 +7,7 @@ use crate::walk::Walk;
 use crate::walk::fate_of;
 use crate::walk::step_on;
 use puts::put_bits;
+use puts::put_into;
 
 // How many neighbours a list has, and its largest difference.
 pub struct Numbers {
@@ -50,7 +51,7 @@ pub fn list_numbers(
     Numbers { count, most }
 }
 
-// The list that starts here, of the line whose new number is l, put at this width; it has so many neighbours.
+// The list that starts here, of the line whose new number is l, put at this width. Its count stands first and is known last.
 pub fn list_put(
     out: &mut [u8],
     at: usize,
@@ -61,15 +62,15 @@ pub fn list_put(
     drop: usize,
     lines: &[u8],
     l: usize,
-    count: usize,
     width: usize,
 ) -> usize
-    requires { ⌜ PutThere w (now s) from low drop (now lines) l count width (now out) at ⌝ }
-    ensures { λ r. ⌜ ListPut w (now (s .entry)) from low drop (now (lines .entry)) l count width (now (out .entry)) at (now (out .exit)) r ⌝ }
+    requires { ⌜ PutThere w (now s) from low drop (now lines) l width (now out) at ⌝ }
+    ensures { λ r. ⌜ ListPut w (now (s .entry)) from low drop (now (lines .entry)) l width (now (out .entry)) at (now (out .exit)) r ⌝ }
 {
-    let mut p = put_bits(out, at, count, width);
+    let mut p = put_bits(out, at, 0, width);
     let mut k = from;
     let mut before = l;
+    let mut count: usize = 0;
     while 0 < k.left + k.waiting {
         let step = step_on(s, w, k, low);
         k = step.next;
@@ -78,6 +79,8 @@ pub fn list_put(
         };
         p = put_bits(out, p, before - line, width);
         before = line;
+        count += 1;
     }
+    put_into(out, at, count, width);
     p
 }

@@ -130,7 +130,6 @@ pub fn lists_put(
         if rank.gone {
             continue;
         }
-        let numbers = list_numbers(s, w, list.walk, change.low, drop, removal, lists);
         q = list_put(
             out,
             q,
@@ -141,7 +140,6 @@ pub fn lists_put(
             drop,
             removal,
             lists,
-            numbers.count,
             width,
         );
         lists += 1;

@@ -12,8 +12,8 @@ use Rattle.bits.specs.Lists.{All}
 use Rattle.bits.specs.Bits.{Bits, bitsOfNumber}
 use Rattle.bits.specs.CodecLaws.{encAll, field}
 use Rattle.outcome.specs.Refusals.{badIndex}
-use Rattle.puts.specs.Put.{PutMore, Puts}
-use Rattle.puts.proofs.Chain.{puts-one, puts-none, _then_, puts-as}
+use Rattle.puts.specs.Put.{PutMore, PutInto, Puts}
+use Rattle.puts.proofs.Chain.{puts-one, puts-none, _then_, puts-later, puts-as}
 use Rattle.format.specs.Differences.{Falls, diffs}
 use Rattle.format.specs.DifferencesLaws.{length-diffs}
 use Rattle.format.specs.Index.{FitsList}
@@ -103,23 +103,24 @@ module _ {w : ℕ} {s : List ℕ} {low drop : ℕ} {lines : List ℕ} {l : ℕ} 
 -- ---- putting
 
 -- the differences of the list new, at line l: those of the lines before are put, from place q on
-pub record Putting (w : ℕ) (s : List ℕ) (low drop : ℕ) (lines new : List ℕ) (l width : ℕ) (k : Walk) (u : Bits) (before : ℕ) (old : List ℕ) (q : ℕ) (now : List ℕ) (p : ℕ) : Type 0 where
+pub record Putting (w : ℕ) (s : List ℕ) (low drop : ℕ) (lines new : List ℕ) (l width : ℕ) (k : Walk) (u : Bits) (before count : ℕ) (old : List ℕ) (q : ℕ) (now : List ℕ) (p : ℕ) : Type 0 where
   pub ms : List ℕ
   pub at : WalkAt w s k ms u
   pub least : ℕ
   pub falls : Falls least before (become k low drop lines ms)
   pub small : All (λ d. d < 2 ^ width) (diffs before (become k low drop lines ms))
+  pub counts : count + length (become k low drop lines ms) ≡ length new
   pub done : Bits
   pub puts : Puts done old q now p
   pub all : done ++ encAll (field badIndex width) (diffs before (become k low drop lines ms)) ≡ encAll (field badIndex width) (diffs l new)
 
-abbrev pub PuttingAll : (w : ℕ) (s : List ℕ) (low drop : ℕ) (lines : List ℕ) (l width : ℕ) (from k : Walk) (before : ℕ) (old : List ℕ) (q : ℕ) (now : List ℕ) (p : ℕ) → Type 0
-PuttingAll w s low drop lines l width from k before old q now p =
+abbrev pub PuttingAll : (w : ℕ) (s : List ℕ) (low drop : ℕ) (lines : List ℕ) (l width : ℕ) (from k : Walk) (before count : ℕ) (old : List ℕ) (q : ℕ) (now : List ℕ) (p : ℕ) → Type 0
+PuttingAll w s low drop lines l width from k before count old q now p =
     (ns : List ℕ) (u : Bits) → WalkAt w s from ns u → FitsList width l (become from low drop lines ns)
-    → Putting w s low drop lines (become from low drop lines ns) l width k u before old q now p
+    → Putting w s low drop lines (become from low drop lines ns) l width k u before count old q now p
 
 -- how far it is: what is put is a front of all
-pub putting-place : {w : ℕ} {s : List ℕ} {low drop : ℕ} {lines : List ℕ} {l width : ℕ} {old : List ℕ} {q : ℕ} {new : List ℕ} {k : Walk} {u : Bits} {before : ℕ} {now : List ℕ} {p : ℕ} → (m : Putting w s low drop lines new l width k u before old q now p)
+pub putting-place : {w : ℕ} {s : List ℕ} {low drop : ℕ} {lines : List ℕ} {l width : ℕ} {old : List ℕ} {q : ℕ} {new : List ℕ} {k : Walk} {u : Bits} {before count : ℕ} {now : List ℕ} {p : ℕ} → (m : Putting w s low drop lines new l width k u before count old q now p)
     → (p + width * length (become k low drop lines (m .ms)) ≡ q + width * length new) × (length now ≡ length old)
 putting-place {low = low} {drop} {lines} {l} {width} {new = new} {k} {before = before} m =
     let a = ap length (m .all) in
@@ -129,21 +130,21 @@ putting-place {low = low} {drop} {lines} {l} {width} {new = new} {k} {before = b
     (omega (arith, a, b, c, d, m .puts .place, mul-comm width (length (become k low drop lines (m .ms))), mul-comm width (length new)), m .puts .same)
 
 module _ {w : ℕ} {s : List ℕ} {low drop : ℕ} {lines : List ℕ} {l width : ℕ} {from : Walk} {old : List ℕ} {q : ℕ} where
-  pub putting-first : PuttingAll w s low drop lines l width from from l old q old q
+  pub putting-first : PuttingAll w s low drop lines l width from from l 0 old q old q
   putting-first ns u h f =
-      record { ms = ns; at = h; least = 0; falls = f .falls; small = f .diffs; done = []; puts = puts-none old q; all = refl }
+      record { ms = ns; at = h; least = 0; falls = f .falls; small = f .diffs; counts = omega arith; done = []; puts = puts-none old q; all = refl }
 
-  module _ {k : Walk} {before : ℕ} {now : List ℕ} {p : ℕ} {r : Step} (M : PuttingAll w s low drop lines l width from k before old q now p) (S : Steps w s k low r) where
-    pub putting-gone : T (gone (listed lines) drop (r .line)) → PuttingAll w s low drop lines l width from (r .next) before old q now p
+  module _ {k : Walk} {before count : ℕ} {now : List ℕ} {p : ℕ} {r : Step} (M : PuttingAll w s low drop lines l width from k before count old q now p) (S : Steps w s k low r) where
+    pub putting-gone : T (gone (listed lines) drop (r .line)) → PuttingAll w s low drop lines l width from (r .next) before count old q now p
     putting-gone g ns u h f =
         let m = M ns u h f in
         let t = S .is (m .ms) u (m .at) in
         let e = one-gone drop lines t g in
-        record { ms = t .lines; at = t .at; least = m .least; falls = rw e at (m .falls); small = rw e at (m .small); done = m .done; puts = m .puts; all = rw e at (m .all) }
+        record { ms = t .lines; at = t .at; least = m .least; falls = rw e at (m .falls); small = rw e at (m .small); counts = rw e at (m .counts); done = m .done; puts = m .puts; all = rw e at (m .all) }
 
     module _ (x : ℕ) (z : x ≡ r .line - below (listed lines) (r .line)) (g : T (not (gone (listed lines) drop (r .line)))) where
       -- the line that stays is at most the one before, and their difference fits
-      pub put-fits : {new : List ℕ} {u : Bits} → (m : Putting w s low drop lines new l width k u before old q now p) → (x ≤ before) × (before - x < 2 ^ width)
+      pub put-fits : {new : List ℕ} {u : Bits} → (m : Putting w s low drop lines new l width k u before count old q now p) → (x ≤ before) × (before - x < 2 ^ width)
       put-fits {u = u} m =
           let t = S .is (m .ms) u (m .at) in
           let e : become k low drop lines (m .ms) ≡ x ∷ become (r .next) low drop lines (t .lines) = rw z (one-stays drop lines t g) in
@@ -151,7 +152,7 @@ module _ {w : ℕ} {s : List ℕ} {low drop : ℕ} {lines : List ℕ} {l width :
           let D : All (λ d. d < 2 ^ width) (diffs before (x ∷ become (r .next) low drop lines (t .lines))) = rw e at (m .small) in
           (omega (arith, F .0), D .0)
 
-      pub put-room : {new : List ℕ} {u : Bits} → (m : Putting w s low drop lines new l width k u before old q now p) → p + width ≤ q + width * length new
+      pub put-room : {new : List ℕ} {u : Bits} → (m : Putting w s low drop lines new l width k u before count old q now p) → p + width ≤ q + width * length new
       put-room {u = u} m =
           let t = S .is (m .ms) u (m .at) in
           let e : become k low drop lines (m .ms) ≡ x ∷ become (r .next) low drop lines (t .lines) = rw z (one-stays drop lines t g) in
@@ -159,13 +160,14 @@ module _ {w : ℕ} {s : List ℕ} {low drop : ℕ} {lines : List ℕ} {l width :
           let b : width * length (become k low drop lines (m .ms)) ≡ width * n + width = ap (λ (ys : List ℕ). width * length ys) e ∙ mul-suc width n in
           omega (arith, putting-place m .0)
 
-      pub putting-stays : {after : List ℕ} {a : ℕ} → PutMore now p (before - x) width after a → PuttingAll w s low drop lines l width from (r .next) x old q after a
+      pub putting-stays : {after : List ℕ} {a : ℕ} → PutMore now p (before - x) width after a → PuttingAll w s low drop lines l width from (r .next) x (count + 1) old q after a
       putting-stays P ns u h f =
           let m = M ns u h f in
           let t = S .is (m .ms) u (m .at) in
           let e : become k low drop lines (m .ms) ≡ x ∷ become (r .next) low drop lines (t .lines) = rw z (one-stays drop lines t g) in
           let F : Falls (m .least) before (x ∷ become (r .next) low drop lines (t .lines)) = rw e at (m .falls) in
           let D : All (λ d. d < 2 ^ width) (diffs before (x ∷ become (r .next) low drop lines (t .lines))) = rw e at (m .small) in
+          let C : count + length (x ∷ become (r .next) low drop lines (t .lines)) ≡ length (become from low drop lines ns) = rw e at (m .counts) in
           let A : m .done ++ encAll (field badIndex width) (diffs before (x ∷ become (r .next) low drop lines (t .lines))) ≡ encAll (field badIndex width) (diffs l (become from low drop lines ns)) = rw e at (m .all) in
           record {
             ms = t .lines;
@@ -173,21 +175,25 @@ module _ {w : ℕ} {s : List ℕ} {low drop : ℕ} {lines : List ℕ} {l width :
             least = 1;
             falls = F .1;
             small = D .1;
+            counts = omega (arith, C);
             done = m .done ++ bitsOfNumber width (before - x);
             puts = m .puts then puts-one P;
             all = append-assoc (m .done) (bitsOfNumber width (before - x)) _ ∙ A;
           }
 
--- behind the count
-pub put-all : {w : ℕ} {s : List ℕ} {low drop : ℕ} {lines : List ℕ} {l width : ℕ} {from k : Walk} {before count : ℕ} {old mid now : List ℕ} {at q p : ℕ}
-    → PutMore old at count width mid q → PuttingAll w s low drop lines l width from k before mid q now p → k .left + k .waiting ≤ 0
-    → ListPut w s from low drop lines l count width old at now p
-put-all {low = low} {drop} {lines} {l} {width} {from} {k} {before} P M z =
-    record {
-      is = λ ns u h f c.
-          let m = M ns u h f in
-          let e = nothing-left k low drop lines (m .ms) (m .at) z in
-          let n : List ℕ = become from low drop lines ns in
-          let a : m .done ≡ encAll (field badIndex width) (diffs l n) = sym (append-nil (m .done)) ∙ rw e at (m .all) in
-          puts-as (sym (list-is width l n)) (puts-one (rw c at P) then puts-as a (m .puts));
-    }
+-- all differences are put, and then the count into the bits kept free before them
+module _ {w : ℕ} {s : List ℕ} {low drop : ℕ} {lines : List ℕ} {l width : ℕ} {k : Walk} {before count : ℕ} {old : List ℕ} {q : ℕ} {now : List ℕ} {p : ℕ} (z : k .left + k .waiting ≤ 0) where
+  pub all-counted : {new : List ℕ} {u : Bits} → Putting w s low drop lines new l width k u before count old q now p → count ≡ length new
+  all-counted m = omega (arith, rw (nothing-left k low drop lines (m .ms) (m .at) z) at (m .counts))
+
+  pub put-all : {from : Walk} {lent after : List ℕ} {at : ℕ} → PutMore lent at 0 width old q → PuttingAll w s low drop lines l width from k before count old q now p
+      → PutInto now at count width after → ListPut w s from low drop lines l width lent at after p
+  put-all {from} P M I =
+      record {
+        is = λ ns u h f.
+            let m = M ns u h f in
+            let n : List ℕ = become from low drop lines ns in
+            let a : m .done ≡ encAll (field badIndex width) (diffs l n) = sym (append-nil (m .done)) ∙ rw (nothing-left k low drop lines (m .ms) (m .at) z) at (m .all) in
+            let c : count ≡ length n = all-counted m in
+            puts-as (sym (list-is width l n)) (puts-later width (encAll (field badIndex width) (diffs l n)) (puts-one P then puts-as a (m .puts)) (rw c at I));
+      }

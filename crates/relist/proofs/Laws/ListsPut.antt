@@ -15,9 +15,8 @@ use Rattle.puts.proofs.Chain.{puts-none, _then_, puts-as}
 use Rattle.orders.specs.Survive.{elem}
 use Rattle.orders.specs.Listed.{listed}
 use Rattle.relist.specs.Walk.{WalkAt}
-use Rattle.relist.specs.List.{become, Numbered, ListPut}
+use Rattle.relist.specs.List.{become, ListPut}
 use Rattle.relist.specs.Lists.{waits, leaves, newList, newFrom, ListsAt, ListHere, EntryAt, ListsPut}
-use Rattle.relist.specs.declared.list.Numbers.{Numbers}
 use Rattle.relist.specs.declared.lists.Change.{Change}
 use Rattle.relist.specs.declared.lists.Entry.{Entry}
 use Rattle.relist.proofs.Laws.Lists.{same-list, first-here, others-at}
@@ -115,15 +114,11 @@ module _ (w : ℕ) (s removal : List ℕ) (ch : Change) (width lines : ℕ) wher
             → Room now q (length (neighbours width lists .enc (become (e .walk) (ch .low) drop removal (x .value))))
         put-list-room r z = rw (same (x .value)) (x .room n r z)
 
-        pub put-list-counts : {r : Numbers} → Numbered w s (e .walk) (ch .low) drop removal lists r
-            → r .count ≡ length (become (e .walk) (ch .low) drop removal (x .value))
-        put-list-counts N = N .is (x .value) (x .after) put-walk (put-list-fits .falls) .0
-
-      pub put-stays : {r : Numbers} {next : List ℕ} {t : ℕ} → Numbered w s (e .walk) (ch .low) drop removal lists r
-          → ListPut w s (e .walk) (ch .low) drop removal lists (r .count) width now q next t → PutAll w s removal ch width lines (l + 1) (e .next) (lists + 1) old at next t
-      put-stays N P ls u a c f =
+      pub put-stays : {next : List ℕ} {t : ℕ} → ListPut w s (e .walk) (ch .low) drop removal lists width now q next t
+          → PutAll w s removal ch width lines (l + 1) (e .next) (lists + 1) old at next t
+      put-stays P ls u a c f =
           let x = next-put (G ls u a c f) k in
-          let y = P .is (x .value) (x .after) (put-walk x) (put-list-fits x) (put-list-counts x N) in
+          let y = P .is (x .value) (x .after) (put-walk x) (put-list-fits x) in
           rw (E .is (x .value) (x .after) (x .here) .1) (x .stays n (rw (same (x .value)) at y))
 
   pub put-done : {l p lists : ℕ} {old : List ℕ} {at : ℕ} {now : List ℕ} {q : ℕ} → PutAll w s removal ch width lines l p lists old at now q → lines ≤ l

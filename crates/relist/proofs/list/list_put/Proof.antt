@@ -1,4 +1,5 @@
--- The count, then line by line. The invariant holds of whatever lines the list has: the differences of those that stay are put.
+-- Bits kept free, then line by line, then the count into them. The invariant holds of whatever lines the list has: the differences of
+-- those that stay are put, and counted.
 use native.Mathlib.Omega.{arith}
 use native.Mathlib.Nat.{mul-comm}
 use mathlib.Core.Path.{_≡_, refl, subst}
@@ -7,29 +8,30 @@ use mathlib.Core.Bool.{not}
 use mathlib.Core.List.{List}
 use lib.ListN.{length}
 use lib.Dec.{T}
+use lib.Pow.{pow-pos}
 use Rattle.locate.proofs.Laws.Lists.{list-bits}
 use Rattle.orders.specs.Listed.{listed}
 use Rattle.survivors.specs.Rank.{below}
 use Rattle.relist.specs.Walk.{gone, Fares}
 use Rattle.relist.specs.List.{become}
 use Rattle.relist.specs.declared.walk.Fate.{Fate}
-use Rattle.relist.proofs.Laws.List.{Putting, PuttingAll, putting-first, putting-gone, put-fits, put-room, putting-stays, putting-place, put-all}
+use Rattle.relist.proofs.Laws.List.{Putting, PuttingAll, putting-first, putting-gone, put-fits, put-room, putting-stays, putting-place, all-counted, put-all}
 use borrow.Author.Needs.{needs}
 use Rattle.relist.proofs.list.list_put.Statement.{statement}
 use Rattle.relist.proofs.list.list_put.Tie as tie
 
 abbrev Inv-loop : tie.InvT-loop
-Inv-loop out₀ at s w low drop lines l count width p₀ k₀ before₀ out p k before =
-    (k .left + k .waiting ≤ 65536) × (length out ≡ length out₀) × PuttingAll w s low drop lines l width k₀ k before out₀ p₀ out p
+Inv-loop out₀ at s w low drop lines l width p₀ k₀ before₀ count₀ out p k before count =
+    (count + (k .left + k .waiting) ≤ 65536) × (length out ≡ length out₀) × PuttingAll w s low drop lines l width k₀ k before count out₀ p₀ out p
 
 abbrev μ-loop : tie.MeasureT-loop
-μ-loop out₀ at s w low drop lines l count width p₀ k₀ before₀ out p k before =
+μ-loop out₀ at s w low drop lines l width p₀ k₀ before₀ count₀ out p k before count =
     k .left + k .waiting
 
 abbrev new : (c : tie.Start Inv-loop μ-loop) → List ℕ
 new c = become (c .args .from) (c .args .low) (c .args .drop) (c .args .lines .now) (c .pre .there .value)
 
-going : (c : tie.At-loop Inv-loop μ-loop) → Putting (c .before .before .before .before .before .before .before .before .args .w) (c .before .before .before .before .before .before .before .before .args .s .now) (c .before .before .before .before .before .before .before .before .args .low) (c .before .before .before .before .before .before .before .before .args .drop) (c .before .before .before .before .before .before .before .before .args .lines .now) (new (c .before .before .before .before .before .before .before .before)) (c .before .before .before .before .before .before .before .before .args .l) (c .before .before .before .before .before .before .before .before .args .width) (c .loop .k) (c .before .before .before .before .before .before .before .before .pre .there .behind) (c .loop .before) (c .before .before .before .put-bits .last .0) (c .before .before .before .put-bits .result) (c .loop .out) (c .loop .p)
+going : (c : tie.At-loop Inv-loop μ-loop) → Putting (c .before .before .before .before .before .before .before .before .args .w) (c .before .before .before .before .before .before .before .before .args .s .now) (c .before .before .before .before .before .before .before .before .args .low) (c .before .before .before .before .before .before .before .before .args .drop) (c .before .before .before .before .before .before .before .before .args .lines .now) (new (c .before .before .before .before .before .before .before .before)) (c .before .before .before .before .before .before .before .before .args .l) (c .before .before .before .before .before .before .before .before .args .width) (c .loop .k) (c .before .before .before .before .before .before .before .before .pre .there .behind) (c .loop .before) (c .loop .count) (c .before .before .before .put-bits .last .0) (c .before .before .before .put-bits .result) (c .loop .out) (c .loop .p)
 going c = let p = c .before .before .before .before .before .before .before .before .pre in c .loop .inv .2 (p .there .value) (p .there .behind) (p .there .at) (p .fits)
 
 fares : (c : tie.After-fate-of Inv-loop μ-loop) (r : Fate) → c .fate-of .result ≡ r → Fares (listed (c .before .before .before .before .before .before .before .before .before .before .before .before .before .args .lines .now)) (c .before .before .before .before .before .before .before .before .before .before .before .before .before .args .drop) (c .before .before .step-on .result .line) r
@@ -42,7 +44,7 @@ put-bits-requires : tie.Need-put-bits-requires Inv-loop μ-loop
 put-bits-requires c κs =
     let p = c .before .before .before .before .pre in
     let b = list-bits (c .before .before .before .before .args .width) (c .before .before .before .before .args .l) (new (c .before .before .before .before)) in
-    record { below = rw (p .counts) (p .fits .count); narrow = p .narrow; room = omega (arith, b, p .room .room); near = omega (arith, b, p .room .near) }
+    record { below = pow-pos (c .before .before .before .before .args .width); narrow = p .narrow; room = omega (arith, b, p .room .room); near = omega (arith, b, p .room .near) }
 
 loop-holds : tie.Need-loop-holds Inv-loop μ-loop
 loop-holds c =
@@ -95,6 +97,10 @@ put-bits-requires-2 c κs =
       near = omega (arith, r, z, b, first .place, p .room .near);
     }
 
+add-count : tie.Need-add-count Inv-loop μ-loop
+add-count c =
+    omega (arith, c .before .before .before .before .before .before .before .before .before .before .before .before .loop .inv .0, c .before .before .before .before .before .before .before .before .before .step-on .ensures .less)
+
 loop-less-2 : tie.Need-loop-less-2 Inv-loop μ-loop
 loop-less-2 c =
     c .before .before .before .before .before .before .before .before .before .step-on .ensures .less
@@ -103,12 +109,22 @@ loop-again-2 : tie.Need-loop-again-2 Inv-loop μ-loop
 loop-again-2 c =
     (omega (arith, c .before .before .before .before .before .before .before .before .before .before .before .before .loop .inv .0, c .before .before .before .before .before .before .before .before .before .step-on .ensures .less), search needs, putting-stays (c .before .before .before .before .before .before .before .before .before .before .before .before .loop .inv .2) (c .before .before .before .before .before .before .before .before .before .step-on .ensures) (c .before .before .before .before .before .line .given .0 .0) (stays (c .before .before .before .before .before) .1) (stays (c .before .before .before .before .before) .0) (c .before .before .put-bits2 .ensures))
 
+put-into-requires : tie.Need-put-into-requires Inv-loop μ-loop
+put-into-requires c κs =
+    let p = c .before .before .before .before .before .before .before .before .before .before .before .pre in
+    let b = list-bits (c .before .before .before .before .before .before .before .before .before .before .before .args .width) (c .before .before .before .before .before .before .before .before .before .before .before .args .l) (new (c .before .before .before .before .before .before .before .before .before .before .before)) in
+    let e = all-counted (omega (arith, c .before .if1 .left)) (going (c .before .before .before)) in
+    let first = c .before .before .before .before .before .before .put-bits .ensures in
+    let n = c .before .before .before .loop .inv .1 in
+    record { below = rw e (p .fits .count); narrow = p .narrow; room = omega (arith, b, first .same, n, p .room .room); near = omega (arith, b, p .room .near) }
+
 same-length : tie.Need-same-length Inv-loop μ-loop
-same-length c = search needs
+same-length c =
+    omega (arith, c .before .before .put-into .ensures .same, c .before .before .before .before .before .before .loop .inv .1, c .before .before .before .before .before .before .before .before .before .put-bits .ensures .same)
 
 returns : tie.Need-returns Inv-loop μ-loop
 returns c =
-    put-all (c .before .before .before .before .before .put-bits .ensures) (c .before .before .loop .inv .2) (omega (arith, c .if1 .left))
+    put-all (omega (arith, c .before .before .before .before .if1 .left)) (c .before .before .before .before .before .before .before .before .before .put-bits .ensures) (c .before .before .before .before .before .before .loop .inv .2) (c .before .before .put-into .ensures)
 
 pub list-put-spec : {M : Type 1} → statement M
 list-put-spec =
@@ -127,7 +143,9 @@ list-put-spec =
     loop-again
     sub-put-bits
     put-bits-requires-2
+    add-count
     loop-less-2
     loop-again-2
+    put-into-requires
     same-length
     returns)

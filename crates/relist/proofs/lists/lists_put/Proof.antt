@@ -8,7 +8,7 @@ use Rattle.orders.specs.Survive.{elem}
 use Rattle.orders.specs.Listed.{listed}
 use Rattle.relist.specs.Lists.{newFrom}
 use Rattle.relist.proofs.Laws.Lists.{waits-le}
-use Rattle.relist.proofs.Laws.ListsPut.{PutAll, NextPut, next-put, put-first, put-gone, put-walk, put-list-fits, put-list-room, put-list-counts, put-stays, put-done}
+use Rattle.relist.proofs.Laws.ListsPut.{PutAll, NextPut, next-put, put-first, put-gone, put-walk, put-list-fits, put-list-room, put-stays, put-done}
 use borrow.Author.Needs.{needs}
 use Rattle.relist.proofs.lists.lists_put.Statement.{statement}
 use Rattle.relist.proofs.lists.lists_put.Tie as tie
@@ -59,27 +59,11 @@ loop-again : tie.Need-loop-again Inv-loop μ-loop
 loop-again c =
     (omega (arith, c .before .before .before .before .before .before .loop .inv .0), c .before .before .before .before .before .before .loop .inv .1, put-gone (c .before .before .before .before .before .before .before .before .before .before .args .w) (c .before .before .before .before .before .before .before .before .before .before .args .s .now) (c .before .before .before .before .before .before .before .before .before .before .args .removal .now) (c .before .before .before .before .before .before .before .before .before .before .args .change) (c .before .before .before .before .before .before .before .before .before .before .args .width) (c .before .before .before .before .before .before .before .before .before .before .args .lines) (c .before .before .before .before .before .before .loop .inv .2) (c .before .before .before .before .before .loop-test .taken) (c .before .before .list-at .ensures) (sym (c .before .rank-of .ensures .gone) ∙ c .if1 .taken))
 
-list-numbers-requires : tie.Need-list-numbers-requires Inv-loop μ-loop
-list-numbers-requires c κs =
-    let p = c .before .before .before .before .before .before .before .before .before .before .pre .there in
-    let x = next (c .before .before .before .before .before) in
-    let E = c .before .before .list-at .ensures in
-    record {
-      narrow = p .narrow;
-      short = p .short;
-      rising = p .rising;
-      few = E .few;
-      value = x .value;
-      behind = x .after;
-      at = put-walk (c .before .before .before .before .before .before .before .before .before .before .args .w) (c .before .before .before .before .before .before .before .before .before .before .args .s .now) (c .before .before .before .before .before .before .before .before .before .before .args .removal .now) (c .before .before .before .before .before .before .before .before .before .before .args .change) (c .before .before .before .before .before .before .before .before .before .before .args .width) (c .before .before .before .before .before .before .before .before .before .before .args .lines) (c .before .before .before .before .before .before .loop .inv .2) (c .before .before .before .before .before .loop-test .taken) (c .before .before .list-at .ensures) (kept (c)) (c .before .before .before .before .waiting-at .ensures) (c .before .before .before .left-out-at .ensures) x;
-      falls = put-list-fits (c .before .before .before .before .before .before .before .before .before .before .args .w) (c .before .before .before .before .before .before .before .before .before .before .args .s .now) (c .before .before .before .before .before .before .before .before .before .before .args .removal .now) (c .before .before .before .before .before .before .before .before .before .before .args .change) (c .before .before .before .before .before .before .before .before .before .before .args .width) (c .before .before .before .before .before .before .before .before .before .before .args .lines) (c .before .before .before .before .before .before .loop .inv .2) (c .before .before .before .before .before .loop-test .taken) (c .before .before .list-at .ensures) (kept (c)) (c .before .before .before .before .waiting-at .ensures) (c .before .before .before .left-out-at .ensures) x .falls;
-    }
-
 list-put-requires : tie.Need-list-put-requires Inv-loop μ-loop
 list-put-requires c κs =
-    let p = c .before .before .before .before .before .before .before .before .before .before .before .before .pre in
-    let x = next (c .before .before .before .before .before .before .before) in
-    let E = c .before .before .before .before .list-at .ensures in
+    let p = c .before .before .before .before .before .before .before .before .before .before .before .pre in
+    let x = next (c .before .before .before .before .before .before) in
+    let E = c .before .before .before .list-at .ensures in
     record {
       there = record {
         narrow = p .there .narrow;
@@ -88,26 +72,25 @@ list-put-requires c κs =
         few = E .few;
         value = x .value;
         behind = x .after;
-        at = put-walk (c .before .before .before .before .before .before .before .before .before .before .before .before .args .w) (c .before .before .before .before .before .before .before .before .before .before .before .before .args .s .now) (c .before .before .before .before .before .before .before .before .before .before .before .before .args .removal .now) (c .before .before .before .before .before .before .before .before .before .before .before .before .args .change) (c .before .before .before .before .before .before .before .before .before .before .before .before .args .width) (c .before .before .before .before .before .before .before .before .before .before .before .before .args .lines) (c .before .before .before .before .before .before .before .before .loop .inv .2) (c .before .before .before .before .before .before .before .loop-test .taken) (c .before .before .before .before .list-at .ensures) (kept (c .before .before)) (c .before .before .before .before .before .before .waiting-at .ensures) (c .before .before .before .before .before .left-out-at .ensures) x;
-        falls = put-list-fits (c .before .before .before .before .before .before .before .before .before .before .before .before .args .w) (c .before .before .before .before .before .before .before .before .before .before .before .before .args .s .now) (c .before .before .before .before .before .before .before .before .before .before .before .before .args .removal .now) (c .before .before .before .before .before .before .before .before .before .before .before .before .args .change) (c .before .before .before .before .before .before .before .before .before .before .before .before .args .width) (c .before .before .before .before .before .before .before .before .before .before .before .before .args .lines) (c .before .before .before .before .before .before .before .before .loop .inv .2) (c .before .before .before .before .before .before .before .loop-test .taken) (c .before .before .before .before .list-at .ensures) (kept (c .before .before)) (c .before .before .before .before .before .before .waiting-at .ensures) (c .before .before .before .before .before .left-out-at .ensures) x .falls;
+        at = put-walk (c .before .before .before .before .before .before .before .before .before .before .before .args .w) (c .before .before .before .before .before .before .before .before .before .before .before .args .s .now) (c .before .before .before .before .before .before .before .before .before .before .before .args .removal .now) (c .before .before .before .before .before .before .before .before .before .before .before .args .change) (c .before .before .before .before .before .before .before .before .before .before .before .args .width) (c .before .before .before .before .before .before .before .before .before .before .before .args .lines) (c .before .before .before .before .before .before .before .loop .inv .2) (c .before .before .before .before .before .before .loop-test .taken) (c .before .before .before .list-at .ensures) (kept (c .before)) (c .before .before .before .before .before .waiting-at .ensures) (c .before .before .before .before .left-out-at .ensures) x;
+        falls = put-list-fits (c .before .before .before .before .before .before .before .before .before .before .before .args .w) (c .before .before .before .before .before .before .before .before .before .before .before .args .s .now) (c .before .before .before .before .before .before .before .before .before .before .before .args .removal .now) (c .before .before .before .before .before .before .before .before .before .before .before .args .change) (c .before .before .before .before .before .before .before .before .before .before .before .args .width) (c .before .before .before .before .before .before .before .before .before .before .before .args .lines) (c .before .before .before .before .before .before .before .loop .inv .2) (c .before .before .before .before .before .before .loop-test .taken) (c .before .before .before .list-at .ensures) (kept (c .before)) (c .before .before .before .before .before .waiting-at .ensures) (c .before .before .before .before .left-out-at .ensures) x .falls;
       };
       narrow = p .narrow;
-      counts = put-list-counts (c .before .before .before .before .before .before .before .before .before .before .before .before .args .w) (c .before .before .before .before .before .before .before .before .before .before .before .before .args .s .now) (c .before .before .before .before .before .before .before .before .before .before .before .before .args .removal .now) (c .before .before .before .before .before .before .before .before .before .before .before .before .args .change) (c .before .before .before .before .before .before .before .before .before .before .before .before .args .width) (c .before .before .before .before .before .before .before .before .before .before .before .before .args .lines) (c .before .before .before .before .before .before .before .before .loop .inv .2) (c .before .before .before .before .before .before .before .loop-test .taken) (c .before .before .before .before .list-at .ensures) (kept (c .before .before)) (c .before .before .before .before .before .before .waiting-at .ensures) (c .before .before .before .before .before .left-out-at .ensures) x (c .before .list-numbers .ensures);
-      fits = put-list-fits (c .before .before .before .before .before .before .before .before .before .before .before .before .args .w) (c .before .before .before .before .before .before .before .before .before .before .before .before .args .s .now) (c .before .before .before .before .before .before .before .before .before .before .before .before .args .removal .now) (c .before .before .before .before .before .before .before .before .before .before .before .before .args .change) (c .before .before .before .before .before .before .before .before .before .before .before .before .args .width) (c .before .before .before .before .before .before .before .before .before .before .before .before .args .lines) (c .before .before .before .before .before .before .before .before .loop .inv .2) (c .before .before .before .before .before .before .before .loop-test .taken) (c .before .before .before .before .list-at .ensures) (kept (c .before .before)) (c .before .before .before .before .before .before .waiting-at .ensures) (c .before .before .before .before .before .left-out-at .ensures) x;
-      room = put-list-room (c .before .before .before .before .before .before .before .before .before .before .before .before .args .w) (c .before .before .before .before .before .before .before .before .before .before .before .before .args .s .now) (c .before .before .before .before .before .before .before .before .before .before .before .before .args .removal .now) (c .before .before .before .before .before .before .before .before .before .before .before .before .args .change) (c .before .before .before .before .before .before .before .before .before .before .before .before .args .width) (c .before .before .before .before .before .before .before .before .before .before .before .before .args .lines) (c .before .before .before .before .before .before .before .before .loop .inv .2) (c .before .before .before .before .before .before .before .loop-test .taken) (c .before .before .before .before .list-at .ensures) (kept (c .before .before)) (c .before .before .before .before .before .before .waiting-at .ensures) (c .before .before .before .before .before .left-out-at .ensures) x (p .room) (sym (c .before .before .before .before .before .before .before .before .loop .inv .1));
+      fits = put-list-fits (c .before .before .before .before .before .before .before .before .before .before .before .args .w) (c .before .before .before .before .before .before .before .before .before .before .before .args .s .now) (c .before .before .before .before .before .before .before .before .before .before .before .args .removal .now) (c .before .before .before .before .before .before .before .before .before .before .before .args .change) (c .before .before .before .before .before .before .before .before .before .before .before .args .width) (c .before .before .before .before .before .before .before .before .before .before .before .args .lines) (c .before .before .before .before .before .before .before .loop .inv .2) (c .before .before .before .before .before .before .loop-test .taken) (c .before .before .before .list-at .ensures) (kept (c .before)) (c .before .before .before .before .before .waiting-at .ensures) (c .before .before .before .before .left-out-at .ensures) x;
+      room = put-list-room (c .before .before .before .before .before .before .before .before .before .before .before .args .w) (c .before .before .before .before .before .before .before .before .before .before .before .args .s .now) (c .before .before .before .before .before .before .before .before .before .before .before .args .removal .now) (c .before .before .before .before .before .before .before .before .before .before .before .args .change) (c .before .before .before .before .before .before .before .before .before .before .before .args .width) (c .before .before .before .before .before .before .before .before .before .before .before .args .lines) (c .before .before .before .before .before .before .before .loop .inv .2) (c .before .before .before .before .before .before .loop-test .taken) (c .before .before .before .list-at .ensures) (kept (c .before)) (c .before .before .before .before .before .waiting-at .ensures) (c .before .before .before .before .left-out-at .ensures) x (p .room) (sym (c .before .before .before .before .before .before .before .loop .inv .1));
     }
 
 add-lists : tie.Need-add-lists Inv-loop μ-loop
 add-lists c =
-    omega (arith, c .before .before .before .before .before .before .before .before .before .before .before .before .before .before .before .pre .there .few, c .before .before .before .before .before .before .before .before .before .before .loop-test .taken, c .before .before .before .before .before .before .before .before .before .before .before .loop .inv .0)
+    omega (arith, c .before .before .before .before .before .before .before .before .before .before .before .before .before .before .pre .there .few, c .before .before .before .before .before .before .before .before .before .loop-test .taken, c .before .before .before .before .before .before .before .before .before .before .loop .inv .0)
 
 loop-less-2 : tie.Need-loop-less-2 Inv-loop μ-loop
 loop-less-2 c =
-    omega (arith, c .before .before .before .before .before .before .before .before .before .before .loop-test .taken)
+    omega (arith, c .before .before .before .before .before .before .before .before .before .loop-test .taken)
 
 loop-again-2 : tie.Need-loop-again-2 Inv-loop μ-loop
 loop-again-2 c =
-    (omega (arith, c .before .before .before .before .before .before .before .before .before .before .before .loop .inv .0), search needs, put-stays (c .before .before .before .before .before .before .before .before .before .before .before .before .before .before .before .args .w) (c .before .before .before .before .before .before .before .before .before .before .before .before .before .before .before .args .s .now) (c .before .before .before .before .before .before .before .before .before .before .before .before .before .before .before .args .removal .now) (c .before .before .before .before .before .before .before .before .before .before .before .before .before .before .before .args .change) (c .before .before .before .before .before .before .before .before .before .before .before .before .before .before .before .args .width) (c .before .before .before .before .before .before .before .before .before .before .before .before .before .before .before .args .lines) (c .before .before .before .before .before .before .before .before .before .before .before .loop .inv .2) (c .before .before .before .before .before .before .before .before .before .before .loop-test .taken) (c .before .before .before .before .before .before .before .list-at .ensures) (kept (c .before .before .before .before .before)) (c .before .before .before .before .before .before .before .before .before .waiting-at .ensures) (c .before .before .before .before .before .before .before .before .left-out-at .ensures) (c .before .before .before .before .list-numbers .ensures) (c .before .before .list-put .ensures))
+    (omega (arith, c .before .before .before .before .before .before .before .before .before .before .loop .inv .0), search needs, put-stays (c .before .before .before .before .before .before .before .before .before .before .before .before .before .before .args .w) (c .before .before .before .before .before .before .before .before .before .before .before .before .before .before .args .s .now) (c .before .before .before .before .before .before .before .before .before .before .before .before .before .before .args .removal .now) (c .before .before .before .before .before .before .before .before .before .before .before .before .before .before .args .change) (c .before .before .before .before .before .before .before .before .before .before .before .before .before .before .args .width) (c .before .before .before .before .before .before .before .before .before .before .before .before .before .before .args .lines) (c .before .before .before .before .before .before .before .before .before .before .loop .inv .2) (c .before .before .before .before .before .before .before .before .before .loop-test .taken) (c .before .before .before .before .before .before .list-at .ensures) (kept (c .before .before .before .before)) (c .before .before .before .before .before .before .before .before .waiting-at .ensures) (c .before .before .before .before .before .before .before .left-out-at .ensures) (c .before .before .list-put .ensures))
 
 same-length : tie.Need-same-length Inv-loop μ-loop
 same-length c = search needs
@@ -130,7 +113,6 @@ lists-put-spec =
     add-l
     loop-less
     loop-again
-    list-numbers-requires
     list-put-requires
     add-lists
     loop-less-2
