@@ -1,15 +1,15 @@
 -- Bits put one behind the other: what several writers leave is what one would that puts all their bits.
 use mathlib.Core.Path.{_≡_, refl, sym, ap, _∙_}
-use Prim.Native.Nat.{ℕ}
+use Prim.Native.Nat.{ℕ, _+_}
 use native.Mathlib.Omega.{arith}
 use mathlib.Core.Bool.{Bool}
 use mathlib.Core.List.{List, [], _∷_, _++_, append-assoc, append-nil}
-use lib.ListN.{length-append}
+use lib.ListN.{length, length-append}
 use Rattle.bits.specs.Bits.{Bits, bitsOfNumber}
 use Rattle.bits.specs.BitsLaws.{length-bits}
 use Rattle.bits.specs.Codec.{Codec}
 use Rattle.bits.specs.CodecLaws.{encAll}
-use Rattle.puts.specs.Put.{PutMore, PutInto, Puts}
+use Rattle.puts.specs.Put.{PutMore, PutInto, Puts, Room}
 use Rattle.puts.proofs.Bytes.{zero-bits}
 
 pub puts-one : {old now : List ℕ} {at value width r : ℕ} → PutMore old at value width now r → Puts (bitsOfNumber width value) old at now r
@@ -40,6 +40,32 @@ puts-later width ys {value} {r = r} h k =
 
 pub puts-as : {a b : Bits} {old now : List ℕ} {at r : ℕ} → a ≡ b → Puts a old at now r → Puts b old at now r
 puts-as e h = rw e at h
+
+-- ---- bits of which some are put: rest is still to come of all
+
+pub record Putting (rest all : Bits) (old : List ℕ) (at : ℕ) (now : List ℕ) (q : ℕ) : Type 0 where
+  pub done : Bits
+  pub puts : Puts done old at now q
+  pub whole : done ++ rest ≡ all
+
+pub putting-none : (all : Bits) (old : List ℕ) (at : ℕ) → Putting all all old at old at
+putting-none all old at = record { done = []; puts = puts-none old at; whole = refl }
+
+pub putting-place : {rest all : Bits} {old : List ℕ} {at : ℕ} {now : List ℕ} {q : ℕ} → Putting rest all old at now q → q + length rest ≡ at + length all
+putting-place {rest} h = omega (arith, h .puts .place, ap length (h .whole), length-append (h .done) rest)
+
+module _ (x rest : Bits) {all : Bits} {old : List ℕ} {at : ℕ} {now : List ℕ} {q : ℕ} (h : Putting (x ++ rest) all old at now q) where
+  pub putting-more : {next : List ℕ} {r : ℕ} → Puts x now q next r → Putting rest all old at next r
+  putting-more k = record { done = h .done ++ x; puts = h .puts then k; whole = append-assoc (h .done) x rest ∙ h .whole }
+
+  pub putting-within : q + length x + length rest ≡ at + length all
+  putting-within = omega (arith, putting-place h, length-append x rest)
+
+  pub putting-room : Room old at (length all) → Room now q (length x)
+  putting-room r = record { room = omega (arith, r .room, h .puts .same, putting-within); near = omega (arith, r .near, putting-within) }
+
+pub putting-all : {all : Bits} {old : List ℕ} {at : ℕ} {now : List ℕ} {q : ℕ} → Putting [] all old at now q → Puts all old at now q
+putting-all h = puts-as (sym (append-nil (h .done)) ∙ h .whole) (h .puts)
 
 -- ---- values one behind the other
 

@@ -3,3 +3,4 @@ pub mod Rank
 pub mod Listed
 pub mod Place
 pub mod Kept
+pub mod Going

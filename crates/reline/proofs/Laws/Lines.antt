@@ -1,10 +1,9 @@
 -- Going over the lines of a block: where each stands, and those that stay, so far and still to come.
 use mathlib.Core.Path.{_≡_, refl, sym, ap, _∙_}
-use Prim.Native.Nat.{ℕ, suc, _+_, _-_, _*_, _≤_, _<_, _/_}
+use Prim.Native.Nat.{ℕ, _+_, _-_, _*_, _≤_, _<_, _/_}
 use native.Mathlib.Omega.{arith}
-use native.Mathlib.Numerals.{add-one}
 use mathlib.Core.Bool.{true, false}
-use mathlib.Core.List.{List, [], _∷_, _++_, append-assoc}
+use mathlib.Core.List.{List, _∷_, _++_, append-assoc}
 use lib.ListN.{length, take, drop, length-append}
 use lib.Seq.{take-append-seam}
 use Rattle.bits.specs.Bits.{Bits}
@@ -21,6 +20,7 @@ use Rattle.orders.specs.Act.{remove, newLines}
 use Rattle.format.specs.View.{View}
 use Rattle.format.specs.Places.{noLine}
 use Rattle.survivors.proofs.Laws.Kept.{kept-survivors}
+use Rattle.survivors.proofs.Laws.Going.{Going, Turn, turn, gone-on, stays-on, all-gone-over}
 use Rattle.orders.specs.Listed.{listed}
 use Rattle.puts.proofs.Bytes.{filled-length}
 use Rattle.locate.proofs.Laws.Blocks.{skeleton-is}
@@ -52,6 +52,28 @@ module _ (w : Widths) (s : List ℕ) (p : ℕ) (x : Line) (xs : List Line) {u : 
   pub others-at : LinesAt w s (p + length (line w .enc x)) xs u
   others-at = record { bits = stands-behind s p (line w .enc x) rest here (length (line w .enc x)) refl; fits = h .fits .1; within = line-within }
 
+-- ---- line l, which comes next
+
+abbrev pub same : ℕ → Line → Line
+same i x = x
+
+abbrev pub Stand : Widths → List ℕ → Bits → ℕ → ℕ → List Line → Type 0
+Stand w s u l p xs = LinesAt w s p xs u
+
+module _ {w : Widths} {s rs : List ℕ} {count : ℕ} {u : Bits} {Rest : List Line → Type 0} {l p : ℕ} (t : Turn same rs count (Stand w s u) Rest l p) where
+  pub next-reads : Reads (line w .dec) s p (found (t .value) (p + length (line w .enc (t .value))))
+  next-reads = line-reads w s p (t .value) (t .others) (t .at)
+
+  pub next-copied : take (length (line w .enc (t .value))) (drop p (bitsOf s)) ≡ line w .enc (t .value)
+  next-copied = line-copied w s p (t .value) (t .others) (t .at)
+
+  module _ {q : ℕ} (E : LineEnd w s p q) where
+    pub next-end : q ≡ p + length (line w .enc (t .value))
+    next-end = E .is (t .value) _ next-reads
+
+    pub next-at : LinesAt w s q (t .others) u
+    next-at = rw next-end (others-at w s p (t .value) (t .others) (t .at))
+
 -- ---- sizing
 
 -- the block's bytes
@@ -60,72 +82,33 @@ block-bytes w removal ls =
     let ks : List Line = keptFrom (listed removal) 0 ls in
     ap (λ (b : Bits). length (inBytes b)) (skeleton-is w ks) ∙ filled-length (encAll (line w) ks)
 
--- of the lines all that stay: those of the lines from l on are still to come
-pub record Sizing (w : Widths) (s rs : List ℕ) (all : List Line) (u : Bits) (count l p bits : ℕ) : Type 0 where
-  pub more : List Line
-  pub at : LinesAt w s p more u
-  pub left : l + length more ≡ count
-  pub sums : bits + length (encAll (line w) (keptFrom rs l more)) ≡ length (encAll (line w) all)
+-- of all that stay, those before have so many bits, and ys are still to come
+pub record Sized (w : Widths) (all : List Line) (bits : ℕ) (ys : List Line) : Type 0 where
+  pub sums : bits + length (encAll (line w) ys) ≡ length (encAll (line w) all)
 
+-- line l comes next, at place p
 abbrev pub SizingAll : (w : Widths) (s removal : List ℕ) (count l p bits : ℕ) → Type 0
 SizingAll w s removal count l p bits =
-    (ls : List Line) (u : Bits) → LinesAt w s 0 ls u → length ls ≡ count → Sizing w s (listed removal) (keptFrom (listed removal) 0 ls) u count l p bits
-
--- line l, which comes next
-pub record Next (w : Widths) (s rs : List ℕ) (all : List Line) (u : Bits) (count l p bits : ℕ) : Type 0 where
-  pub value : Line
-  pub reads : Reads (line w .dec) s p (found value (p + length (line w .enc value)))
-  pub gone : elem l rs ≡ true → Sizing w s rs all u count (l + 1) (p + length (line w .enc value)) bits
-  pub stays : elem l rs ≡ false → Sizing w s rs all u count (l + 1) (p + length (line w .enc value)) (bits + length (line w .enc value))
-
-module _ {w : Widths} {s rs : List ℕ} {all : List Line} {u : Bits} {count l p bits : ℕ} where
-  pub next-line : Sizing w s rs all u count l p bits → l < count → Next w s rs all u count l p bits
-  next-line g k = go (g .more) (g .at) (g .left) (g .sums)
-    where
-      go : (xs : List Line) → LinesAt w s p xs u → l + length xs ≡ count
-          → bits + length (encAll (line w) (keptFrom rs l xs)) ≡ length (encAll (line w) all) → Next w s rs all u count l p bits
-      go [] a c t = absurd (omega arith)
-      go (x ∷ xs) a c t =
-          let L : List Line = keptFrom rs (suc l) xs in
-          record {
-            value = x;
-            reads = line-reads w s p x xs a;
-            gone = λ e. record { more = xs; at = others-at w s p x xs a; left = omega arith; sums = rw (add-one l) (rw e at t) };
-            stays = λ e.
-                let T : bits + length (line w .enc x ++ encAll (line w) L) ≡ length (encAll (line w) all) = rw e at t in
-                record {
-                  more = xs;
-                  at = others-at w s p x xs a;
-                  left = omega arith;
-                  sums = rw (add-one l) (omega (arith, T, length-append (line w .enc x) (encAll (line w) L)));
-                };
-          }
+    (ls : List Line) (u : Bits) → LinesAt w s 0 ls u → length ls ≡ count
+    → Going same (listed removal) count (Stand w s u) (Sized w (keptFrom (listed removal) 0 ls) bits) l p
 
 module _ (w : Widths) (s removal : List ℕ) (count : ℕ) where
   pub sizing-first : SizingAll w s removal count 0 0 0
-  sizing-first ls u a c = record { more = ls; at = a; left = omega arith; sums = omega arith }
+  sizing-first ls u a c = record { more = ls; at = a; left = omega arith; rest = record { sums = omega arith } }
 
   module _ {l p bits q : ℕ} (G : SizingAll w s removal count l p bits) (k : l < count) (E : LineEnd w s p q) where
     pub sizing-gone : elem l (listed removal) ≡ true → SizingAll w s removal count (l + 1) q bits
-    sizing-gone e ls u a c =
-        let x = next-line (G ls u a c) k in
-        rw (E .is (x .value) _ (x .reads)) (x .gone e)
+    sizing-gone e ls u a c = let t = turn (G ls u a c) k in gone-on t e (next-at t E)
 
     pub sizing-stays : elem l (listed removal) ≡ false → SizingAll w s removal count (l + 1) q (bits + (q - p))
     sizing-stays e ls u a c =
-        let x = next-line (G ls u a c) k in
-        let z = E .is (x .value) _ (x .reads) in
-        let y : q - p ≡ length (line w .enc (x .value)) = omega (arith, z) in
-        rw (y, z) (x .stays e)
+        let t = turn (G ls u a c) k in
+        let n = length-append (line w .enc (t .value)) (encAll (line w) (keptFrom (listed removal) (l + 1) (t .others))) in
+        stays-on t (next-at t E) (record { sums = omega (arith, next-end t E, t .stays e .sums, n) })
 
   pub sized : {l p bits : ℕ} → SizingAll w s removal count l p bits → count ≤ l → LinesSized w s count removal ((bits + 7) / 8)
-  sized {l} {bits = bits} G k =
-      record { is = λ ls u a c. let g = G ls u a c in ap (λ (n : ℕ). (n + 7) / 8) (end (keptFrom (listed removal) 0 ls) (g .more) l k (g .left) (g .sums)) ∙ sym (block-bytes w removal ls) }
-    where
-      end : (all xs : List Line) (l : ℕ) → count ≤ l → l + length xs ≡ count
-          → bits + length (encAll (line w) (keptFrom (listed removal) l xs)) ≡ length (encAll (line w) all) → bits ≡ length (encAll (line w) all)
-      end all [] l k c t = omega arith
-      end all (x ∷ xs) l k c t = absurd (omega arith)
+  sized {bits = bits} G k =
+      record { is = λ ls u a c. ap (λ (n : ℕ). (n + 7) / 8) (omega (arith, all-gone-over (G ls u a c) k .sums)) ∙ sym (block-bytes w removal ls) }
 
 -- ---- the lines that the definition has after a removal
 

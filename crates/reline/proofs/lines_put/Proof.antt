@@ -6,8 +6,12 @@ use lib.ListN.{length}
 use Rattle.orders.specs.Listed.{listed}
 use Rattle.format.specs.Line.{line}
 use Rattle.reline.specs.Lines.{keptFrom}
+use Rattle.bits.specs.CodecLaws.{encAll}
+use Rattle.puts.proofs.Chain.{putting-within}
+use Rattle.survivors.proofs.Laws.Going.{Turn, turn}
+use Rattle.reline.proofs.Laws.Lines.{same, Stand, next-reads, next-end}
 use Rattle.reline.proofs.Laws.Copy.{copied-few}
-use Rattle.reline.proofs.Laws.Put.{PutAll, NextPut, next-put, block-room, put-first, put-gone, put-stays, put-done}
+use Rattle.reline.proofs.Laws.Put.{ToPut, PutAll, block-room, put-first, put-gone, put-stays, put-done}
 use borrow.Author.Needs.{needs}
 use Rattle.reline.proofs.lines_put.Statement.{statement}
 use Rattle.reline.proofs.lines_put.Tie as tie
@@ -20,14 +24,14 @@ abbrev μ-loop : tie.MeasureT-loop
 μ-loop out₀ s w count removal q₀ p₀ l₀ out q p l =
     count - l
 
-next : (c : tie.In-loop Inv-loop μ-loop) → NextPut (c .before .before .before .before .before .args .w) (c .before .before .before .before .before .args .s .now) (listed (c .before .before .before .before .before .args .removal .now)) (keptFrom (listed (c .before .before .before .before .before .args .removal .now)) 0 (c .before .before .before .before .before .pre .there .value)) (c .before .before .before .before .before .pre .there .behind) (c .before .before .before .before .before .args .count) (c .before .loop .l) (c .before .loop .p) (c .before .before .before .before .before .args .out .now) (c .before .loop .out) (c .before .loop .q)
-next c = let p = c .before .before .before .before .before .pre .there in next-put (c .before .loop .inv .3 (p .value) (p .behind) (p .at) (p .counts)) (c .loop-test .taken)
+next : (c : tie.In-loop Inv-loop μ-loop) → Turn same (listed (c .before .before .before .before .before .args .removal .now)) (c .before .before .before .before .before .args .count) (Stand (c .before .before .before .before .before .args .w) (c .before .before .before .before .before .args .s .now) (c .before .before .before .before .before .pre .there .behind)) (ToPut (c .before .before .before .before .before .args .w) (keptFrom (listed (c .before .before .before .before .before .args .removal .now)) 0 (c .before .before .before .before .before .pre .there .value)) (c .before .before .before .before .before .args .out .now) (c .before .loop .out) (c .before .loop .q)) (c .before .loop .l) (c .before .loop .p)
+next c = let p = c .before .before .before .before .before .pre .there in turn (c .before .loop .inv .3 (p .value) (p .behind) (p .at) (p .counts)) (c .loop-test .taken)
 
 ends : (c : tie.After-line-end Inv-loop μ-loop) → (c .line-end .result ≡ c .before .before .loop .p + length (line (c .before .before .before .before .before .before .args .w) .enc (next (c .before) .value))) × (c .line-end .result ≤ 8 * length (c .before .before .before .before .before .before .args .s .now))
 ends c =
     let x = next (c .before) in
-    let z = c .line-end .ensures .is (x .value) (c .before .before .loop .p + length (line (c .before .before .before .before .before .before .args .w) .enc (x .value))) (x .reads) in
-    (z, omega (arith, z, x .reads .within))
+    let z = next-end x (c .line-end .ensures) in
+    (z, omega (arith, z, next-reads x .within))
 
 loop-holds : tie.Need-loop-holds Inv-loop μ-loop
 loop-holds c =
@@ -37,7 +41,7 @@ line-end-requires : tie.Need-line-end-requires Inv-loop μ-loop
 line-end-requires c κs =
     let p = c .before .before .before .before .before .pre .there in
     let x = next (c) in
-    record { narrow = p .narrow; short = p .short; value = x .value; behind = c .before .loop .p + length (line (c .before .before .before .before .before .args .w) .enc (x .value)); reads = x .reads }
+    record { narrow = p .narrow; short = p .short; value = x .value; behind = c .before .loop .p + length (line (c .before .before .before .before .before .args .w) .enc (x .value)); reads = next-reads x }
 
 rank-of-requires : tie.Need-rank-of-requires Inv-loop μ-loop
 rank-of-requires c κs =
@@ -60,7 +64,7 @@ copy-bits-requires c κs =
     let p = c .before .before .before .before .before .before .before .before .before .pre in
     let x = next (c .before .before .before .before) in
     let e = ends (c .before .before .before) in
-    let f = x .fits (sym (c .before .before .rank-of .ensures .gone) ∙ c .before .if1 .left) in
+    let f = putting-within (line (c .before .before .before .before .before .before .before .before .before .args .w) .enc (x .value)) (encAll (line (c .before .before .before .before .before .before .before .before .before .args .w)) (keptFrom (listed (c .before .before .before .before .before .before .before .before .before .args .removal .now)) (c .before .before .before .before .before .loop .l + 1) (x .others))) (x .stays (sym (c .before .before .rank-of .ensures .gone) ∙ c .before .if1 .left)) in
     let r = block-room (c .before .before .before .before .before .before .before .before .before .args .w) (c .before .before .before .before .before .before .before .before .before .args .removal .now) (p .there .value) (p .room) in
     record {
       short = p .there .short;

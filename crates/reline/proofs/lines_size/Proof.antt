@@ -6,7 +6,8 @@ use lib.ListN.{length}
 use Rattle.orders.specs.Listed.{listed}
 use Rattle.format.specs.Line.{line}
 use Rattle.reline.specs.Lines.{keptFrom}
-use Rattle.reline.proofs.Laws.Lines.{SizingAll, Next, next-line, sizing-first, sizing-gone, sizing-stays, sized}
+use Rattle.survivors.proofs.Laws.Going.{Turn, turn}
+use Rattle.reline.proofs.Laws.Lines.{same, Stand, next-reads, next-end, Sized, SizingAll, sizing-first, sizing-gone, sizing-stays, sized}
 use Rattle.reline.proofs.lines_size.Statement.{statement}
 use Rattle.reline.proofs.lines_size.Tie as tie
 
@@ -18,14 +19,14 @@ abbrev μ-loop : tie.MeasureT-loop
 μ-loop s w count removal p₀ l₀ bits₀ p l bits =
     count - l
 
-next : (c : tie.In-loop Inv-loop μ-loop) → Next (c .before .before .before .before .args .w) (c .before .before .before .before .args .s .now) (listed (c .before .before .before .before .args .removal .now)) (keptFrom (listed (c .before .before .before .before .args .removal .now)) 0 (c .before .before .before .before .pre .value)) (c .before .before .before .before .pre .behind) (c .before .before .before .before .args .count) (c .before .loop .l) (c .before .loop .p) (c .before .loop .bits)
-next c = let p = c .before .before .before .before .pre in next-line (c .before .loop .inv .2 (p .value) (p .behind) (p .at) (p .counts)) (c .loop-test .taken)
+next : (c : tie.In-loop Inv-loop μ-loop) → Turn same (listed (c .before .before .before .before .args .removal .now)) (c .before .before .before .before .args .count) (Stand (c .before .before .before .before .args .w) (c .before .before .before .before .args .s .now) (c .before .before .before .before .pre .behind)) (Sized (c .before .before .before .before .args .w) (keptFrom (listed (c .before .before .before .before .args .removal .now)) 0 (c .before .before .before .before .pre .value)) (c .before .loop .bits)) (c .before .loop .l) (c .before .loop .p)
+next c = let p = c .before .before .before .before .pre in turn (c .before .loop .inv .2 (p .value) (p .behind) (p .at) (p .counts)) (c .loop-test .taken)
 
 ends : (c : tie.After-line-end Inv-loop μ-loop) → (c .before .before .loop .p ≤ c .line-end .result) × (c .line-end .result ≤ 8 * length (c .before .before .before .before .before .args .s .now))
 ends c =
     let x = next (c .before) in
-    let z = c .line-end .ensures .is (x .value) (c .before .before .loop .p + length (line (c .before .before .before .before .before .args .w) .enc (x .value))) (x .reads) in
-    (omega (arith, z), omega (arith, z, x .reads .within))
+    let z = next-end x (c .line-end .ensures) in
+    (omega (arith, z), omega (arith, z, next-reads x .within))
 
 loop-holds : tie.Need-loop-holds Inv-loop μ-loop
 loop-holds c =
@@ -35,7 +36,7 @@ line-end-requires : tie.Need-line-end-requires Inv-loop μ-loop
 line-end-requires c κs =
     let p = c .before .before .before .before .pre in
     let x = next (c) in
-    record { narrow = p .narrow; short = p .short; value = x .value; behind = c .before .loop .p + length (line (c .before .before .before .before .args .w) .enc (x .value)); reads = x .reads }
+    record { narrow = p .narrow; short = p .short; value = x .value; behind = c .before .loop .p + length (line (c .before .before .before .before .args .w) .enc (x .value)); reads = next-reads x }
 
 rank-of-requires : tie.Need-rank-of-requires Inv-loop μ-loop
 rank-of-requires c κs =

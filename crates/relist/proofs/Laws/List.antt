@@ -2,18 +2,18 @@
 use mathlib.Core.Path.{_≡_, refl, sym, ap, _∙_}
 use Prim.Native.Nat.{ℕ, _+_, _-_, _*_, _^_, _≤_, _<_, max}
 use native.Mathlib.Omega.{arith}
-use native.Mathlib.Nat.{mul-comm, mul-suc}
 use mathlib.Core.Bool.{not}
-use mathlib.Core.List.{List, [], _∷_, _++_, append-assoc, append-nil}
-use lib.ListN.{length, length-append}
+use mathlib.Core.List.{List, [], _∷_, _++_}
+use lib.ListN.{length}
 use lib.Dec.{T}
 use Rattle.bits.specs.ChoiceLaws.{pick-yes, pick-no}
 use Rattle.bits.specs.Lists.{All}
 use Rattle.bits.specs.Bits.{Bits, bitsOfNumber}
+use Rattle.bits.specs.BitsLaws.{length-bits}
 use Rattle.bits.specs.CodecLaws.{encAll, field}
 use Rattle.outcome.specs.Refusals.{badIndex}
-use Rattle.puts.specs.Put.{PutMore, PutInto, Puts}
-use Rattle.puts.proofs.Chain.{puts-one, puts-none, _then_, puts-later, puts-as}
+use Rattle.puts.specs.Put.{PutMore, PutInto}
+use Rattle.puts.proofs.Chain.{puts-one, _then_, puts-later, puts-as, Putting, putting-none, putting-more, putting-within, putting-all}
 use Rattle.format.specs.Differences.{Falls, diffs}
 use Rattle.format.specs.DifferencesLaws.{length-diffs}
 use Rattle.format.specs.Index.{FitsList}
@@ -102,88 +102,89 @@ module _ {w : ℕ} {s : List ℕ} {low drop : ℕ} {lines : List ℕ} {l : ℕ} 
 
 -- ---- putting
 
--- the differences of the list new, at line l: those of the lines before are put, from place q on
-pub record Putting (w : ℕ) (s : List ℕ) (low drop : ℕ) (lines new : List ℕ) (l width : ℕ) (k : Walk) (u : Bits) (before count : ℕ) (old : List ℕ) (q : ℕ) (now : List ℕ) (p : ℕ) : Type 0 where
+-- the differences of lines
+abbrev pub diffBits : ℕ → ℕ → List ℕ → Bits
+diffBits width before ns = encAll (field badIndex width) (diffs before ns)
+
+diff-long : (width before : ℕ) (ns : List ℕ) → length (diffBits width before ns) ≡ length ns * width
+diff-long width before ns = codes-long badIndex width (diffs before ns) ∙ ap (λ (n : ℕ). n * width) (length-diffs before ns)
+
+-- those of the list new, at line l: the lines before are put, from place q on, and counted
+pub record PuttingList (w : ℕ) (s : List ℕ) (low drop : ℕ) (lines new : List ℕ) (l width : ℕ) (k : Walk) (u : Bits) (before count : ℕ) (old : List ℕ) (q : ℕ) (now : List ℕ) (p : ℕ) : Type 0 where
   pub ms : List ℕ
   pub at : WalkAt w s k ms u
   pub least : ℕ
   pub falls : Falls least before (become k low drop lines ms)
   pub small : All (λ d. d < 2 ^ width) (diffs before (become k low drop lines ms))
   pub counts : count + length (become k low drop lines ms) ≡ length new
-  pub done : Bits
-  pub puts : Puts done old q now p
-  pub all : done ++ encAll (field badIndex width) (diffs before (become k low drop lines ms)) ≡ encAll (field badIndex width) (diffs l new)
+  pub bits : Putting (diffBits width before (become k low drop lines ms)) (diffBits width l new) old q now p
 
 abbrev pub PuttingAll : (w : ℕ) (s : List ℕ) (low drop : ℕ) (lines : List ℕ) (l width : ℕ) (from k : Walk) (before count : ℕ) (old : List ℕ) (q : ℕ) (now : List ℕ) (p : ℕ) → Type 0
 PuttingAll w s low drop lines l width from k before count old q now p =
     (ns : List ℕ) (u : Bits) → WalkAt w s from ns u → FitsList width l (become from low drop lines ns)
-    → Putting w s low drop lines (become from low drop lines ns) l width k u before count old q now p
+    → PuttingList w s low drop lines (become from low drop lines ns) l width k u before count old q now p
 
--- how far it is: what is put is a front of all
-pub putting-place : {w : ℕ} {s : List ℕ} {low drop : ℕ} {lines : List ℕ} {l width : ℕ} {old : List ℕ} {q : ℕ} {new : List ℕ} {k : Walk} {u : Bits} {before count : ℕ} {now : List ℕ} {p : ℕ} → (m : Putting w s low drop lines new l width k u before count old q now p)
-    → (p + width * length (become k low drop lines (m .ms)) ≡ q + width * length new) × (length now ≡ length old)
-putting-place {low = low} {drop} {lines} {l} {width} {new = new} {k} {before = before} m =
-    let a = ap length (m .all) in
-    let b = length-append (m .done) (encAll (field badIndex width) (diffs before (become k low drop lines (m .ms)))) in
-    let c = codes-long badIndex width (diffs before (become k low drop lines (m .ms))) ∙ ap (λ (n : ℕ). n * width) (length-diffs before (become k low drop lines (m .ms))) in
-    let d = codes-long badIndex width (diffs l new) ∙ ap (λ (n : ℕ). n * width) (length-diffs l new) in
-    (omega (arith, a, b, c, d, m .puts .place, mul-comm width (length (become k low drop lines (m .ms))), mul-comm width (length new)), m .puts .same)
+module _ {w : ℕ} {s : List ℕ} {low drop : ℕ} {lines : List ℕ} {l width : ℕ} {old : List ℕ} {q : ℕ} where
+  pub putting-first : {from : Walk} → PuttingAll w s low drop lines l width from from l 0 old q old q
+  putting-first ns u h f = record { ms = ns; at = h; least = 0; falls = f .falls; small = f .diffs; counts = omega arith; bits = putting-none _ old q }
 
-module _ {w : ℕ} {s : List ℕ} {low drop : ℕ} {lines : List ℕ} {l width : ℕ} {from : Walk} {old : List ℕ} {q : ℕ} where
-  pub putting-first : PuttingAll w s low drop lines l width from from l 0 old q old q
-  putting-first ns u h f =
-      record { ms = ns; at = h; least = 0; falls = f .falls; small = f .diffs; counts = omega arith; done = []; puts = puts-none old q; all = refl }
-
-  module _ {k : Walk} {before count : ℕ} {now : List ℕ} {p : ℕ} {r : Step} (M : PuttingAll w s low drop lines l width from k before count old q now p) (S : Steps w s k low r) where
-    pub putting-gone : T (gone (listed lines) drop (r .line)) → PuttingAll w s low drop lines l width from (r .next) before count old q now p
-    putting-gone g ns u h f =
+  module _ {k : Walk} {before count : ℕ} {now : List ℕ} {p : ℕ} {r : Step} (S : Steps w s k low r) where
+    pub putting-gone : {from : Walk} → PuttingAll w s low drop lines l width from k before count old q now p → T (gone (listed lines) drop (r .line))
+        → PuttingAll w s low drop lines l width from (r .next) before count old q now p
+    putting-gone M g ns u h f =
         let m = M ns u h f in
         let t = S .is (m .ms) u (m .at) in
         let e = one-gone drop lines t g in
-        record { ms = t .lines; at = t .at; least = m .least; falls = rw e at (m .falls); small = rw e at (m .small); counts = rw e at (m .counts); done = m .done; puts = m .puts; all = rw e at (m .all) }
+        record { ms = t .lines; at = t .at; least = m .least; falls = rw e at (m .falls); small = rw e at (m .small); counts = rw e at (m .counts); bits = rw e at (m .bits) }
 
-    module _ (x : ℕ) (z : x ≡ r .line - below (listed lines) (r .line)) (g : T (not (gone (listed lines) drop (r .line)))) where
-      -- the line that stays is at most the one before, and their difference fits
-      pub put-fits : {new : List ℕ} {u : Bits} → (m : Putting w s low drop lines new l width k u before count old q now p) → (x ≤ before) × (before - x < 2 ^ width)
-      put-fits {u = u} m =
-          let t = S .is (m .ms) u (m .at) in
-          let e : become k low drop lines (m .ms) ≡ x ∷ become (r .next) low drop lines (t .lines) = rw z (one-stays drop lines t g) in
-          let F : Falls (m .least) before (x ∷ become (r .next) low drop lines (t .lines)) = rw e at (m .falls) in
-          let D : All (λ d. d < 2 ^ width) (diffs before (x ∷ become (r .next) low drop lines (t .lines))) = rw e at (m .small) in
+    -- the line that stays comes next
+    module _ (x : ℕ) (z : x ≡ r .line - below (listed lines) (r .line)) (g : T (not (gone (listed lines) drop (r .line)))) {new : List ℕ} {u : Bits}
+        (m : PuttingList w s low drop lines new l width k u before count old q now p) where
+      abbrev step : StepTo w s k low (m .ms) u r
+      step = S .is (m .ms) u (m .at)
+
+      abbrev more : List ℕ
+      more = become (r .next) low drop lines (step .lines)
+
+      is-next : become k low drop lines (m .ms) ≡ x ∷ more
+      is-next = rw z (one-stays drop lines step g)
+
+      next-bits : Putting (bitsOfNumber width (before - x) ++ diffBits width x more) (diffBits width l new) old q now p
+      next-bits = rw is-next at (m .bits)
+
+      -- it is at most the one before, their difference fits, and there is room for it
+      pub put-fits : (x ≤ before) × (before - x < 2 ^ width)
+      put-fits =
+          let F : Falls (m .least) before (x ∷ more) = rw is-next at (m .falls) in
+          let D : All (λ d. d < 2 ^ width) (diffs before (x ∷ more)) = rw is-next at (m .small) in
           (omega (arith, F .0), D .0)
 
-      pub put-room : {new : List ℕ} {u : Bits} → (m : Putting w s low drop lines new l width k u before count old q now p) → p + width ≤ q + width * length new
-      put-room {u = u} m =
-          let t = S .is (m .ms) u (m .at) in
-          let e : become k low drop lines (m .ms) ≡ x ∷ become (r .next) low drop lines (t .lines) = rw z (one-stays drop lines t g) in
-          let n : ℕ = length (become (r .next) low drop lines (t .lines)) in
-          let b : width * length (become k low drop lines (m .ms)) ≡ width * n + width = ap (λ (ys : List ℕ). width * length ys) e ∙ mul-suc width n in
-          omega (arith, putting-place m .0)
+      pub put-room : p + width ≤ q + length new * width
+      put-room = omega (arith, putting-within (bitsOfNumber width (before - x)) (diffBits width x more) next-bits, length-bits width (before - x), diff-long width l new)
 
-      pub putting-stays : {after : List ℕ} {a : ℕ} → PutMore now p (before - x) width after a → PuttingAll w s low drop lines l width from (r .next) x (count + 1) old q after a
-      putting-stays P ns u h f =
-          let m = M ns u h f in
-          let t = S .is (m .ms) u (m .at) in
-          let e : become k low drop lines (m .ms) ≡ x ∷ become (r .next) low drop lines (t .lines) = rw z (one-stays drop lines t g) in
-          let F : Falls (m .least) before (x ∷ become (r .next) low drop lines (t .lines)) = rw e at (m .falls) in
-          let D : All (λ d. d < 2 ^ width) (diffs before (x ∷ become (r .next) low drop lines (t .lines))) = rw e at (m .small) in
-          let C : count + length (x ∷ become (r .next) low drop lines (t .lines)) ≡ length (become from low drop lines ns) = rw e at (m .counts) in
-          let A : m .done ++ encAll (field badIndex width) (diffs before (x ∷ become (r .next) low drop lines (t .lines))) ≡ encAll (field badIndex width) (diffs l (become from low drop lines ns)) = rw e at (m .all) in
+      put-next : {after : List ℕ} {a : ℕ} → PutMore now p (before - x) width after a → PuttingList w s low drop lines new l width (r .next) u x (count + 1) old q after a
+      put-next P =
+          let F : Falls (m .least) before (x ∷ more) = rw is-next at (m .falls) in
+          let D : All (λ d. d < 2 ^ width) (diffs before (x ∷ more)) = rw is-next at (m .small) in
+          let C : count + length (x ∷ more) ≡ length new = rw is-next at (m .counts) in
           record {
-            ms = t .lines;
-            at = t .at;
+            ms = step .lines;
+            at = step .at;
             least = 1;
             falls = F .1;
             small = D .1;
             counts = omega (arith, C);
-            done = m .done ++ bitsOfNumber width (before - x);
-            puts = m .puts then puts-one P;
-            all = append-assoc (m .done) (bitsOfNumber width (before - x)) _ ∙ A;
+            bits = putting-more (bitsOfNumber width (before - x)) (diffBits width x more) next-bits (puts-one P);
           }
+
+    pub putting-stays : {from : Walk} → PuttingAll w s low drop lines l width from k before count old q now p → (x : ℕ) → x ≡ r .line - below (listed lines) (r .line)
+        → T (not (gone (listed lines) drop (r .line))) → {after : List ℕ} {a : ℕ} → PutMore now p (before - x) width after a
+        → PuttingAll w s low drop lines l width from (r .next) x (count + 1) old q after a
+    putting-stays M x z g P ns u h f = put-next x z g (M ns u h f) P
 
 -- all differences are put, and then the count into the bits kept free before them
 module _ {w : ℕ} {s : List ℕ} {low drop : ℕ} {lines : List ℕ} {l width : ℕ} {k : Walk} {before count : ℕ} {old : List ℕ} {q : ℕ} {now : List ℕ} {p : ℕ} (z : k .left + k .waiting ≤ 0) where
-  pub all-counted : {new : List ℕ} {u : Bits} → Putting w s low drop lines new l width k u before count old q now p → count ≡ length new
+  pub all-counted : {new : List ℕ} {u : Bits} → PuttingList w s low drop lines new l width k u before count old q now p → count ≡ length new
   all-counted m = omega (arith, rw (nothing-left k low drop lines (m .ms) (m .at) z) at (m .counts))
 
   pub put-all : {from : Walk} {lent after : List ℕ} {at : ℕ} → PutMore lent at 0 width old q → PuttingAll w s low drop lines l width from k before count old q now p
@@ -193,7 +194,7 @@ module _ {w : ℕ} {s : List ℕ} {low drop : ℕ} {lines : List ℕ} {l width :
         is = λ ns u h f.
             let m = M ns u h f in
             let n : List ℕ = become from low drop lines ns in
-            let a : m .done ≡ encAll (field badIndex width) (diffs l n) = sym (append-nil (m .done)) ∙ rw (nothing-left k low drop lines (m .ms) (m .at) z) at (m .all) in
+            let b : Putting [] (diffBits width l n) old q now p = rw (nothing-left k low drop lines (m .ms) (m .at) z) at (m .bits) in
             let c : count ≡ length n = all-counted m in
-            puts-as (sym (list-is width l n)) (puts-later width (encAll (field badIndex width) (diffs l n)) (puts-one P then puts-as a (m .puts)) (rw c at I));
+            puts-as (sym (list-is width l n)) (puts-later width (diffBits width l n) (puts-one P then putting-all b) (rw c at I));
       }

@@ -4,7 +4,7 @@ use Prim.Native.Nat.{ℕ, suc, _+_, _*_, _≤_, _<_, max}
 use native.Mathlib.Omega.{arith}
 use native.Mathlib.Numerals.{add-one}
 use mathlib.Core.Bool.{true, false}
-use mathlib.Core.List.{List, [], _∷_, _++_, append-assoc}
+use mathlib.Core.List.{List, _∷_, _++_, append-assoc}
 use lib.ListN.{length, drop}
 use lib.Dec.{eqb}
 use lib.Pow.{pow-mono}
@@ -25,6 +25,7 @@ use Rattle.locate.proofs.Laws.Lists.{list-is, list-bits}
 use Rattle.orders.specs.Survive.{elem}
 use Rattle.orders.specs.Least.{maxOf, numbersFrom}
 use Rattle.orders.specs.Listed.{listed}
+use Rattle.survivors.proofs.Laws.Going.{Going, Turn, turn, gone-on, stays-on, all-gone-over}
 use Rattle.relist.specs.Walk.{putIn, stayed, WalkAt}
 use Rattle.relist.specs.List.{become, Numbered}
 use Rattle.relist.specs.Lists.{waits, leaves, newList, newFrom, ListsAt, ListHere, EntryAt, ListsNumbered}
@@ -85,80 +86,24 @@ module _ (w : ℕ) (s : List ℕ) (l p : ℕ) (ns : List ℕ) (ls : List (List �
         within = list-there w s p l ns first-here;
       })
 
--- ---- the loop over the lines
+-- ---- line l's list, which comes next
 
-max-in : (a b c d : ℕ) → max (max a (max b c)) d ≡ max a (max b (max c d))
-max-in a b c d = omega arith
+abbrev pub Stand : ℕ → List ℕ → Bits → ℕ → ℕ → List (List ℕ) → Type 0
+Stand w s u l p ls = ListsAt w s l p ls u
 
--- of the lists all after the order: those of the lines from l on are still to come
-pub record Going (w : ℕ) (s rs : List ℕ) (ch : Change) (all : List (List ℕ)) (u : Bits) (lines l p lists entries most : ℕ) : Type 0 where
-  pub more : List (List ℕ)
-  pub at : ListsAt w s l p more u
-  pub left : l + length more ≡ lines
-  pub falls : Along up (Falls 0) lists (newFrom rs ch l more)
-  pub counts : lists + length (newFrom rs ch l more) ≡ length all
-  pub sums : entries + total length (newFrom rs ch l more) ≡ total length all
-  pub largest : max most (maxOf (numbersFrom lists (newFrom rs ch l more))) ≡ maxOf (numbersFrom 0 all)
+module _ {g : ℕ → List ℕ → List ℕ} {w : ℕ} {s rs : List ℕ} {lines : ℕ} {u : Bits} {Rest : List (List ℕ) → Type 0} {l p : ℕ} (t : Turn g rs lines (Stand w s u) Rest l p) where
+  abbrev pub next-behind : Bits
+  next-behind = rest w s l p (t .value) (t .others) (t .at)
 
-abbrev pub GoingAll : (w : ℕ) (s removal : List ℕ) (ch : Change) (lines l p lists entries most : ℕ) → Type 0
-GoingAll w s removal ch lines l p lists entries most =
-    (ls : List (List ℕ)) (u : Bits) → ListsAt w s 0 8 ls u → length ls ≡ lines → Along up (Falls 0) 0 (newFrom (listed removal) ch 0 ls)
-    → Going w s (listed removal) ch (newFrom (listed removal) ch 0 ls) u lines l p lists entries most
+  pub next-here : ListHere w s p l (t .value) next-behind
+  next-here = first-here w s l p (t .value) (t .others) (t .at)
 
--- line l's list, which comes next
-pub record Next (w : ℕ) (s rs : List ℕ) (ch : Change) (all : List (List ℕ)) (u : Bits) (lines l p lists entries most : ℕ) : Type 0 where
-  pub value : List ℕ
-  pub after : Bits
-  pub here : ListHere w s p l value after
-  -- its line is gone
-  pub gone : elem l rs ≡ true → Going w s rs ch all u lines (l + 1) (p + (w + length value * w)) lists entries most
-  -- or it stays
-  pub falls : elem l rs ≡ false → Falls 0 lists (newList rs ch l value)
-  pub stays : elem l rs ≡ false → {n m : ℕ} → n ≡ length (newList rs ch l value) → m ≡ maxOf (diffs lists (newList rs ch l value))
-      → Going w s rs ch all u lines (l + 1) (p + (w + length value * w)) (lists + 1) (entries + n) (max most (max n m))
+  module _ {waiting : ℕ} {e : Entry} (E : EntryAt w s p l waiting e) where
+    pub next-walk : WalkAt w s (e .walk) (t .value) next-behind
+    next-walk = E .is (t .value) next-behind next-here .0
 
-module _ {w : ℕ} {s rs : List ℕ} {ch : Change} {all : List (List ℕ)} {u : Bits} {lines l p lists entries most : ℕ} where
-  pub next-list : Going w s rs ch all u lines l p lists entries most → l < lines → Next w s rs ch all u lines l p lists entries most
-  next-list g k = go (g .more) (g .at) (g .left) (g .falls) (g .counts) (g .sums) (g .largest)
-    where
-      go : (ls : List (List ℕ)) → ListsAt w s l p ls u → l + length ls ≡ lines → Along up (Falls 0) lists (newFrom rs ch l ls)
-          → lists + length (newFrom rs ch l ls) ≡ length all → entries + total length (newFrom rs ch l ls) ≡ total length all
-          → max most (maxOf (numbersFrom lists (newFrom rs ch l ls))) ≡ maxOf (numbersFrom 0 all) → Next w s rs ch all u lines l p lists entries most
-      go [] a c f n t m = absurd (omega arith)
-      go (ns ∷ ls) a c f n t m =
-          let L : List (List ℕ) = newFrom rs ch (suc l) ls in
-          record {
-            value = ns;
-            after = _;
-            here = first-here w s l p ns ls a;
-            gone = λ e.
-                record {
-                  more = ls;
-                  at = others-at w s l p ns ls a;
-                  left = omega arith;
-                  falls = rw (add-one l) (rw e at f);
-                  counts = rw (add-one l) (rw e at n);
-                  sums = rw (add-one l) (rw e at t);
-                  largest = rw (add-one l) (rw e at m);
-                };
-            falls = λ e. let F : Along up (Falls 0) lists (newList rs ch l ns ∷ L) = rw e at f in F .0;
-            stays = λ e i j.
-                let F : Along up (Falls 0) lists (newList rs ch l ns ∷ L) = rw e at f in
-                let N : lists + length (newList rs ch l ns ∷ L) ≡ length all = rw e at n in
-                let T : entries + total length (newList rs ch l ns ∷ L) ≡ total length all = rw e at t in
-                let M : max most (maxOf (numbersFrom lists (newList rs ch l ns ∷ L))) ≡ maxOf (numbersFrom 0 all) = rw e at m in
-                record {
-                  more = ls;
-                  at = others-at w s l p ns ls a;
-                  left = omega arith;
-                  falls = rw (add-one l, add-one lists) (F .1);
-                  counts = rw (add-one l) (omega (arith, N));
-                  sums = rw (add-one l) (omega (arith, T, i));
-                  largest = rw (add-one l, add-one lists, i, j) (max-in most (length (newList rs ch l ns)) _ _ ∙ M);
-                };
-          }
-
--- ---- what the code has gone over, whatever lists the block has
+    pub next-at : ListsAt w s (l + 1) (e .next) (t .others) u
+    next-at = rw (E .is (t .value) next-behind next-here .1) (others-at w s l p (t .value) (t .others) (t .at))
 
 pub waits-le : (ch : Change) (l : ℕ) → waits ch l ≤ 1
 waits-le ch l =
@@ -169,46 +114,64 @@ pub same-list : (removal : List ℕ) (ch : Change) (l : ℕ) (k : Walk) {drop : 
     → become k (ch .low) drop removal ns ≡ newList (listed removal) ch l ns
 same-list removal ch l k ns e f = ap₂ (λ (n m : ℕ). stayed (listed removal) m (putIn n (ch .low) ns)) e f
 
+-- ---- measuring: of all lists after the order, those before are measured, and ys are still to come
+
+pub record Measured (all : List (List ℕ)) (lists entries most : ℕ) (ys : List (List ℕ)) : Type 0 where
+  pub falls : Along up (Falls 0) lists ys
+  pub counts : lists + length ys ≡ length all
+  pub sums : entries + total length ys ≡ total length all
+  pub largest : max most (maxOf (numbersFrom lists ys)) ≡ maxOf (numbersFrom 0 all)
+
+max-in : (a b c d : ℕ) → max (max a (max b c)) d ≡ max a (max b (max c d))
+max-in a b c d = omega arith
+
+measured-more : {all : List (List ℕ)} {lists entries most n m : ℕ} (y : List ℕ) (ys : List (List ℕ)) → Measured all lists entries most (y ∷ ys)
+    → n ≡ length y → m ≡ maxOf (diffs lists y) → Measured all (lists + 1) (entries + n) (max most (max n m)) ys
+measured-more {lists = lists} {most = most} y ys h i j =
+    record {
+      falls = rw (add-one lists) (h .falls .1);
+      counts = omega (arith, h .counts);
+      sums = omega (arith, h .sums, i);
+      largest = rw (add-one lists, i, j) (max-in most (length y) _ _ ∙ h .largest);
+    }
+
+-- line l's list comes next, at place p
+abbrev pub GoingAll : (w : ℕ) (s removal : List ℕ) (ch : Change) (lines l p lists entries most : ℕ) → Type 0
+GoingAll w s removal ch lines l p lists entries most =
+    (ls : List (List ℕ)) (u : Bits) → ListsAt w s 0 8 ls u → length ls ≡ lines → Along up (Falls 0) 0 (newFrom (listed removal) ch 0 ls)
+    → Going (newList (listed removal) ch) (listed removal) lines (Stand w s u) (Measured (newFrom (listed removal) ch 0 ls) lists entries most) l p
+
 module _ (w : ℕ) (s removal : List ℕ) (ch : Change) (lines : ℕ) where
   pub going-first : GoingAll w s removal ch lines 0 8 0 0 0
-  going-first ls u a c f = record { more = ls; at = a; left = omega arith; falls = f; counts = omega arith; sums = omega arith; largest = omega arith }
+  going-first ls u a c f =
+      record { more = ls; at = a; left = omega arith; rest = record { falls = f; counts = omega arith; sums = omega arith; largest = omega arith } }
 
   module _ {l p lists entries most waiting : ℕ} {e : Entry} (G : GoingAll w s removal ch lines l p lists entries most) (k : l < lines) (E : EntryAt w s p l waiting e) where
     pub going-gone : elem l (listed removal) ≡ true → GoingAll w s removal ch lines (l + 1) (e .next) lists entries most
-    going-gone z ls u a c f =
-        let x = next-list (G ls u a c f) k in
-        rw (E .is (x .value) (x .after) (x .here) .1) (x .gone z)
+    going-gone z ls u a c f = let t = turn (G ls u a c f) k in gone-on t z (next-at t E)
 
     module _ {drop : ℕ} (n : elem l (listed removal) ≡ false) (b : waiting ≡ waits ch l) (d : drop ≡ leaves ch l) where
       -- the list that stays, as the code asks for it
-      pub list-falls : {all : List (List ℕ)} {u : Bits} → (x : Next w s (listed removal) ch all u lines l p lists entries most)
-          → Falls 0 lists (become (e .walk) (ch .low) drop removal (x .value))
-      list-falls x = rw (same-list removal ch l (e .walk) (x .value) (E .waits ∙ b) d) (x .falls n)
+      pub list-falls : {all : List (List ℕ)} {u : Bits} → (t : Turn (newList (listed removal) ch) (listed removal) lines (Stand w s u) (Measured all lists entries most) l p)
+          → Falls 0 lists (become (e .walk) (ch .low) drop removal (t .value))
+      list-falls t = rw (same-list removal ch l (e .walk) (t .value) (E .waits ∙ b) d) (t .stays n .falls .0)
 
-      pub count-few : {all : List (List ℕ)} {u : Bits} {r : Numbers} → (x : Next w s (listed removal) ch all u lines l p lists entries most)
+      pub count-few : {all : List (List ℕ)} {u : Bits} {r : Numbers} → (t : Turn (newList (listed removal) ch) (listed removal) lines (Stand w s u) (Measured all lists entries most) l p)
           → Numbered w s (e .walk) (ch .low) drop removal lists r → r .count ≤ lists + 1
-      count-few x N =
-          let f = list-falls x in
-          let (y, v) = N .is (x .value) (x .after) (E .is (x .value) (x .after) (x .here) .0) f in
-          omega (arith, y, falls-count 0 lists (become (e .walk) (ch .low) drop removal (x .value)) (omega arith) f)
+      count-few t N =
+          let f = list-falls t in
+          let (y, v) = N .is (t .value) (next-behind t) (next-walk t E) f in
+          omega (arith, y, falls-count 0 lists (become (e .walk) (ch .low) drop removal (t .value)) (omega arith) f)
 
       pub going-stays : {r : Numbers} {bigger : ℕ} → Numbered w s (e .walk) (ch .low) drop removal lists r → bigger ≡ max most (max (r .count) (r .most))
           → GoingAll w s removal ch lines (l + 1) (e .next) (lists + 1) (entries + r .count) bigger
       going-stays N z ls u a c f =
-          let x = next-list (G ls u a c f) k in
-          let i = same-list removal ch l (e .walk) (x .value) (E .waits ∙ b) d in
-          let (o, q) = E .is (x .value) (x .after) (x .here) in
-          let (y, v) = N .is (x .value) (x .after) o (list-falls x) in
-          rw (q, z) (x .stays n (rw i at y) (rw i at v))
+          let t = turn (G ls u a c f) k in
+          let i = same-list removal ch l (e .walk) (t .value) (E .waits ∙ b) d in
+          let (y, v) = N .is (t .value) (next-behind t) (next-walk t E) (list-falls t) in
+          stays-on t (next-at t E) (rw z (measured-more (newList (listed removal) ch l (t .value)) (newFrom (listed removal) ch (l + 1) (t .others)) (t .stays n) (rw i at y) (rw i at v)))
 
   pub going-done : {l p lists entries most : ℕ} → GoingAll w s removal ch lines l p lists entries most → lines ≤ l
       → ListsNumbered w s lines ch removal (record { lists = lists; entries = entries; most = most })
-  going-done {l} {lists = lists} {entries} {most} G k =
-      record { is = λ ls u a c f. let g = G ls u a c f in end (newFrom (listed removal) ch 0 ls) (g .more) l k (g .left) (g .counts) (g .sums) (g .largest) }
-    where
-      end : (all ls : List (List ℕ)) (l : ℕ) → lines ≤ l → l + length ls ≡ lines → lists + length (newFrom (listed removal) ch l ls) ≡ length all
-          → entries + total length (newFrom (listed removal) ch l ls) ≡ total length all
-          → max most (maxOf (numbersFrom lists (newFrom (listed removal) ch l ls))) ≡ maxOf (numbersFrom 0 all)
-          → (lists ≡ length all) × (entries ≡ total length all) × (most ≡ maxOf (numbersFrom 0 all))
-      end all [] l k c n t m = (omega arith, omega arith, omega arith)
-      end all (ns ∷ ls) l k c n t m = absurd (omega arith)
+  going-done G k =
+      record { is = λ ls u a c f. let r = all-gone-over (G ls u a c f) k in (omega (arith, r .counts), omega (arith, r .sums), omega (arith, r .largest)) }

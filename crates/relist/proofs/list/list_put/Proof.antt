@@ -1,7 +1,6 @@
 -- Bits kept free, then line by line, then the count into them. The invariant holds of whatever lines the list has: the differences of
 -- those that stay are put, and counted.
 use native.Mathlib.Omega.{arith}
-use native.Mathlib.Nat.{mul-comm}
 use mathlib.Core.Path.{_≡_, refl, subst}
 use Prim.Native.Nat.{ℕ, _+_, _-_, _≤_}
 use mathlib.Core.Bool.{not}
@@ -15,7 +14,7 @@ use Rattle.survivors.specs.Rank.{below}
 use Rattle.relist.specs.Walk.{gone, Fares}
 use Rattle.relist.specs.List.{become}
 use Rattle.relist.specs.declared.walk.Fate.{Fate}
-use Rattle.relist.proofs.Laws.List.{Putting, PuttingAll, putting-first, putting-gone, put-fits, put-room, putting-stays, putting-place, all-counted, put-all}
+use Rattle.relist.proofs.Laws.List.{PuttingList, PuttingAll, putting-first, putting-gone, put-fits, put-room, putting-stays, all-counted, put-all}
 use borrow.Author.Needs.{needs}
 use Rattle.relist.proofs.list.list_put.Statement.{statement}
 use Rattle.relist.proofs.list.list_put.Tie as tie
@@ -31,7 +30,7 @@ abbrev μ-loop : tie.MeasureT-loop
 abbrev new : (c : tie.Start Inv-loop μ-loop) → List ℕ
 new c = become (c .args .from) (c .args .low) (c .args .drop) (c .args .lines .now) (c .pre .there .value)
 
-going : (c : tie.At-loop Inv-loop μ-loop) → Putting (c .before .before .before .before .before .before .before .before .args .w) (c .before .before .before .before .before .before .before .before .args .s .now) (c .before .before .before .before .before .before .before .before .args .low) (c .before .before .before .before .before .before .before .before .args .drop) (c .before .before .before .before .before .before .before .before .args .lines .now) (new (c .before .before .before .before .before .before .before .before)) (c .before .before .before .before .before .before .before .before .args .l) (c .before .before .before .before .before .before .before .before .args .width) (c .loop .k) (c .before .before .before .before .before .before .before .before .pre .there .behind) (c .loop .before) (c .loop .count) (c .before .before .before .put-bits .last .0) (c .before .before .before .put-bits .result) (c .loop .out) (c .loop .p)
+going : (c : tie.At-loop Inv-loop μ-loop) → PuttingList (c .before .before .before .before .before .before .before .before .args .w) (c .before .before .before .before .before .before .before .before .args .s .now) (c .before .before .before .before .before .before .before .before .args .low) (c .before .before .before .before .before .before .before .before .args .drop) (c .before .before .before .before .before .before .before .before .args .lines .now) (new (c .before .before .before .before .before .before .before .before)) (c .before .before .before .before .before .before .before .before .args .l) (c .before .before .before .before .before .before .before .before .args .width) (c .loop .k) (c .before .before .before .before .before .before .before .before .pre .there .behind) (c .loop .before) (c .loop .count) (c .before .before .before .put-bits .last .0) (c .before .before .before .put-bits .result) (c .loop .out) (c .loop .p)
 going c = let p = c .before .before .before .before .before .before .before .before .pre in c .loop .inv .2 (p .there .value) (p .there .behind) (p .there .at) (p .fits)
 
 fares : (c : tie.After-fate-of Inv-loop μ-loop) (r : Fate) → c .fate-of .result ≡ r → Fares (listed (c .before .before .before .before .before .before .before .before .before .before .before .before .before .args .lines .now)) (c .before .before .before .before .before .before .before .before .before .before .before .before .before .args .drop) (c .before .before .step-on .result .line) r
@@ -76,25 +75,24 @@ loop-less c =
 
 loop-again : tie.Need-loop-again Inv-loop μ-loop
 loop-again c =
-    (omega (arith, c .before .before .before .before .before .before .before .loop .inv .0, c .before .before .before .before .step-on .ensures .less), c .before .before .before .before .before .before .before .loop .inv .1, putting-gone (c .before .before .before .before .before .before .before .loop .inv .2) (c .before .before .before .before .step-on .ensures) (fares (c .before .before) _ (c .enum-told .given .1)))
+    (omega (arith, c .before .before .before .before .before .before .before .loop .inv .0, c .before .before .before .before .step-on .ensures .less), c .before .before .before .before .before .before .before .loop .inv .1, putting-gone (c .before .before .before .before .step-on .ensures) (c .before .before .before .before .before .before .before .loop .inv .2) (fares (c .before .before) _ (c .enum-told .given .1)))
 
 sub-put-bits : tie.Need-sub-put-bits Inv-loop μ-loop
 sub-put-bits c =
-    omega (arith, put-fits (c .before .before .before .before .before .before .before .before .before .loop .inv .2) (c .before .before .before .before .before .before .step-on .ensures) (c .before .before .line .given .0 .0) (stays (c .before .before) .1) (stays (c .before .before) .0) (going (c .before .before .before .before .before .before .before .before .before)) .0)
+    omega (arith, put-fits (c .before .before .before .before .before .before .step-on .ensures) (c .before .before .line .given .0 .0) (stays (c .before .before) .1) (stays (c .before .before) .0) (going (c .before .before .before .before .before .before .before .before .before)) .0)
 
 put-bits-requires-2 : tie.Need-put-bits-requires-2 Inv-loop μ-loop
 put-bits-requires-2 c κs =
     let p = c .before .before .before .before .before .before .before .before .before .before .before .before .before .before .before .before .before .pre in
     let m = going (c .before .before .before .before .before .before .before .before .before) in
     let b = list-bits (c .before .before .before .before .before .before .before .before .before .before .before .before .before .before .before .before .before .args .width) (c .before .before .before .before .before .before .before .before .before .before .before .before .before .before .before .before .before .args .l) (new (c .before .before .before .before .before .before .before .before .before .before .before .before .before .before .before .before .before)) in
-    let z = mul-comm (c .before .before .before .before .before .before .before .before .before .before .before .before .before .before .before .before .before .args .width) (length (new (c .before .before .before .before .before .before .before .before .before .before .before .before .before .before .before .before .before))) in
-    let r = put-room (c .before .before .before .before .before .before .before .before .before .loop .inv .2) (c .before .before .before .before .before .before .step-on .ensures) (c .before .before .line .given .0 .0) (stays (c .before .before) .1) (stays (c .before .before) .0) m in
+    let r = put-room (c .before .before .before .before .before .before .step-on .ensures) (c .before .before .line .given .0 .0) (stays (c .before .before) .1) (stays (c .before .before) .0) m in
     let first = c .before .before .before .before .before .before .before .before .before .before .before .before .put-bits .ensures in
     record {
-      below = put-fits (c .before .before .before .before .before .before .before .before .before .loop .inv .2) (c .before .before .before .before .before .before .step-on .ensures) (c .before .before .line .given .0 .0) (stays (c .before .before) .1) (stays (c .before .before) .0) m .1;
+      below = put-fits (c .before .before .before .before .before .before .step-on .ensures) (c .before .before .line .given .0 .0) (stays (c .before .before) .1) (stays (c .before .before) .0) m .1;
       narrow = p .narrow;
-      room = omega (arith, r, z, b, first .place, first .same, putting-place m .1, p .room .room);
-      near = omega (arith, r, z, b, first .place, p .room .near);
+      room = omega (arith, r, b, first .place, first .same, c .before .before .before .before .before .before .before .before .before .loop .inv .1, p .room .room);
+      near = omega (arith, r, b, first .place, p .room .near);
     }
 
 add-count : tie.Need-add-count Inv-loop μ-loop
@@ -107,7 +105,7 @@ loop-less-2 c =
 
 loop-again-2 : tie.Need-loop-again-2 Inv-loop μ-loop
 loop-again-2 c =
-    (omega (arith, c .before .before .before .before .before .before .before .before .before .before .before .before .loop .inv .0, c .before .before .before .before .before .before .before .before .before .step-on .ensures .less), search needs, putting-stays (c .before .before .before .before .before .before .before .before .before .before .before .before .loop .inv .2) (c .before .before .before .before .before .before .before .before .before .step-on .ensures) (c .before .before .before .before .before .line .given .0 .0) (stays (c .before .before .before .before .before) .1) (stays (c .before .before .before .before .before) .0) (c .before .before .put-bits2 .ensures))
+    (omega (arith, c .before .before .before .before .before .before .before .before .before .before .before .before .loop .inv .0, c .before .before .before .before .before .before .before .before .before .step-on .ensures .less), search needs, putting-stays (c .before .before .before .before .before .before .before .before .before .step-on .ensures) (c .before .before .before .before .before .before .before .before .before .before .before .before .loop .inv .2) (c .before .before .before .before .before .line .given .0 .0) (stays (c .before .before .before .before .before) .1) (stays (c .before .before .before .before .before) .0) (c .before .before .put-bits2 .ensures))
 
 put-into-requires : tie.Need-put-into-requires Inv-loop μ-loop
 put-into-requires c κs =

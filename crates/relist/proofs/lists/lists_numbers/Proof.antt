@@ -5,8 +5,9 @@ use Prim.Native.Nat.{_+_, _-_, _*_, _≤_, max}
 use mathlib.Core.Bool.{false}
 use Rattle.orders.specs.Survive.{elem}
 use Rattle.orders.specs.Listed.{listed}
-use Rattle.relist.specs.Lists.{newFrom}
-use Rattle.relist.proofs.Laws.Lists.{GoingAll, Next, next-list, waits-le, going-first, going-gone, list-falls, count-few, going-stays, going-done}
+use Rattle.survivors.proofs.Laws.Going.{Turn, turn}
+use Rattle.relist.specs.Lists.{newList, newFrom}
+use Rattle.relist.proofs.Laws.Lists.{Stand, next-behind, next-here, next-walk, Measured, GoingAll, waits-le, going-first, going-gone, list-falls, count-few, going-stays, going-done}
 use borrow.Author.Needs.{needs}
 use Rattle.relist.proofs.lists.lists_numbers.Statement.{statement}
 use Rattle.relist.proofs.lists.lists_numbers.Tie as tie
@@ -19,8 +20,8 @@ abbrev μ-loop : tie.MeasureT-loop
 μ-loop s w lines change removal p₀ l₀ lists₀ entries₀ most₀ p l lists entries most =
     lines - l
 
-next : (c : tie.In-loop Inv-loop μ-loop) → Next (c .before .before .before .before .args .w) (c .before .before .before .before .args .s .now) (listed (c .before .before .before .before .args .removal .now)) (c .before .before .before .before .args .change) (newFrom (listed (c .before .before .before .before .args .removal .now)) (c .before .before .before .before .args .change) 0 (c .before .before .before .before .pre .value)) (c .before .before .before .before .pre .behind) (c .before .before .before .before .args .lines) (c .before .loop .l) (c .before .loop .p) (c .before .loop .lists) (c .before .loop .entries) (c .before .loop .most)
-next c = let p = c .before .before .before .before .pre in next-list (c .before .loop .inv .2 (p .value) (p .behind) (p .at) (p .count) (p .falls)) (c .loop-test .taken)
+next : (c : tie.In-loop Inv-loop μ-loop) → Turn (newList (listed (c .before .before .before .before .args .removal .now)) (c .before .before .before .before .args .change)) (listed (c .before .before .before .before .args .removal .now)) (c .before .before .before .before .args .lines) (Stand (c .before .before .before .before .args .w) (c .before .before .before .before .args .s .now) (c .before .before .before .before .pre .behind)) (Measured (newFrom (listed (c .before .before .before .before .args .removal .now)) (c .before .before .before .before .args .change) 0 (c .before .before .before .before .pre .value)) (c .before .loop .lists) (c .before .loop .entries) (c .before .loop .most)) (c .before .loop .l) (c .before .loop .p)
+next c = let p = c .before .before .before .before .pre in turn (c .before .loop .inv .2 (p .value) (p .behind) (p .at) (p .count) (p .falls)) (c .loop-test .taken)
 
 kept : (c : tie.Else1 Inv-loop μ-loop) → elem (c .before .before .before .before .before .before .loop .l) (listed (c .before .before .before .before .before .before .before .before .before .args .removal .now)) ≡ false
 kept c = sym (c .before .rank-of .ensures .gone) ∙ c .if1 .left
@@ -42,7 +43,7 @@ list-at-requires : tie.Need-list-at-requires Inv-loop μ-loop
 list-at-requires c κs =
     let p = c .before .before .before .before .before .before .pre in
     let x = next (c .before .before) in
-    record { narrow = p .narrow; short = p .short; one = omega (arith, c .before .waiting-at .ensures, waits-le (c .before .before .before .before .before .before .args .change) (c .before .before .before .loop .l)); value = x .value; behind = x .after; here = x .here }
+    record { narrow = p .narrow; short = p .short; one = omega (arith, c .before .waiting-at .ensures, waits-le (c .before .before .before .before .before .before .args .change) (c .before .before .before .loop .l)); value = x .value; behind = next-behind x; here = next-here x }
 
 rank-of-requires : tie.Need-rank-of-requires Inv-loop μ-loop
 rank-of-requires c κs =
@@ -71,8 +72,8 @@ list-numbers-requires c κs =
       rising = p .rising;
       few = E .few;
       value = x .value;
-      behind = x .after;
-      at = E .is (x .value) (x .after) (x .here) .0;
+      behind = next-behind x;
+      at = next-walk x E;
       falls = list-falls (c .before .before .before .before .before .before .before .before .before .args .w) (c .before .before .before .before .before .before .before .before .before .args .s .now) (c .before .before .before .before .before .before .before .before .before .args .removal .now) (c .before .before .before .before .before .before .before .before .before .args .change) (c .before .before .before .before .before .before .before .before .before .args .lines) (c .before .before .before .before .before .before .loop .inv .2) (c .before .before .before .before .before .loop-test .taken) E (kept (c)) (c .before .before .before .before .waiting-at .ensures) (c .before .before .before .left-out-at .ensures) x;
     }
 

@@ -6,9 +6,10 @@ use mathlib.Core.Bool.{false}
 use lib.ListN.{length}
 use Rattle.orders.specs.Survive.{elem}
 use Rattle.orders.specs.Listed.{listed}
-use Rattle.relist.specs.Lists.{newFrom}
-use Rattle.relist.proofs.Laws.Lists.{waits-le}
-use Rattle.relist.proofs.Laws.ListsPut.{PutAll, NextPut, next-put, put-first, put-gone, put-walk, put-list-fits, put-list-room, put-stays, put-done}
+use Rattle.survivors.proofs.Laws.Going.{Turn, turn}
+use Rattle.relist.specs.Lists.{newList, newFrom}
+use Rattle.relist.proofs.Laws.Lists.{Stand, next-behind, next-here, next-walk, waits-le}
+use Rattle.relist.proofs.Laws.ListsPut.{ToPut, PutAll, put-first, put-gone, put-list-fits, put-list-room, put-stays, put-done}
 use borrow.Author.Needs.{needs}
 use Rattle.relist.proofs.lists.lists_put.Statement.{statement}
 use Rattle.relist.proofs.lists.lists_put.Tie as tie
@@ -21,8 +22,8 @@ abbrev μ-loop : tie.MeasureT-loop
 μ-loop out₀ at s w lines change removal width q₀ p₀ l₀ lists₀ out q p l lists =
     lines - l
 
-next : (c : tie.In-loop Inv-loop μ-loop) → NextPut (c .before .before .before .before .before .args .w) (c .before .before .before .before .before .args .s .now) (listed (c .before .before .before .before .before .args .removal .now)) (c .before .before .before .before .before .args .change) (c .before .before .before .before .before .args .width) (newFrom (listed (c .before .before .before .before .before .args .removal .now)) (c .before .before .before .before .before .args .change) 0 (c .before .before .before .before .before .pre .there .value)) (c .before .before .before .before .before .pre .there .behind) (c .before .before .before .before .before .args .lines) (c .before .loop .l) (c .before .loop .p) (c .before .loop .lists) (c .before .before .before .before .before .args .out .now) (c .before .before .before .before .before .args .at) (c .before .loop .out) (c .before .loop .q)
-next c = let p = c .before .before .before .before .before .pre in next-put (c .before .loop .inv .2 (p .there .value) (p .there .behind) (p .there .at) (p .there .count) (p .fits)) (c .loop-test .taken)
+next : (c : tie.In-loop Inv-loop μ-loop) → Turn (newList (listed (c .before .before .before .before .before .args .removal .now)) (c .before .before .before .before .before .args .change)) (listed (c .before .before .before .before .before .args .removal .now)) (c .before .before .before .before .before .args .lines) (Stand (c .before .before .before .before .before .args .w) (c .before .before .before .before .before .args .s .now) (c .before .before .before .before .before .pre .there .behind)) (ToPut (c .before .before .before .before .before .args .width) (newFrom (listed (c .before .before .before .before .before .args .removal .now)) (c .before .before .before .before .before .args .change) 0 (c .before .before .before .before .before .pre .there .value)) (c .before .loop .lists) (c .before .before .before .before .before .args .out .now) (c .before .before .before .before .before .args .at) (c .before .loop .out) (c .before .loop .q)) (c .before .loop .l) (c .before .loop .p)
+next c = let p = c .before .before .before .before .before .pre in turn (c .before .loop .inv .2 (p .there .value) (p .there .behind) (p .there .at) (p .there .count) (p .fits)) (c .loop-test .taken)
 
 kept : (c : tie.Else1 Inv-loop μ-loop) → elem (c .before .before .before .before .before .before .loop .l) (listed (c .before .before .before .before .before .before .before .before .before .before .args .removal .now)) ≡ false
 kept c = sym (c .before .rank-of .ensures .gone) ∙ c .if1 .left
@@ -41,7 +42,7 @@ list-at-requires : tie.Need-list-at-requires Inv-loop μ-loop
 list-at-requires c κs =
     let p = c .before .before .before .before .before .before .before .pre .there in
     let x = next (c .before .before) in
-    record { narrow = p .narrow; short = p .short; one = omega (arith, c .before .waiting-at .ensures, waits-le (c .before .before .before .before .before .before .before .args .change) (c .before .before .before .loop .l)); value = x .value; behind = x .after; here = x .here }
+    record { narrow = p .narrow; short = p .short; one = omega (arith, c .before .waiting-at .ensures, waits-le (c .before .before .before .before .before .before .before .args .change) (c .before .before .before .loop .l)); value = x .value; behind = next-behind x; here = next-here x }
 
 rank-of-requires : tie.Need-rank-of-requires Inv-loop μ-loop
 rank-of-requires c κs =
@@ -71,13 +72,13 @@ list-put-requires c κs =
         rising = p .there .rising;
         few = E .few;
         value = x .value;
-        behind = x .after;
-        at = put-walk (c .before .before .before .before .before .before .before .before .before .before .before .args .w) (c .before .before .before .before .before .before .before .before .before .before .before .args .s .now) (c .before .before .before .before .before .before .before .before .before .before .before .args .removal .now) (c .before .before .before .before .before .before .before .before .before .before .before .args .change) (c .before .before .before .before .before .before .before .before .before .before .before .args .width) (c .before .before .before .before .before .before .before .before .before .before .before .args .lines) (c .before .before .before .before .before .before .before .loop .inv .2) (c .before .before .before .before .before .before .loop-test .taken) (c .before .before .before .list-at .ensures) (kept (c .before)) (c .before .before .before .before .before .waiting-at .ensures) (c .before .before .before .before .left-out-at .ensures) x;
+        behind = next-behind x;
+        at = next-walk x E;
         falls = put-list-fits (c .before .before .before .before .before .before .before .before .before .before .before .args .w) (c .before .before .before .before .before .before .before .before .before .before .before .args .s .now) (c .before .before .before .before .before .before .before .before .before .before .before .args .removal .now) (c .before .before .before .before .before .before .before .before .before .before .before .args .change) (c .before .before .before .before .before .before .before .before .before .before .before .args .width) (c .before .before .before .before .before .before .before .before .before .before .before .args .lines) (c .before .before .before .before .before .before .before .loop .inv .2) (c .before .before .before .before .before .before .loop-test .taken) (c .before .before .before .list-at .ensures) (kept (c .before)) (c .before .before .before .before .before .waiting-at .ensures) (c .before .before .before .before .left-out-at .ensures) x .falls;
       };
       narrow = p .narrow;
       fits = put-list-fits (c .before .before .before .before .before .before .before .before .before .before .before .args .w) (c .before .before .before .before .before .before .before .before .before .before .before .args .s .now) (c .before .before .before .before .before .before .before .before .before .before .before .args .removal .now) (c .before .before .before .before .before .before .before .before .before .before .before .args .change) (c .before .before .before .before .before .before .before .before .before .before .before .args .width) (c .before .before .before .before .before .before .before .before .before .before .before .args .lines) (c .before .before .before .before .before .before .before .loop .inv .2) (c .before .before .before .before .before .before .loop-test .taken) (c .before .before .before .list-at .ensures) (kept (c .before)) (c .before .before .before .before .before .waiting-at .ensures) (c .before .before .before .before .left-out-at .ensures) x;
-      room = put-list-room (c .before .before .before .before .before .before .before .before .before .before .before .args .w) (c .before .before .before .before .before .before .before .before .before .before .before .args .s .now) (c .before .before .before .before .before .before .before .before .before .before .before .args .removal .now) (c .before .before .before .before .before .before .before .before .before .before .before .args .change) (c .before .before .before .before .before .before .before .before .before .before .before .args .width) (c .before .before .before .before .before .before .before .before .before .before .before .args .lines) (c .before .before .before .before .before .before .before .loop .inv .2) (c .before .before .before .before .before .before .loop-test .taken) (c .before .before .before .list-at .ensures) (kept (c .before)) (c .before .before .before .before .before .waiting-at .ensures) (c .before .before .before .before .left-out-at .ensures) x (p .room) (sym (c .before .before .before .before .before .before .before .loop .inv .1));
+      room = put-list-room (c .before .before .before .before .before .before .before .before .before .before .before .args .w) (c .before .before .before .before .before .before .before .before .before .before .before .args .s .now) (c .before .before .before .before .before .before .before .before .before .before .before .args .removal .now) (c .before .before .before .before .before .before .before .before .before .before .before .args .change) (c .before .before .before .before .before .before .before .before .before .before .before .args .width) (c .before .before .before .before .before .before .before .before .before .before .before .args .lines) (c .before .before .before .before .before .before .before .loop .inv .2) (c .before .before .before .before .before .before .loop-test .taken) (c .before .before .before .list-at .ensures) (kept (c .before)) (c .before .before .before .before .before .waiting-at .ensures) (c .before .before .before .before .left-out-at .ensures) x (p .room);
     }
 
 add-lists : tie.Need-add-lists Inv-loop μ-loop
