@@ -10,7 +10,7 @@ from pathlib import Path
 sys.dont_write_bytecode = True
 sys.path.insert(0, str(Path(__file__).resolve().parent))
 
-from proofloop import answers, names, said, skeleton, tidy
+from proofloop import alike, answers, names, said, skeleton, tidy
 from proofloop.places import Places
 from proofloop.tree import Stop, Tree
 
@@ -242,6 +242,22 @@ class WhatIsNotUsed(unittest.TestCase):
             tree.write(tree.answers("a", "g"), "## g\n")
             found = {path.name: text for path, text, _ in tidy.crate(tree, "a")}
         self.assertEqual(found, {"Proof.antt": "f = b\n", "g.ans": None, "m.f.ans": "## f\nb\n"})
+
+
+class LawsThatEndAlike(unittest.TestCase):
+    def test_end(self):
+        self.assertEqual(alike.end("{A : Type 0} (n : ℕ) → f (a → b) n ≡ 0 → (m : ℕ) → g n ≤ m"), "g n ≤ m")
+        self.assertEqual(alike.end("(n : ℕ) g n ≤ 0"), "g n ≤ 0")
+
+    def test_laws(self):
+        text = ("pub record R (n : ℕ) : Type 0 where\n  pub is : n ≡ 0\n\nabbrev d : ℕ\nd = 0\n\n"
+                "module _ (n : ℕ) where\n  pub a : n ≤ d\n      → d ≤ n\n  unfolding d\n  a = x\n\n-- c : e\nb : d ≡ d\nb = refl\n")
+        self.assertEqual(list(alike.laws(text)), [(8, "a", "module _ (n : ℕ)", "n ≤ d → d ≤ n"), (14, "b", "", "d ≡ d")])
+
+    def test_found(self):
+        one, other = "a : (n m : ℕ) → n < m → length n ≤ size m\n", "module _ {k : ℕ} where\n  b : (i : ℕ) → length k ≤ size i\n"
+        self.assertEqual(alike.found([("F", one), ("G", other)]), [("length x0 ≤ size x1", [("F", 1, "a"), ("G", 2, "b")])])
+        self.assertEqual(alike.found([("F", one + "c : (n m : ℕ) → length n ≤ size m\n"), ("G", "b : (i : ℕ) → length i ≤ size i\n")]), [])
 
 
 if __name__ == "__main__":

@@ -131,20 +131,6 @@ trail-length half k high heading (code ∷ codes) = rw (length-append, trail-len
     go true x = refl
     go false x = refl
 
--- ---- what is laid of it
-
--- one number more, stored behind those that are laid
-pub laid-one : {d done xs : List ℕ} {a : ℕ} (x : ℕ) → Laid done d xs a → a < length xs → Laid (done ++ x ∷ []) d (set xs a x) (a + 1)
-laid-one {d} {done} {xs} {a} x h l =
-    let e1 : take a xs ≡ done = ap (take a) (h .is) ∙ take-at done (drop (length done) d) a (sym (h .count)) in
-    let e2 : drop (suc a) xs ≡ drop (length done + 1) d =
-    ap (λ (j : ℕ). drop j xs) (sym (add-one a)) ∙ sym (drop-drop 1 a xs)
-    ∙ ap (drop 1) (ap (drop a) (h .is) ∙ drop-at done (drop (length done) d) a (sym (h .count))) ∙ drop-drop 1 (length done) d in
-    record {
-      count = simp length-append (omega (arith, h .count));
-      is = set-split xs a x l ∙ rw (e1, e2) (simp (append-assoc, length-append));
-    }
-
 -- ---- a loop that draws
 
 -- Where a writer stands: the numbers drawn so far are laid as `form` has them, and the walk goes on.

@@ -1,12 +1,12 @@
 -- The laws of what is laid: bytes one by one, and blocks one behind the other.
 use mathlib.Core.Path.{_≡_, refl, sym, ap, _∙_}
 use mathlib.Core.List.{List, [], _∷_, _++_, append-assoc, append-nil}
-use Prim.Native.Nat.{ℕ, _+_, _-_, _*_, _≤_, _<_}
+use Prim.Native.Nat.{ℕ, suc, _+_, _-_, _*_, _≤_, _<_}
 use native.Mathlib.Nat.{zero-add}
 use native.Mathlib.Numerals.{add-one}
 use native.Mathlib.Omega.{arith}
 use lib.ListN.{length, take, drop, getD, set, length-append, length-drop, drop-of-length-le}
-use lib.Seq.{paste-suc, sets, sets-eq, take-at, drop-at, drop-drop, take-all}
+use lib.Seq.{set-split, paste-suc, sets, sets-eq, take-at, drop-at, drop-drop, take-all}
 use Rattle.lay.specs.Laid.{Laid}
 use Rattle.lay.specs.HighFirst.{two, joined}
 
@@ -24,6 +24,18 @@ stored d us vs h e = sets-eq vs d 0 (omega arith) ∙ rw e (ap (λ (n : ℕ). us
 -- nothing laid
 pub laid-none : (d : List ℕ) → Laid [] d d 0
 laid-none d = record { count = refl; is = refl }
+
+-- one number more, stored behind those that are laid
+pub laid-one : {d done xs : List ℕ} {a : ℕ} (x : ℕ) → Laid done d xs a → a < length xs → Laid (done ++ x ∷ []) d (set xs a x) (a + 1)
+laid-one {d} {done} {xs} {a} x h l =
+    let e1 : take a xs ≡ done = ap (take a) (h .is) ∙ take-at done (drop (length done) d) a (sym (h .count)) in
+    let e2 : drop (suc a) xs ≡ drop (length done + 1) d =
+    ap (λ (j : ℕ). drop j xs) (sym (add-one a)) ∙ sym (drop-drop 1 a xs)
+    ∙ ap (drop 1) (ap (drop a) (h .is) ∙ drop-at done (drop (length done) d) a (sym (h .count))) ∙ drop-drop 1 (length done) d in
+    record {
+      count = simp length-append (omega (arith, h .count));
+      is = set-split xs a x l ∙ rw (e1, e2) (simp (append-assoc, length-append));
+    }
 
 -- a buffer keeps its length
 pub laid-same : {new d xs : List ℕ} {a : ℕ} → Laid new d xs a → a ≤ length d → length xs ≡ length d

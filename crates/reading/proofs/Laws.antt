@@ -13,7 +13,8 @@ use Rattle.format.proofs.Laws.Record.{read-is}
 use Rattle.format.specs.declared.Header.{Header}
 use Rattle.judge.specs.Judge.{Judges}
 use Rattle.judge.specs.declared.Verdict.the-variants.{Accepted, Refused}
-use Rattle.judge.proofs.Laws.Calls.{call-refused, call-is, record-read}
+use Rattle.format.proofs.Laws.Call.{on-record}
+use Rattle.judge.proofs.Laws.Calls.{call-refused, record-read}
 use Rattle.sheet.specs.Sheet.{sheetOf, reading}
 use Rattle.to_sheet.specs.Bytes.{recordBytes}
 use Rattle.to_sheet.specs.SheetOuts.{SheetThere, SheetOut}
@@ -27,7 +28,7 @@ module _ (s before : List ℕ) where
 
   gives : (r : Record) → read s ≡ got r [] → reading s ≡ given (recordBytes r)
   unfolding reading
-  gives r e = call-is (λ x. given (sheetOf x)) s r e ∙ ap given (rendered r (read-is s r [] e .0))
+  gives r e = on-record (λ x. given (sheetOf x)) s r [] e ∙ ap given (rendered r (read-is s r [] e .0))
 
   module _ {h : Header} {n z : ℕ} (j : Judges s (Accepted h n z)) where
     pub no-room : length before < z → Answers (reading s) before before (record { number = noRoom; place = 0; length = 0 })

@@ -25,7 +25,8 @@ use Rattle.format.specs.declared.Scale.{Scale}
 use Rattle.format.specs.declared.Header.{Header}
 use Rattle.judge.specs.Judge.{Judges}
 use Rattle.judge.specs.declared.Verdict.the-variants.{Refused}
-use Rattle.judge.proofs.Laws.Calls.{call-refused, call-is}
+use Rattle.format.proofs.Laws.Call.{on-record}
+use Rattle.judge.proofs.Laws.Calls.{call-refused}
 use Rattle.trail.specs.Trail.{firstHeading, follow, trail, trailIn, trailing}
 use Rattle.trail.proofs.Laws.{first-small}
 use Rattle.follow.specs.Walk.{CodesThere, OfCodes, drawn, CanDraw}
@@ -89,19 +90,19 @@ refused-is view line {s} {p = p} j = (p, call-refused (trailIn view line) s j)
 module _ (view line : ℕ) (s : List ℕ) {r : Record} (e : read s ≡ got r []) where
   pub no-view : length (r .views) ≤ view → trailing view line s ≡ refused noView 0
   unfolding trailing
-  no-view l = call-is (trailIn view line) s r e ∙ pick-no (ltb view (length (r .views))) _ _ (no-ltb {a = view} l)
+  no-view l = on-record (trailIn view line) s r [] e ∙ pick-no (ltb view (length (r .views))) _ _ (no-ltb {a = view} l)
 
   module _ (l : view < length (r .views)) where
     pub no-line : count (viewAt r view) ≤ line → trailing view line s ≡ refused badLines 0
     unfolding trailing
     no-line k =
-        call-is (trailIn view line) s r e ∙ pick-yes (ltb view (length (r .views))) _ _ (yes-ltb {a = view} l)
+        on-record (trailIn view line) s r [] e ∙ pick-yes (ltb view (length (r .views))) _ _ (yes-ltb {a = view} l)
         ∙ pick-no (ltb line (count (viewAt r view))) _ _ (no-ltb {a = line} k)
 
     pub has-line : line < count (viewAt r view) → trailing view line s ≡ given (trail (r .head .scale) (lineAt (viewAt r view) line))
     unfolding trailing
     has-line k =
-        call-is (trailIn view line) s r e ∙ pick-yes (ltb view (length (r .views))) _ _ (yes-ltb {a = view} l)
+        on-record (trailIn view line) s r [] e ∙ pick-yes (ltb view (length (r .views))) _ _ (yes-ltb {a = view} l)
         ∙ pick-yes (ltb line (count (viewAt r view))) _ _ (yes-ltb {a = line} k)
 
 -- ---- what code answers, in whatever form the elements stand, each in so many places

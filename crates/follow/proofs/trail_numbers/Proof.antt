@@ -7,7 +7,8 @@ use native.Mathlib.Omega.{arith}
 use lib.ListN.{length, length-set}
 use Rattle.bits.proofs.Laws.Reads.{below}
 use Rattle.outcome.specs.Refusals.{badLine}
-use Rattle.follow.proofs.Laws.{element-small, code-there, laid-one, Drawing, drawing-start, room-left, drawing-next, drawing-end}
+use Rattle.lay.proofs.Laws.{laid-one}
+use Rattle.follow.proofs.Laws.{element-small, code-there, Drawing, drawing-start, room-left, drawing-next, drawing-end}
 use borrow.Author.Needs.{needs}
 use Rattle.follow.proofs.trail_numbers.Statement.{statement}
 use Rattle.follow.proofs.trail_numbers.Tie as tie

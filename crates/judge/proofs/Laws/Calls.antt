@@ -20,10 +20,6 @@ module _ {A : Type 0} (f : Record → Outcome A) (s : List ℕ) where
   unfolding onRecord
   call-refused {e} {p} j = ap (fromRead (8 * length s) f) (kept-refused summary (read s) (j .is)) ∙ ap (refused e) (omega (arith, j .within))
 
-  pub call-is : (r : Record) → read s ≡ got r [] → onRecord f s ≡ f r
-  unfolding onRecord
-  call-is r e = ap (fromRead (8 * length s) f) e
-
 -- the accepted record
 pub record-read : {P : Type 0} {s : List ℕ} {h : Header} {n z : ℕ} → Judges s (Accepted h n z)
     → ((r : Record) → read s ≡ got r [] → h ≡ r .head → n ≡ length (r .views) → z ≡ sheetSize r → P) → P

@@ -24,7 +24,8 @@ use Rattle.format.specs.Places.{noSegmentThere, viewAt, segmentAt, bitsBefore, 
 use Rattle.format.specs.declared.Header.{Header}
 use Rattle.judge.specs.Judge.{Judges}
 use Rattle.judge.specs.declared.Verdict.the-variants.{Accepted, Refused}
-use Rattle.judge.proofs.Laws.Calls.{call-refused, call-is, record-read}
+use Rattle.format.proofs.Laws.Call.{on-record}
+use Rattle.judge.proofs.Laws.Calls.{call-refused, record-read}
 use Rattle.locate.specs.Stands.{BlockAt, ViewIn}
 use Rattle.locate.specs.Finds.{ViewThere, BlocksThere, BlocksFound, SegmentsThere, SegmentsLeft, SegmentsPassed}
 use Rattle.locate.specs.declared.view.Blocks.{Blocks}
@@ -41,7 +42,7 @@ use Rattle.lookup.specs.declared.segment.Found.the-variants as f
 module _ (s : List ℕ) {r : Record} (e : read s ≡ got r []) (view place : ℕ) where
   outcome-is : payload view place s ≡ payloadIn view place r
   unfolding payload
-  outcome-is = call-is (payloadIn view place) s r e
+  outcome-is = on-record (payloadIn view place) s r [] e
 
   no-view : length (r .views) ≤ view → payload view place s ≡ refused noView 0
   no-view l = outcome-is ∙ pick-no (ltb view (length (r .views))) _ _ (no-ltb {a = view} l)

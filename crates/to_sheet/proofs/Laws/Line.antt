@@ -18,7 +18,7 @@ use Rattle.bits.specs.Reads.{found, Reads}
 use Rattle.bits.proofs.Laws.Reads.{go-on, made, at-place, below, up-to}
 use Rattle.outcome.specs.Refusals.{badLine}
 use Rattle.lay.specs.Laid.{Laid}
-use Rattle.lay.proofs.Laws.{laid-none}
+use Rattle.lay.proofs.Laws.{laid-none, laid-one, laid-same}
 use Rattle.format.specs.Line.{Line, end, line}
 use Rattle.format.specs.SheetSize.{lineSize}
 use Rattle.format.specs.declared.End.{End}
@@ -137,16 +137,6 @@ parts-laid {k} {s} {l} {before} {after} {r} f =
 pub code-there : (k : ℕ) {i n : ℕ} → i < n → i * k + k ≤ n * k
 code-there k {i} {n} l = omega (arith, mul-le-mul-right k l, suc-mul i k)
 
--- one byte more
-laid-byte : {d done o : List ℕ} {i : ℕ} (v : ℕ) → Laid done d o i → i < length d → Laid (done ++ v ∷ []) d (set o i v) (i + 1)
-laid-byte {d} {done} {o} {i} v h l =
-    let e : o ≡ done ++ getD d i 0 ∷ drop (suc i) d = h .is ∙ ap (λ (n : ℕ). done ++ drop n d) (sym (h .count)) ∙ ap (λ (x : List ℕ). done ++ x) (drop-cons d i 0 l) in
-    let z : length (done ++ v ∷ []) ≡ suc i = simp length-append (omega (arith, h .count)) in
-    record {
-      count = omega arith;
-      is = ap (λ (x : List ℕ). set x i v) e ∙ set-at done (getD d i 0) (drop (suc i) d) v i (sym (h .count)) ∙ sym (rw (z, append-snoc));
-    }
-
 -- i codes of k bits, from place p of the block s to place q, are laid
 pub record CodesDone (k : ℕ) (s : List ℕ) (p : ℕ) (before now : List ℕ) (q i : ℕ) : Type 0 where
   pub done : List ℕ
@@ -162,7 +152,7 @@ module _ {k : ℕ} {s : List ℕ} {p : ℕ} {d o : List ℕ} {q i : ℕ} (h : Co
       record {
         done = h .done ++ v ∷ [];
         reads = record { is = ap (λ (j : ℕ). timesDec (field badLine k) j (drop p (bitsOf s))) (add-one i) ∙ times-snoc (field badLine k) i (drop p (bitsOf s)) (h .reads .is) (r .is); within = r .within };
-        laid = rw (map-append (extended k) (h .done) (v ∷ []), e) (laid-byte (extended k v) (h .laid) l);
+        laid = rw (map-append (extended k) (h .done) (v ∷ []), e) (laid-one (extended k v) (h .laid) (omega (arith, laid-same (h .laid) (omega arith))));
       }
 
   pub codes-all : {n : ℕ} {cs : List ℕ} {q′ : ℕ} → i ≡ n → Reads (timesDec (field badLine k) n) s p (found cs q′) → Laid (map (extended k) cs) d o i
