@@ -8,12 +8,14 @@ use lib.ListN.{length}
 use Rattle.bits.specs.Bits.{Bits, bitsOfNumber, filled}
 use Rattle.bits.specs.Bytes.{bitsOf}
 use Rattle.bits.specs.BytesLaws.{length-bitsOf}
-use Rattle.bits.specs.Codec.{got}
+use Rattle.bits.specs.Codec.{got, fieldDec}
 use Rattle.bits.specs.CodecLaws.{next-got, encAlong}
 use Rattle.bits.specs.BlockLaws.{ended}
+use Rattle.bits.specs.Reads.{found, Reads}
 use Rattle.bits.proofs.Laws.Parts.{maybe-more}
 use Rattle.outcome.specs.Refusals.{badIndex}
 use Rattle.locate.proofs.Laws.Blocks.{whole-is}
+use Rattle.locate.proofs.Laws.Standing.{number-there}
 use Rattle.format.specs.Index.{neighbours, Index, up, FitsIndex, index, indexBlock}
 
 -- a block that is not empty has an index
@@ -35,6 +37,9 @@ unfolding indexBlock index
 index-at lines s {i} {u} e =
     let (f, b) = whole-is (indexBlock lines) s (e ∙ ap (got (some i)) (indexBlock lines .all (bitsOf s) (some i) u e)) in
     record { fits = f; after = _; bits = b ∙ append-assoc (bitsOfNumber 8 (i .width)) (encAlong (neighbours (i .width)) up 0 (i .lists)) _ }
+
+pub width-is : (lines : ℕ) (s : List ℕ) {i : Index} {u : Bits} → indexBlock lines .dec (bitsOf s) ≡ got (some i) u → {w q : ℕ} → Reads (fieldDec badIndex 8) s 0 (found w q) → w ≡ i .width
+width-is lines s e h = let I = index-at lines s e in number-there badIndex 8 _ (omega (arith, I .fits .high)) (I .bits) h
 
 -- what is written of one
 pub index-enc : (lines : ℕ) (i : Index) → indexBlock lines .enc (some i) ≡ filled (bitsOfNumber 8 (i .width) ++ encAlong (neighbours (i .width)) up 0 (i .lists))

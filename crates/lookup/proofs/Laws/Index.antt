@@ -19,7 +19,7 @@ use Rattle.outcome.specs.Refusals.{badIndex}
 use Rattle.format.specs.Differences.{diffs, diff, tell}
 use Rattle.format.specs.Index.{FitsList, neighbours, Index, up, FitsIndex, index, indexBlock}
 use Rattle.lookup.specs.Counts.{entries}
-use Rattle.locate.proofs.Laws.Index.{an-index, index-at}
+use Rattle.locate.proofs.Laws.Index.{an-index, index-at, width-is}
 use Rattle.locate.proofs.Laws.Lists.{list-bits}
 use Rattle.locate.proofs.Laws.Standing.{stands-behind, stands-within, number-there}
 
@@ -37,9 +37,6 @@ pub record ListsLeft (lines : ℕ) (s : List ℕ) (l p n : ℕ) (i : Index) : Ty
   pub small : n ≤ p
 
 module _ (lines : ℕ) (s : List ℕ) {i : Index} {u : Bits} (e : indexBlock lines .dec (bitsOf s) ≡ got (some i) u) where
-  width-is : {w q : ℕ} → Reads (fieldDec badIndex 8) s 0 (found w q) → w ≡ i .width
-  width-is h = let I = index-at lines s e in number-there badIndex 8 _ (omega (arith, I .fits .high)) (I .bits) h
-
   lists-first : ListsLeft lines s 0 8 0 i
   lists-first =
       let I = index-at lines s e in

@@ -19,9 +19,9 @@ use Rattle.format.specs.Limits.{mostLines}
 use Rattle.format.specs.Differences.{Falls}
 use Rattle.format.specs.DifferencesLaws.{falls-count}
 use Rattle.format.specs.Index.{Index, FitsIndex, neighbours, up, indexBlock}
-use Rattle.locate.proofs.Laws.Standing.{stands-behind, stands-within, number-there}
+use Rattle.locate.proofs.Laws.Standing.{stands-behind, stands-within}
 use Rattle.locate.proofs.Laws.Lists.{list-bits}
-use Rattle.locate.proofs.Laws.Index.{IndexAt, index-at, index-enc}
+use Rattle.locate.proofs.Laws.Index.{IndexAt, index-at, width-is, index-enc}
 use Rattle.puts.specs.Put.{PutMore, Puts, Room}
 use Rattle.puts.proofs.Bytes.{filled-length}
 use Rattle.puts.proofs.Laws.{put-none, put-laid}
@@ -43,9 +43,6 @@ module _ (s : List ℕ) (lines : ℕ) {i : Index} {u : Bits} (e : indexBlock lin
 
   pub width-there : 8 ≤ 8 * length s
   width-there = omega (arith, stands-within s 0 first _ (before .bits) (omega arith), length-bits 8 (i .width))
-
-  pub width-is : {w q : ℕ} → Reads (fieldDec badIndex 8) s 0 (found w q) → w ≡ i .width
-  width-is h = number-there badIndex 8 _ (omega (arith, before .fits .high)) (before .bits) h
 
   pub width-narrow : i .width ≤ 16
   width-narrow = before .fits .high
@@ -118,7 +115,7 @@ module _ (s : List ℕ) (lines : ℕ) (ch : Change) (removal : List ℕ) {v q : 
   module _ {t : Totals} (N : ListsNumbered v s lines ch removal t) where
     totals : {i : Index} {u : Bits} → indexBlock lines .dec (bitsOf s) ≡ got (some i) u → Along up (Falls 0) 0 (left removal ch i)
         → (t .lists ≡ length (left removal ch i)) × (t .entries ≡ total length (left removal ch i)) × (t .most ≡ maxOf (numbersFrom 0 (left removal ch i)))
-    totals {i} e f = rw (width-is s lines e h) at N .is (i .lists) (before s lines e .after) (lists-stand s lines e) (as-many s lines e) f
+    totals {i} e f = rw (width-is lines s e h) at N .is (i .lists) (before s lines e .after) (lists-stand s lines e) (as-many s lines e) f
 
     module _ {i : Index} {u : Bits} (e : indexBlock lines .dec (bitsOf s) ≡ got (some i) u) (f : Along up (Falls 0) 0 (left removal ch i)) (n : length (left removal ch i) ≤ 1024) where
       pub sizes-small : (t .lists ≤ 1024) × (t .entries ≤ 1025 * 1024)
@@ -143,7 +140,7 @@ module _ (s : List ℕ) (lines : ℕ) (ch : Change) (removal : List ℕ) {v q : 
       → Along up (Falls 0) 0 (left removal ch i) → length (left removal ch i) ≤ 1024 → ListsPut v s lines ch removal width mid at now p
       → Puts (encAlong (neighbours (leastWidth (left removal ch i))) up 0 (left removal ch i)) mid at now p
   lists-are {i = i} e x f n L =
-      rw (width-is s lines e h, x) at L .is (i .lists) (before s lines e .after) (lists-stand s lines e) (as-many s lines e) (least-right (left removal ch i) f n .lists)
+      rw (width-is lines s e h, x) at L .is (i .lists) (before s lines e .after) (lists-stand s lines e) (as-many s lines e) (least-right (left removal ch i) f n .lists)
 
   pub put-end : {width : ℕ} {i : Index} {u : Bits} {mid now : List ℕ} {at p : ℕ} → indexBlock lines .dec (bitsOf s) ≡ got (some i) u → width ≡ leastWidth (left removal ch i)
       → Along up (Falls 0) 0 (left removal ch i) → length (left removal ch i) ≤ 1024 → ListsPut v s lines ch removal width mid at now p

@@ -22,7 +22,8 @@ use Rattle.relist.specs.declared.walk.Walk.{Walk}
 use Rattle.relist.specs.declared.walk.Step.{Step}
 use Rattle.relist.specs.declared.lists.Entry.{Entry}
 use Rattle.relist.proofs.Laws.Lists.{first-here, others-at}
-use Rattle.relist.proofs.Laws.Index.{before, width-is, as-many, lists-stand}
+use Rattle.locate.proofs.Laws.Index.{width-is}
+use Rattle.relist.proofs.Laws.Index.{before, as-many, lists-stand}
 
 -- ---- one list
 
@@ -119,7 +120,7 @@ pub near-is : (s : List ℕ) (high low : ℕ) {w q : ℕ} {k : Walk} {r : Bool} 
 near-is s high low h F H =
     record {
       is = λ lines i u e l.
-          let z = width-is s lines e h in
+          let z = width-is lines s e h in
           let (v, a) = F .is (i .lists) (before s lines e .after) (rw z (lists-stand s lines e)) (omega (arith, as-many s lines e)) in
           H .is (getD (i .lists) high []) v a;
     }

@@ -9,7 +9,8 @@ use Rattle.format.specs.Index.{FitsIndex}
 use Rattle.orders.specs.Least.{indexOf}
 use lib.ListN.{length}
 use Rattle.relist.specs.Index.{left}
-use Rattle.relist.proofs.Laws.Index.{before, width-there, width-is, width-narrow, as-many, lists-stand, block-room, least-right, put-end, put-index}
+use Rattle.locate.proofs.Laws.Index.{width-is}
+use Rattle.relist.proofs.Laws.Index.{before, width-there, width-narrow, as-many, lists-stand, block-room, least-right, put-end, put-index}
 use borrow.Author.Needs.{needs}
 use Rattle.relist.proofs.index.index_put.Statement.{statement}
 use Rattle.relist.proofs.index.index_put.Tie as tie
@@ -21,7 +22,7 @@ read : (c : tie.After-sure) → Reads (fieldDec badIndex 8) (c .before .before .
 read c = subst (λ (n : ℕ). Reads (fieldDec badIndex 8) (c .before .before .before .before .before .args .s .now) n (found (c .sure .result .value) (c .sure .result .next .at))) (c .before .start .ensures) (c .sure .ensures .0 badIndex)
 
 width-of : (c : tie.After-sure) → c .sure .result .value ≡ c .before .before .before .before .before .pre .there .value .width
-width-of c = width-is (c .before .before .before .before .before .args .s .now) (c .before .before .before .before .before .args .lines) (c .before .before .before .before .before .pre .there .reads) (read c)
+width-of c = width-is (c .before .before .before .before .before .args .lines) (c .before .before .before .before .before .args .s .now) (c .before .before .before .before .before .pre .there .reads) (read c)
 
 start-requires : tie.Need-start-requires
 start-requires c κs = search needs

@@ -5,7 +5,8 @@ use Prim.Native.Nat.{ℕ}
 use Rattle.bits.specs.Codec.{fieldDec}
 use Rattle.bits.specs.Reads.{Reads, found}
 use Rattle.outcome.specs.Refusals.{badIndex}
-use Rattle.relist.proofs.Laws.Index.{before, width-there, width-is, width-narrow, as-many, lists-stand, sizes-small, product-small, sized}
+use Rattle.locate.proofs.Laws.Index.{width-is}
+use Rattle.relist.proofs.Laws.Index.{before, width-there, width-narrow, as-many, lists-stand, sizes-small, product-small, sized}
 use borrow.Author.Needs.{needs}
 use Rattle.relist.proofs.index.index_size.Statement.{statement}
 use Rattle.relist.proofs.index.index_size.Tie as tie
@@ -14,7 +15,7 @@ read : (c : tie.After-sure) → Reads (fieldDec badIndex 8) (c .before .before .
 read c = subst (λ (n : ℕ). Reads (fieldDec badIndex 8) (c .before .before .before .before .args .s .now) n (found (c .sure .result .value) (c .sure .result .next .at))) (c .before .start .ensures) (c .sure .ensures .0 badIndex)
 
 width : (c : tie.After-sure) → c .sure .result .value ≡ c .before .before .before .before .pre .value .width
-width c = width-is (c .before .before .before .before .args .s .now) (c .before .before .before .before .args .lines) (c .before .before .before .before .pre .reads) (read c)
+width c = width-is (c .before .before .before .before .args .lines) (c .before .before .before .before .args .s .now) (c .before .before .before .before .pre .reads) (read c)
 
 start-requires : tie.Need-start-requires
 start-requires c κs = search needs

@@ -8,7 +8,8 @@ use Rattle.bits.specs.Codec.{fieldDec}
 use Rattle.bits.specs.Reads.{Reads, found}
 use Rattle.outcome.specs.Refusals.{badIndex}
 use Rattle.relist.specs.Near.{FindThere}
-use Rattle.relist.proofs.Laws.Index.{before, width-there, width-is, width-narrow, as-many, lists-stand}
+use Rattle.locate.proofs.Laws.Index.{width-is}
+use Rattle.relist.proofs.Laws.Index.{before, width-there, width-narrow, as-many, lists-stand}
 use Rattle.relist.proofs.Laws.Near.{near-is}
 use borrow.Author.Needs.{needs}
 use Rattle.relist.proofs.near.are_near.Statement.{statement}
@@ -18,7 +19,7 @@ read : (c : tie.After-sure) → Reads (fieldDec badIndex 8) (c .before .before .
 read c = subst (λ (n : ℕ). Reads (fieldDec badIndex 8) (c .before .before .before .args .s .now) n (found (c .sure .result .value) (c .sure .result .next .at))) (c .before .start .ensures) (c .sure .ensures .0 badIndex)
 
 width : (c : tie.After-sure) → c .sure .result .value ≡ c .before .before .before .pre .value .width
-width c = width-is (c .before .before .before .args .s .now) (c .before .before .before .pre .lines) (c .before .before .before .pre .reads) (read c)
+width c = width-is (c .before .before .before .pre .lines) (c .before .before .before .args .s .now) (c .before .before .before .pre .reads) (read c)
 
 there : (c : tie.After-sure) → FindThere (c .sure .result .value) (c .before .before .before .args .s .now) (c .before .before .before .args .high)
 there c =
