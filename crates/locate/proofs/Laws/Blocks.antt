@@ -18,8 +18,8 @@ use Rattle.format.specs.Index.{Index, indexBlock}
 use Rattle.format.specs.Segments.{segments}
 use Rattle.format.specs.View.{View}
 use Rattle.format.specs.declared.Widths.{Widths}
-use Rattle.locate.specs.Stands.{BlockAt, BlocksAt}
-use Rattle.locate.specs.Finds.{BlockEnd, BlocksFound}
+use Rattle.locate.specs.Stands.{BlockAt, BlocksAt, ViewAt}
+use Rattle.locate.specs.Finds.{BlockEnd, BlocksThere, BlocksFound, SegmentsThere}
 use Rattle.locate.specs.declared.view.Blocks.{Blocks}
 use Rattle.locate.proofs.Laws.Prefixed.{block-end}
 
@@ -36,9 +36,11 @@ module _ {A : Type 0} {w : Block A} {s : List ℕ} {b e : ℕ} {v : A} (h : Bloc
   pub block-is : w .Fits v × (bitsOf (cut s b e) ≡ w .enc v)
   block-is = whole-is w (cut s b e) (h .value)
 
+  pub cut-long : length (cut s b e) ≡ e - (b + 2)
+  cut-long = part-length s (b + 2) (e - (b + 2)) (omega (arith, h .from, h .within))
+
   pub block-bits : length (w .enc v) ≡ 8 * (e - (b + 2))
-  block-bits =
-      ap length (sym (block-is .1)) ∙ length-bitsOf (cut s b e) ∙ ap (λ (n : ℕ). 8 * n) (part-length s (b + 2) (e - (b + 2)) (omega (arith, h .from, h .within)))
+  block-bits = ap length (sym (block-is .1)) ∙ length-bitsOf (cut s b e) ∙ ap (λ (n : ℕ). 8 * n) cut-long
 
 -- its bytes
 pub block-long : {A : Type 0} (b : Block A) (v : A) → length (b .enc v) ≡ 8 * length (inBytes (b .enc v))
@@ -81,6 +83,9 @@ module _ {w : Widths} {s : List ℕ} {b : ℕ} {v : View} {d : ℕ} (B : BlocksA
 
 -- ---- the blocks that code finds
 
+pub blocks-there : {w : Widths} {s : List ℕ} {a : ℕ} {v : View} → length s ≤ 32768 → ViewAt w s a v → BlocksThere s (a + 8)
+blocks-there {w} {v = v} k h = record { short = k; widths = w; value = v; behind = h .behind; blocks = h .blocks }
+
 module _ {w : Widths} {s : List ℕ} {b : ℕ} {v : View} {d : ℕ} (B : BlocksAt w s b v d) {x : Blocks} (F : BlocksFound s b x) where
   pub lines-here : BlockAt (skeleton w) s b (x .index) (v .lines)
   lines-here = rw (F .is w v d B .0) (B .lines)
@@ -93,3 +98,8 @@ module _ {w : Widths} {s : List ℕ} {b : ℕ} {v : View} {d : ℕ} (B : BlocksA
 
   pub behind-is : x .end ≡ d
   behind-is = F .is w v d B .2
+
+pub segments-there : {s : List ℕ} {b : ℕ} (t : BlocksThere s b) {x : Blocks} → BlocksFound s b x → SegmentsThere (cut s (x .extended) (x .end))
+segments-there t F =
+    let h = segments-here (t .blocks) F in
+    record { short = omega (arith, cut-long h, h .within, t .short); value = t .value .segments; left = []; reads = h .value }

@@ -17,7 +17,7 @@ use Rattle.format.specs.Places.{noViewThere, viewAt, bitsBefore}
 use Rattle.format.specs.declared.Widths.{Widths}
 use Rattle.format.proofs.Laws.Size.{view-bytes, view-length}
 use Rattle.locate.specs.Stands.{ViewIn}
-use Rattle.locate.specs.Finds.{BlocksThere, BlocksFound}
+use Rattle.locate.specs.Finds.{BlocksFound}
 use Rattle.locate.specs.declared.view.Blocks.{Blocks}
 use Rattle.locate.proofs.Laws.View.{view-apart}
 use Rattle.locate.proofs.Laws.Record.{record-apart}
@@ -107,9 +107,6 @@ module _ {r : Record} {s : List ℕ} {n p : ℕ} (h : Sought r s n p) (l : n < l
   pub view-end : view-in .at .behind ≡ sought-next .behind
   unfolding view-in
   view-end = omega (arith, view-apart (r .head .scale .widths) (sought-next .seen) sought-reads .1)
-
-  pub blocks-there : length s ≤ 32768 → BlocksThere s (p + 8)
-  blocks-there k = record { short = k; widths = r .head .scale .widths; value = viewAt r n; behind = view-in .at .behind; blocks = view-in .at .blocks }
 
   -- where code finds that it ends
   pub sought-end : {x : Blocks} → BlocksFound s (p + 8) x → x .end ≡ sought-next .behind

@@ -15,9 +15,8 @@ use Rattle.bits.specs.Bits.{Bits, bitsOfNumber}
 use Rattle.bits.specs.BitsLaws.{length-bits}
 use Rattle.bits.specs.Bytes.{Byte, bitsOf}
 use Rattle.bits.specs.Codec.{fieldDec}
-use Rattle.bits.specs.Block.{Block}
 use Rattle.bits.specs.Reads.{found, Reads}
-use Rattle.bits.proofs.Laws.Parts.{part-length, part-bytes}
+use Rattle.bits.proofs.Laws.Parts.{part-bytes}
 use Rattle.outcome.specs.Refusals.{badView}
 use Rattle.format.specs.Line.{skeleton}
 use Rattle.format.specs.Index.{Index, indexBlock}
@@ -26,10 +25,10 @@ use Rattle.format.specs.View.{View, FitsHead, headFields}
 use Rattle.format.specs.declared.Widths.{Widths}
 use Rattle.locate.specs.Stands.{BlockAt, ViewAt}
 use Rattle.format.specs.Places.{segmentBits}
-use Rattle.locate.specs.Finds.{BlocksThere, BlocksFound, LinesThere, LinesPassed, SegmentsThere, SegmentsPassed}
+use Rattle.locate.specs.Finds.{BlocksFound, LinesThere, LinesPassed, SegmentsPassed}
 use Rattle.locate.specs.declared.view.Blocks.{Blocks}
 use Rattle.locate.specs.declared.Passed.{Passed}
-use Rattle.locate.proofs.Laws.Blocks.{cut, lines-here, index-here, segments-here, no-index}
+use Rattle.locate.proofs.Laws.Blocks.{cut, cut-long, lines-here, index-here, segments-here, no-index}
 use Rattle.locate.proofs.Laws.Lines.{none-left, lines-counted}
 use Rattle.locate.proofs.Laws.Segments.{segments-none}
 use Rattle.lookup.specs.Listing.{Listed, listed}
@@ -56,9 +55,6 @@ module _ {w : Widths} {s : List ℕ} {a : ℕ} {v : View} (at : ViewAt w s a v) 
       number-there badView 8 others (head-back .0 .position) b k
 
 -- ---- counts that go to the end of a block
-
-cut-long : {A : Type 0} {w : Block A} {s : List ℕ} {b e : ℕ} {v : A} → BlockAt w s b e v → length (cut s b e) ≡ e - (b + 2)
-cut-long {s = s} {b = b} {e = e} h = part-length s (b + 2) (e - (b + 2)) (omega (arith, h .from, h .within))
 
 segments-wide : (gs : List Segment) → 32 * length gs ≤ segmentBits gs
 segments-wide [] = omega arith
@@ -90,9 +86,6 @@ module _ {w : Widths} {s : List ℕ} {a : ℕ} (T : ListedThere w s a) where
   pub head-there : a + 10 ≤ length s
   head-there = omega (arith, T .at .blocks .lines .from, T .at .blocks .lines .within)
 
-  pub blocks-there : BlocksThere s (a + 8)
-  blocks-there = record { short = T .short; widths = w; value = T .value; behind = T .at .behind; blocks = T .at .blocks }
-
   module _ {x : Blocks} (F : BlocksFound s (a + 8) x) where
     pub lines-at : BlockAt (skeleton w) s (a + 8) (x .index) (T .value .lines)
     lines-at = lines-here (T .at .blocks) F
@@ -115,9 +108,6 @@ module _ {w : Widths} {s : List ℕ} {a : ℕ} (T : ListedThere w s a) where
           left = [];
           reads = rw (lines-counted lines-at L) (index-at .value);
         }
-
-    pub segments-there : SegmentsThere (cut s (x .extended) (x .end))
-    segments-there = record { short = omega (arith, cut-long segments-at, segments-at .within, T .short); value = T .value .segments; left = []; reads = segments-at .value }
 
 pub listed-is : {w : Widths} {s : List ℕ} {a : ℕ} {v : View} {x : Blocks} {l g : Passed} {n m p q t : ℕ} → All Byte s → (at : ViewAt w s a v) → BlocksFound s (a + 8) x
     → Reads (fieldDec badView 8) s (8 * a) (found n q) → Reads (fieldDec badView 8) s (8 * a + 8) (found m t)

@@ -27,11 +27,11 @@ use Rattle.judge.specs.declared.Verdict.the-variants.{Accepted, Refused}
 use Rattle.format.proofs.Laws.Call.{on-record}
 use Rattle.judge.proofs.Laws.Calls.{call-refused, record-read}
 use Rattle.locate.specs.Stands.{BlockAt, ViewIn}
-use Rattle.locate.specs.Finds.{ViewThere, BlocksThere, BlocksFound, SegmentsThere, SegmentsLeft, SegmentsPassed}
+use Rattle.locate.specs.Finds.{ViewThere, BlocksFound, SegmentsLeft, SegmentsPassed}
 use Rattle.locate.specs.declared.view.Blocks.{Blocks}
 use Rattle.locate.specs.declared.Passed.{Passed}
 use Rattle.locate.proofs.Laws.Record.{record-apart}
-use Rattle.locate.proofs.Laws.Blocks.{cut, block-bits, lines-here, index-here, segments-here}
+use Rattle.locate.proofs.Laws.Blocks.{cut, cut-long, block-bits, lines-here, index-here, segments-here}
 use Rattle.locate.proofs.Laws.Segments.{SegmentAt, segment-next, segments-none, its-length, its-payload}
 use Rattle.lookup.specs.Segment.{payloadIn, payload, bitsAhead, firstBit, firstBitRead, payloadOf, segmentAnswer}
 use Rattle.lookup.specs.Finds.{PayloadAt, Finds}
@@ -77,9 +77,6 @@ module _ {r : Record} {s : List ℕ} {view a : ℕ} (I : ViewIn r s view a) {x :
   pub extended-at : BlockAt segments s (x .extended) (x .end) (viewAt r view .segments)
   extended-at = segments-here (I .at .blocks) F
 
-  extended-long : length (cut s (x .extended) (x .end)) ≡ x .end - (x .extended + 2)
-  extended-long = part-length s (x .extended + 2) (x .end - (x .extended + 2)) (omega (arith, extended-at .from, extended-at .within))
-
   -- the bits before it
   extended-bits : bitsBefore r view + bitsAhead (r .head .scale .widths) (viewAt r view) ≡ 8 * (x .extended + 2)
   extended-bits =
@@ -87,77 +84,63 @@ module _ {r : Record} {s : List ℕ} {view a : ℕ} (I : ViewIn r s view a) {x :
       let index = index-here (I .at .blocks) F in
       omega (arith, I .before, block-bits lines, lines .from, block-bits index, index .from)
 
-module _ {s : List ℕ} {r : Record} (e : read s ≡ got r []) {view a : ℕ} (I : ViewIn r s view a) where
-  pub blocks-there : BlocksThere s (a + 8)
-  blocks-there =
-      record { short = record-apart s e .short; widths = r .head .scale .widths; value = viewAt r view; behind = I .at .behind; blocks = I .at .blocks }
+-- ---- the segment of that place, where code stops in the block
 
-  module _ {x : Blocks} (F : BlocksFound s (a + 8) x) where
-    pub segments-there : SegmentsThere (cut s (x .extended) (x .end))
-    segments-there =
+module _ {s : List ℕ} {r : Record} (e : read s ≡ got r []) {view a : ℕ} (I : ViewIn r s view a) {x : Blocks} (F : BlocksFound s (a + 8) x) {place : ℕ} {p : Passed}
+    (P : SegmentsPassed (cut s (x .extended) (x .end)) place p) (bytes : All Byte s) (l : view < length (r .views)) where
+  left : (p .count ≤ length (viewAt r view .segments)) × SegmentsLeft (cut s (x .extended) (x .end)) (p .next) (drop (p .count) (viewAt r view .segments)) []
+      × (8 * p .next ≡ segmentBits (take (p .count) (viewAt r view .segments)))
+  left = P .is (viewAt r view .segments) [] (extended-at I F .value)
+
+  block-bytes : All Byte (cut s (x .extended) (x .end))
+  block-bytes = part-bytes s (x .extended + 2) (x .end - (x .extended + 2)) bytes
+
+  pub not-there : length (cut s (x .extended) (x .end)) ≤ p .next → Finds view place s (f.Refused noSegment)
+  not-there h =
+      let z : length (viewAt r view .segments) - p .count ≡ 0 = sym (length-drop (p .count) (viewAt r view .segments)) ∙ ap length (segments-none block-bytes (left .1) h) in
+      (0, no-segment s e view place l (omega (arith, P .upto)))
+
+  module _ (h : p .next < length (cut s (x .extended) (x .end))) where
+    here : SegmentAt (cut s (x .extended) (x .end)) (p .next) (drop (p .count) (viewAt r view .segments)) []
+    here = segment-next block-bytes (left .1) h
+
+    -- four bytes of it are there
+    pub header-there : p .next + 4 ≤ length (cut s (x .extended) (x .end))
+    header-there = omega (arith, here .there .within)
+
+    count-is : p .count ≡ place
+    count-is = split place (p .count) (λ k. omega (arith, P .upto)) (λ k. absurd (omega (arith, P .all k)))
+
+    is-there : (place < length (viewAt r view .segments)) × (here .value ≡ segmentAt (viewAt r view) place)
+    is-there =
+        let (k, v, _) = first-left (viewAt r view .segments) (p .count) noSegmentThere (here .is) in
+        (omega (arith, count-is), v ∙ ap (segmentAt (viewAt r view)) count-is)
+
+    bit-is : 8 * (x .extended + 2 + p .next + 4) ≡ firstBit view place r
+    bit-is = omega (arith, extended-bits I F, left .2, ap (λ (n : ℕ). segmentBits (take n (viewAt r view .segments))) count-is)
+
+    -- its payload is a part of the record
+    part-is : (n : ℕ) → n ≡ length (here .value .payload) → part s (x .extended + 2 + p .next + 4) n ≡ here .value .payload
+    part-is n z =
+        let E : ℕ = x .extended + 2 in
+        let b : E + (p .next + 4) ≡ E + p .next + 4 = omega arith in
+        rw z
+        (ap (λ (m : ℕ). part s m (length (here .value .payload))) (sym b)
+        ∙ sym (part-part s E (x .end - E) (p .next + 4) (length (here .value .payload)) (omega (arith, extended-at I F .from, extended-at I F .within)) (omega (arith, here .there .within, cut-long (extended-at I F))))
+        ∙ its-payload here)
+
+    pub payload-there : {n q : ℕ} → Reads (fieldDec badSegment 16) (cut s (x .extended) (x .end)) (8 * p .next + 16) (found n q)
+        → PayloadAt view place s (x .extended + 2 + p .next + 4) (x .extended + 2 + p .next + n)
+    payload-there {n} d =
+        let z : n ≡ 4 + length (here .value .payload) = its-length here d in
+        let b = part-is (x .extended + 2 + p .next + n - (x .extended + 2 + p .next + 4)) (omega arith) in
         record {
-          short = omega (arith, extended-long I F, extended-at I F .within, record-apart s e .short);
-          value = viewAt r view .segments;
-          left = [];
-          reads = extended-at I F .value;
+          order = omega arith;
+          within = omega (arith, here .there .within, cut-long (extended-at I F), extended-at I F .from, extended-at I F .within);
+          short = record-apart s e .short;
+          is = a-segment s e view place l (is-there .0) ∙ ap given (ap (λ (g : Segment). g .payload) (sym (is-there .1)) ∙ sym b);
+          first = bit-is ∙ sym (ap (firstBitRead view place) e);
         }
-
-    -- ---- the segment of that place, where code stops in the block
-
-    module _ {place : ℕ} {p : Passed} (P : SegmentsPassed (cut s (x .extended) (x .end)) place p) (bytes : All Byte s) (l : view < length (r .views)) where
-      left : (p .count ≤ length (viewAt r view .segments)) × SegmentsLeft (cut s (x .extended) (x .end)) (p .next) (drop (p .count) (viewAt r view .segments)) []
-          × (8 * p .next ≡ segmentBits (take (p .count) (viewAt r view .segments)))
-      left = P .is (viewAt r view .segments) [] (extended-at I F .value)
-
-      block-bytes : All Byte (cut s (x .extended) (x .end))
-      block-bytes = part-bytes s (x .extended + 2) (x .end - (x .extended + 2)) bytes
-
-      pub not-there : length (cut s (x .extended) (x .end)) ≤ p .next → Finds view place s (f.Refused noSegment)
-      not-there h =
-          let z : length (viewAt r view .segments) - p .count ≡ 0 = sym (length-drop (p .count) (viewAt r view .segments)) ∙ ap length (segments-none block-bytes (left .1) h) in
-          (0, no-segment s e view place l (omega (arith, P .upto)))
-
-      module _ (h : p .next < length (cut s (x .extended) (x .end))) where
-        here : SegmentAt (cut s (x .extended) (x .end)) (p .next) (drop (p .count) (viewAt r view .segments)) []
-        here = segment-next block-bytes (left .1) h
-
-        -- four bytes of it are there
-        pub header-there : p .next + 4 ≤ length (cut s (x .extended) (x .end))
-        header-there = omega (arith, here .there .within)
-
-        count-is : p .count ≡ place
-        count-is = split place (p .count) (λ k. omega (arith, P .upto)) (λ k. absurd (omega (arith, P .all k)))
-
-        is-there : (place < length (viewAt r view .segments)) × (here .value ≡ segmentAt (viewAt r view) place)
-        is-there =
-            let (k, v, _) = first-left (viewAt r view .segments) (p .count) noSegmentThere (here .is) in
-            (omega (arith, count-is), v ∙ ap (segmentAt (viewAt r view)) count-is)
-
-        bit-is : 8 * (x .extended + 2 + p .next + 4) ≡ firstBit view place r
-        bit-is = omega (arith, extended-bits I F, left .2, ap (λ (n : ℕ). segmentBits (take n (viewAt r view .segments))) count-is)
-
-        -- its payload is a part of the record
-        part-is : (n : ℕ) → n ≡ length (here .value .payload) → part s (x .extended + 2 + p .next + 4) n ≡ here .value .payload
-        part-is n z =
-            let E : ℕ = x .extended + 2 in
-            let b : E + (p .next + 4) ≡ E + p .next + 4 = omega arith in
-            rw z
-            (ap (λ (m : ℕ). part s m (length (here .value .payload))) (sym b)
-            ∙ sym (part-part s E (x .end - E) (p .next + 4) (length (here .value .payload)) (omega (arith, extended-at I F .from, extended-at I F .within)) (omega (arith, here .there .within, extended-long I F)))
-            ∙ its-payload here)
-
-        pub payload-there : {n q : ℕ} → Reads (fieldDec badSegment 16) (cut s (x .extended) (x .end)) (8 * p .next + 16) (found n q)
-            → PayloadAt view place s (x .extended + 2 + p .next + 4) (x .extended + 2 + p .next + n)
-        payload-there {n} d =
-            let z : n ≡ 4 + length (here .value .payload) = its-length here d in
-            let b = part-is (x .extended + 2 + p .next + n - (x .extended + 2 + p .next + 4)) (omega arith) in
-            record {
-              order = omega arith;
-              within = omega (arith, here .there .within, extended-long I F, extended-at I F .from, extended-at I F .within);
-              short = record-apart s e .short;
-              is = a-segment s e view place l (is-there .0) ∙ ap given (ap (λ (g : Segment). g .payload) (sym (is-there .1)) ∙ sym b);
-              first = bit-is ∙ sym (ap (firstBitRead view place) e);
-            }
 
 -- ---- what the two calls give
 

@@ -1,6 +1,6 @@
 -- A pair order on a view that is found: its own tests, by what code sees of the index.
 use mathlib.Core.Path.{_≡_, refl, sym, ap, _∙_, subst}
-use Prim.Native.Nat.{ℕ, _+_, _-_, _≤_, _<_, min, max}
+use Prim.Native.Nat.{ℕ, _+_, _≤_, _<_, min, max}
 use native.Mathlib.Omega.{arith}
 use mathlib.Core.Bool.{Bool, true, false, not, _&&_}
 use mathlib.Core.Option.{none, some}
@@ -11,7 +11,6 @@ use mir.Facts.{yes-ltb, no-ltb}
 use Rattle.bits.specs.Choice.{pick}
 use Rattle.bits.specs.Bytes.{bitsOf}
 use Rattle.bits.specs.Codec.{got}
-use Rattle.bits.proofs.Laws.Parts.{part-length}
 use Rattle.outcome.specs.Refusals.{badLines, noIndex, alreadySo}
 use Rattle.outcome.specs.Outcome.{refused}
 use Rattle.format.specs.Index.{Index, indexBlock}
@@ -22,7 +21,7 @@ use Rattle.orders.specs.Order.{tests, order}
 use Rattle.orders.proofs.Laws.Accept.{Pass}
 use Rattle.orders.proofs.Laws.Right.{Right}
 use Rattle.survivors.specs.Rank.{Rising}
-use Rattle.locate.proofs.Laws.Blocks.{cut, no-index}
+use Rattle.locate.proofs.Laws.Blocks.{cut, cut-long, no-index}
 use Rattle.locate.proofs.Laws.Index.{an-index}
 use Rattle.relist.specs.Near.{NearThere, Near}
 use Rattle.rebuild.specs.Rebuilt.{Means}
@@ -72,18 +71,15 @@ module _ {s : List ℕ} {view n : ℕ} {x : Site} (F : Sought s view n x) where
   abbrev v : View
   v = viewAt (F .value) view
 
-  block-long : length (cut s (x .index) (x .extended)) ≡ x .extended - (x .index + 2)
-  block-long = part-length s (x .index + 2) (x .extended - (x .index + 2)) (omega (arith, F .at .index .from, F .at .index .within))
-
   not-indexed : x .extended ≤ x .index + 2 → T (not (indexed? v))
   not-indexed l =
-      let e : v .index ≡ none = no-index (x .lines) (cut s (x .index) (x .extended)) (omega (arith, block-long)) (F .at .index .value) in
+      let e : v .index ≡ none = no-index (x .lines) (cut s (x .index) (x .extended)) (omega (arith, cut-long (F .at .index))) (F .at .index .value) in
       rw e tt
 
   -- the index that is there
   module _ (l : x .index + 2 < x .extended) where
     with-index : {P : Type 0} → ((i : Index) → v .index ≡ some i → P) → P
-    with-index k = an-index (x .lines) (cut s (x .index) (x .extended)) (omega (arith, block-long)) (F .at .index .value) k
+    with-index k = an-index (x .lines) (cut s (x .index) (x .extended)) (omega (arith, cut-long (F .at .index))) (F .at .index .value) k
 
     is-indexed : T (indexed? v)
     is-indexed = with-index λ i e. rw e tt
@@ -94,7 +90,7 @@ module _ {s : List ℕ} {view n : ℕ} {x : Site} (F : Sought s view n x) where
     pub near-there : {high : ℕ} → high < x .lines → x .lines ≤ 1024 → length s ≤ 32768 → NearThere (cut s (x .index) (x .extended)) high
     near-there h k z =
         with-index λ i e.
-        record { short = omega (arith, block-long); lines = x .lines; few = k; below = h; value = i; behind = []; reads = reads-some e }
+        record { short = omega (arith, cut-long (F .at .index)); lines = x .lines; few = k; below = h; value = i; behind = []; reads = reads-some e }
 
     near-is : (a b : ℕ) {r : Bool} → Near (cut s (x .index) (x .extended)) (max a b) (min a b) r → max a b < x .lines → near v a b ≡ r
     unfolding near

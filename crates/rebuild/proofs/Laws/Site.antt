@@ -7,18 +7,17 @@ use mathlib.Core.List.{List}
 use lib.ListN.{length}
 use Rattle.bits.specs.Lists.{All}
 use Rattle.bits.specs.Bytes.{Byte}
-use Rattle.bits.specs.Block.{Block}
-use Rattle.bits.proofs.Laws.Parts.{part-length, part-bytes}
+use Rattle.bits.proofs.Laws.Parts.{part-bytes}
 use Rattle.format.specs.Line.{skeleton}
 use Rattle.format.specs.Record.{Record}
 use Rattle.format.specs.Places.{viewAt, count}
 use Rattle.format.specs.declared.Widths.{Widths}
 use Rattle.format.proofs.Laws.Record.{narrow}
-use Rattle.locate.specs.Stands.{BlockAt, ViewIn}
+use Rattle.locate.specs.Stands.{ViewIn}
 use Rattle.locate.specs.Finds.{BlocksFound, LinesPassed}
 use Rattle.locate.specs.declared.view.Blocks.{Blocks}
 use Rattle.locate.specs.declared.Passed.{Passed}
-use Rattle.locate.proofs.Laws.Blocks.{cut, few-lines, lines-here, index-here, segments-here}
+use Rattle.locate.proofs.Laws.Blocks.{cut, cut-long, few-lines, lines-here, index-here, segments-here}
 use Rattle.locate.proofs.Laws.Lines.{lines-counted}
 use Rattle.locate.proofs.Laws.Record.{record-apart}
 use Rattle.relist.specs.declared.lists.Change.{Change}
@@ -45,9 +44,6 @@ site-is {r} {s} {i} {a} h F P e l =
 
 -- ---- the blocks, cut out of the record
 
-pub cut-within : {A : Type 0} {w : Block A} {s : List ℕ} {b e : ℕ} {v : A} → BlockAt w s b e v → b + 2 + (e - (b + 2)) ≤ length s
-cut-within h = omega (arith, h .from, h .within)
-
 module _ {s : List ℕ} {x : Site} {ch : Change} {removal : List ℕ} (t : Placed s x ch removal) where
   pub short : length s ≤ 32768
   short = record-apart s (t .reads) .short
@@ -60,7 +56,7 @@ module _ {s : List ℕ} {x : Site} {ch : Change} {removal : List ℕ} (t : Place
       record {
         narrow = rw (t .at .widths) (narrow (record-apart s (t .reads) .fits));
         bytes = part-bytes s (x .skeleton + 2) (x .index - (x .skeleton + 2)) f;
-        short = omega (arith, short, part-length s (x .skeleton + 2) _ (cut-within (t .at .lines)));
+        short = omega (arith, short, cut-long (t .at .lines), t .at .lines .within);
         rising = t .rising;
         value = viewAt (t .value) (t .view) .lines;
         reads = t .at .lines .value;
@@ -70,7 +66,7 @@ module _ {s : List ℕ} {x : Site} {ch : Change} {removal : List ℕ} (t : Place
   unfoldable pub old-index : OldIndex (cut s (x .index) (x .extended)) (x .lines) ch removal
   old-index =
       record {
-        short = omega (arith, short, part-length s (x .index + 2) _ (cut-within (t .at .index)));
+        short = omega (arith, short, cut-long (t .at .index), t .at .index .within);
         rising = t .rising;
         few = few;
         value = viewAt (t .value) (t .view) .index;

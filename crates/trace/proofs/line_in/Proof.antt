@@ -10,7 +10,7 @@ use Rattle.format.specs.Line.{skeleton}
 use Rattle.format.specs.Places.{viewAt, lineAt}
 use Rattle.trail.specs.Trail.{trail}
 use Rattle.locate.specs.Stands.{BlockAt, ViewIn}
-use Rattle.locate.proofs.Laws.Blocks.{cut, lines-here}
+use Rattle.locate.proofs.Laws.Blocks.{cut, blocks-there, lines-here}
 use Rattle.format.proofs.Laws.Record.{narrow}
 use Rattle.locate.proofs.Laws.Record.{record-apart}
 use Rattle.locate.proofs.Laws.Lines.{passed-within, passed-all, passed-next, passed-there}
@@ -38,8 +38,7 @@ add-lengths c =
 
 blocks-at-requires : tie.Need-blocks-at-requires
 blocks-at-requires c κs =
-    let v = here (c) .at in
-    record { short = record-apart _ (c .before .before .pre .reads) .short; widths = c .before .before .pre .value .head .scale .widths; value = viewAt (c .before .before .pre .value) (c .before .before .args .view); behind = v .behind; blocks = v .blocks }
+    blocks-there (record-apart _ (c .before .before .pre .reads) .short) (here (c) .at)
 
 add-from : tie.Need-add-from
 add-from c =

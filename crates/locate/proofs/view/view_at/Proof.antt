@@ -10,7 +10,8 @@ use Rattle.bits.specs.Codec.{got}
 use Rattle.format.specs.Record.{Record, read}
 use Rattle.locate.specs.Finds.{ViewThere}
 use Rattle.locate.proofs.Laws.Record.{record-apart}
-use Rattle.locate.proofs.Laws.Views.{Sought, sought-first, sought-on, sought-end, view-in, blocks-there}
+use Rattle.locate.proofs.Laws.Blocks.{blocks-there}
+use Rattle.locate.proofs.Laws.Views.{Sought, sought-first, sought-on, sought-end, view-in}
 use Rattle.locate.proofs.view.view_at.Statement.{statement}
 use Rattle.locate.proofs.view.view_at.Tie as tie
 
@@ -39,7 +40,7 @@ add-blocks-at c =
 blocks-at-requires : tie.Need-blocks-at-requires Inv-loop μ-loop
 blocks-at-requires c κs =
     let pre = c .before .before .before .pre in
-    blocks-there (c .before .loop .inv .1 (pre .value) (pre .reads)) (omega (arith, pre .below)) (record-apart _ (pre .reads) .short)
+    blocks-there (record-apart _ (pre .reads) .short) (view-in (c .before .loop .inv .1 (pre .value) (pre .reads)) (omega (arith, pre .below)) .at)
 
 add-n : tie.Need-add-n Inv-loop μ-loop
 add-n c = search needs

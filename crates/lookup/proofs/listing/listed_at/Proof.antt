@@ -4,8 +4,8 @@ use Rattle.bits.specs.Lists.{All}
 use Rattle.bits.specs.Bytes.{Byte}
 use Rattle.bits.proofs.Laws.Place.{all-bytes}
 use Rattle.outcome.specs.Refusals.{badView}
-use Rattle.locate.proofs.Laws.Blocks.{behind-is}
-use Rattle.lookup.proofs.Laws.Listing.{head-there, blocks-there, lines-at, index-at, segments-at, lines-there, index-there, segments-there, listed-is}
+use Rattle.locate.proofs.Laws.Blocks.{blocks-there, segments-there, behind-is}
+use Rattle.lookup.proofs.Laws.Listing.{head-there, lines-at, index-at, segments-at, lines-there, index-there, listed-is}
 use Rattle.lookup.proofs.listing.listed_at.Statement.{statement}
 use Rattle.lookup.proofs.listing.listed_at.Tie as tie
 
@@ -38,7 +38,7 @@ add-head c =
 
 blocks-at-requires : tie.Need-blocks-at-requires
 blocks-at-requires c κs =
-    blocks-there (c .before .before .before .pre)
+    blocks-there (c .before .before .before .pre .short) (c .before .before .before .pre .at)
 
 add-skeleton : tie.Need-add-skeleton
 add-skeleton c =
@@ -102,7 +102,7 @@ sub-pass-segments-2 c =
 
 pass-segments-requires : tie.Need-pass-segments-requires
 pass-segments-requires c κs =
-    segments-there (c .before .before .before .before .before .before .before .before .before .pre) (c .before .before .before .before .before .blocks-at .ensures)
+    segments-there (blocks-there (c .before .before .before .before .before .before .before .before .before .pre .short) (c .before .before .before .before .before .before .before .before .before .pre .at)) (c .before .before .before .before .before .blocks-at .ensures)
 
 returns : tie.Need-returns
 returns c =

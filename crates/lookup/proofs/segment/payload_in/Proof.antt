@@ -9,9 +9,11 @@ use Rattle.outcome.specs.Refusals.{badSegment}
 use Rattle.format.specs.Segments.{segments}
 use Rattle.format.specs.Places.{viewAt}
 use Rattle.locate.specs.Stands.{BlockAt, ViewIn}
+use Rattle.locate.specs.Finds.{BlocksThere}
+use Rattle.locate.proofs.Laws.Blocks.{blocks-there, segments-there}
 use Rattle.locate.proofs.Laws.Record.{record-apart}
 use Rattle.lookup.specs.Finds.{PayloadAt}
-use Rattle.lookup.proofs.Laws.Segment.{extended-at, blocks-there, segments-there, not-there, header-there, payload-there}
+use Rattle.lookup.proofs.Laws.Segment.{extended-at, not-there, header-there, payload-there}
 use borrow.Author.Needs.{needs}
 use Rattle.lookup.proofs.segment.payload_in.Statement.{statement}
 use Rattle.lookup.proofs.segment.payload_in.Tie as tie
@@ -21,6 +23,9 @@ bytes c = all-bytes (c .before .args .bytes .now) (λ i. c .shared-slice-known .
 
 view-in : (c : tie.After-view-at) → ViewIn (c .before .before .pre .value) (c .before .before .args .bytes .now) (c .before .before .args .view) (c .view-at .result)
 view-in c = c .view-at .ensures .is (c .before .before .pre .value) (c .before .before .pre .reads)
+
+blocks : (c : tie.After-view-at) → BlocksThere (c .before .before .args .bytes .now) (c .view-at .result + 8)
+blocks c = blocks-there (record-apart _ (c .before .before .pre .reads) .short) (view-in c .at)
 
 extended : (c : tie.After-blocks-at) → BlockAt segments (c .before .before .before .args .bytes .now) (c .blocks-at .result .extended) (c .blocks-at .result .end) (viewAt (c .before .before .before .pre .value) (c .before .before .before .args .view) .segments)
 extended c = extended-at (view-in (c .before)) (c .blocks-at .ensures)
@@ -39,7 +44,7 @@ add-blocks-at c =
 
 blocks-at-requires : tie.Need-blocks-at-requires
 blocks-at-requires c κs =
-    blocks-there (c .before .before .pre .reads) (view-in (c))
+    blocks (c)
 
 add-first : tie.Need-add-first
 add-first c =
@@ -59,19 +64,19 @@ part-block-end c =
 
 pass-segments-requires : tie.Need-pass-segments-requires
 pass-segments-requires c κs =
-    segments-there (c .before .before .before .before .before .pre .reads) (view-in (c .before .before .before)) (c .before .before .blocks-at .ensures)
+    segments-there (blocks (c .before .before .before)) (c .before .before .blocks-at .ensures)
 
 mul-t17 : tie.Need-mul-t17
 mul-t17 c =
-    omega (arith, segments-there (c .before .before .before .before .before .before .before .before .before .pre .reads) (view-in (c .before .before .before .before .before .before .before)) (c .before .before .before .before .before .before .blocks-at .ensures) .short, c .before .if1 .taken)
+    omega (arith, segments-there (blocks (c .before .before .before .before .before .before .before)) (c .before .before .before .before .before .before .blocks-at .ensures) .short, c .before .if1 .taken)
 
 add-t18 : tie.Need-add-t18
 add-t18 c =
-    omega (arith, segments-there (c .before .before .before .before .before .before .before .before .before .pre .reads) (view-in (c .before .before .before .before .before .before .before)) (c .before .before .before .before .before .before .blocks-at .ensures) .short, c .before .if1 .taken)
+    omega (arith, segments-there (blocks (c .before .before .before .before .before .before .before)) (c .before .before .before .before .before .before .blocks-at .ensures) .short, c .before .if1 .taken)
 
 sure-requires : tie.Need-sure-requires
 sure-requires c κs = (
-  segments-there (c .before .before .before .before .before .before .before .before .before .pre .reads) (view-in (c .before .before .before .before .before .before .before)) (c .before .before .before .before .before .before .blocks-at .ensures) .short,
+  segments-there (blocks (c .before .before .before .before .before .before .before)) (c .before .before .before .before .before .before .blocks-at .ensures) .short,
   omega arith,
   omega (arith, header-there (c .before .before .before .before .before .before .before .before .before .pre .reads) (view-in (c .before .before .before .before .before .before .before)) (c .before .before .before .before .before .before .blocks-at .ensures) (c .before .before .before .pass-segments .ensures) (bytes (c .before .before .before .before .before .before .before .before)) (c .before .before .before .before .before .before .before .before .before .pre .below) (c .before .if1 .taken)),
 )

@@ -7,7 +7,7 @@ use Rattle.format.specs.Line.{skeleton}
 use Rattle.format.specs.Places.{viewAt}
 use Rattle.format.proofs.Laws.Record.{narrow}
 use Rattle.locate.specs.Stands.{BlockAt, ViewIn}
-use Rattle.locate.proofs.Laws.Blocks.{lines-here}
+use Rattle.locate.proofs.Laws.Blocks.{blocks-there, lines-here}
 use Rattle.locate.proofs.Laws.Record.{record-apart}
 use Rattle.rebuild.proofs.Laws.Site.{site-is}
 use Rattle.rebuild.proofs.site.site_at.Statement.{statement}
@@ -29,8 +29,7 @@ add-skeleton c =
 
 blocks-at-requires : tie.Need-blocks-at-requires
 blocks-at-requires c κs =
-    let v = here (c) .at in
-    record { short = record-apart _ (c .before .before .pre .reads) .short; widths = c .before .before .pre .value .head .scale .widths; value = viewAt (c .before .before .pre .value) (c .before .before .args .i); behind = v .behind; blocks = v .blocks }
+    blocks-there (record-apart _ (c .before .before .pre .reads) .short) (here (c) .at)
 
 add-from : tie.Need-add-from
 add-from c =
