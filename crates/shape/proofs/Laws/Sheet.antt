@@ -17,7 +17,7 @@ use Rattle.sheet.specs.Grammar.{rest, indexRest, grammar}
 use Rattle.fields.specs.Fields.{fieldBytes, FieldsAt, Fields}
 use Rattle.fields.proofs.Laws.{field-long, no-fields, some-fields}
 use Rattle.shape.specs.Shape.{begins, viewRight, viewRest, ViewAt, Shape}
-use Rattle.shape.proofs.Laws.Views.{viewsRight, views, views-on, views-more, views-wrong, grammar-is, grammar-begins}
+use Rattle.shape.proofs.Laws.Views.{viewsRight, views, views-on, views-wrong, grammar-is, grammar-begins}
 use Rattle.shape.proofs.Laws.Stand.{Begun}
 
 -- ---- what stands behind a view is less
@@ -60,12 +60,8 @@ going-first {fs = fs} h = record { left = fs; stand = h; count = omega arith; ri
 module _ {s : List ℕ} {fs : List Field} {n p : ℕ} (g : Going s fs n p) where
   pub going-on : {e : ℕ} → ViewAt s (g .left) e → Going s fs (n + 1) e
   going-on v =
-      let (a, b) = one (g .left) (v .right) in
+      let (a, b) = views-on (g .left) (v .right) in
       record { left = viewRest (g .left); stand = v .behind; count = omega (arith, g .count, b); right = sym a ∙ g .right }
-    where
-      one : (gs : List Field) → T (viewRight gs) → (viewsRight gs ≡ viewsRight (viewRest gs)) × (views gs ≡ 1 + views (viewRest gs))
-      one [] t = absurd t
-      one (f ∷ gs) t = (views-on f gs t, views-more f gs t)
 
   pub going-wrong : p < length s → T (not (viewRight (g .left))) → T (not (viewsRight fs))
   going-wrong l u =

@@ -65,10 +65,10 @@ shape-parted f fs = ap viewShape (view-parted fs (f .value))
 
 module _ (f : Field) (fs : List Field) (t : T (viewRight (f ∷ fs))) where
   two : f .tag ≡ 2
-  two = eqb-yes (and-yes (eqb (f .tag) 2) (viewShape (viewIn (f .value, fs))) t .0)
+  two = view-tests f fs t .tag
 
-  pub views-on : viewsRight (f ∷ fs) ≡ viewsRight (viewRest (f ∷ fs))
-  views-on =
+  rest-right : viewsRight (f ∷ fs) ≡ viewsRight (viewRest (f ∷ fs))
+  rest-right =
       ap partsRight (parted-at f fs two)
       ∙ go (usedUp (f .value, parted fs .0)) (viewShape (viewIn (f .value, parted fs .0))) (every usedUp (parted fs .1)) (every viewShape (map viewIn (parted fs .1)))
       (subst T (sym (shape-parted f fs)) (and-yes (eqb (f .tag) 2) (viewShape (viewIn (f .value, fs))) t .1))
@@ -79,14 +79,20 @@ module _ (f : Field) (fs : List Field) (t : T (viewRight (f ∷ fs))) where
       go true false a b h = absurd h
       go false v a b h = refl
 
-  pub views-more : views (f ∷ fs) ≡ 1 + views (viewRest (f ∷ fs))
-  views-more =
+  rest-fewer : views (f ∷ fs) ≡ 1 + views (viewRest (f ∷ fs))
+  rest-fewer =
       let a : views (f ∷ fs) ≡ 1 + length (parted fs .1) = ap (λ (p : Parts). length (p .1)) (parted-at f fs two) ∙ omega arith in
       let b : views (viewRest (f ∷ fs)) ≡ length (parted fs .1) = ap (λ (p : Parts). length (p .1)) (rest-behind fs) in
       omega (arith, a, b)
 
-first-right : (f : Field) (fs : List Field) → T (viewsRight (f ∷ fs)) → T (viewRight (f ∷ fs))
-first-right f fs t =
+-- those behind a right view decide, and are one less
+pub views-on : (fs : List Field) → T (viewRight fs) → (viewsRight fs ≡ viewsRight (viewRest fs)) × (views fs ≡ 1 + views (viewRest fs))
+views-on [] t = absurd t
+views-on (f ∷ fs) t = (rest-right f fs t, rest-fewer f fs t)
+
+pub first-right : (fs : List Field) → 1 ≤ length fs → T (viewsRight fs) → T (viewRight fs)
+first-right [] l t = absurd (omega arith)
+first-right (f ∷ fs) l t =
     eq-split (f .tag) 2
     (λ e.
     let ps : Parts = ([], (f .value, parted fs .0) ∷ parted fs .1) in
@@ -96,8 +102,7 @@ first-right f fs t =
     (λ n. absurd (subst (λ (p : Parts). T (partsRight p)) (parted-not f fs n) t))
 
 pub views-wrong : (fs : List Field) → 1 ≤ length fs → T (not (viewRight fs)) → T (not (viewsRight fs))
-views-wrong [] l h = absurd (omega arith)
-views-wrong (f ∷ fs) l h = not-T (viewsRight (f ∷ fs)) (λ t. T-not (viewRight (f ∷ fs)) (first-right f fs t) h)
+views-wrong fs l h = not-T (viewsRight fs) (λ t. T-not (viewRight fs) (first-right fs l t) h)
 
 -- ---- the sheet
 

@@ -3,12 +3,11 @@
 use mathlib.Core.Path.{_≡_, refl, sym, ap, ap₂, _∙_, subst}
 use Prim.Native.Nat.{ℕ, _+_, _*_, _≤_, _<_}
 use native.Mathlib.Omega.{arith}
-use mathlib.Core.Bool.{Bool, true, false, not}
+use mathlib.Core.Bool.{Bool}
 use mathlib.Core.List.{List, [], _∷_, _++_, append-nil, map}
 use lib.ListN.{length, length-append, getD, set, replicate}
 use lib.Seq.{append-snoc}
-use lib.Dec.{T, eqb}
-use mir.Facts.{and-yes, eqb-yes, T-not}
+use lib.Dec.{T}
 use Rattle.bits.specs.Codec.{Read, got, refused, next}
 use Rattle.bits.specs.CodecLaws.{encAlong, next-got}
 use Rattle.outcome.specs.Refusals.{badValue}
@@ -16,13 +15,13 @@ use Rattle.format.specs.View.{View, view}
 use Rattle.format.specs.Record.{tellSeen}
 use Rattle.format.specs.declared.Widths.{Widths}
 use Rattle.sheet.specs.Fields.{Field}
-use Rattle.sheet.specs.Grammar.{RawView, Parts, parted, viewIn, viewShape}
+use Rattle.sheet.specs.Grammar.{RawView, Parts, parted, viewIn}
 use Rattle.sheet.specs.Sheet.{viewsFrom}
 use Rattle.fields.specs.Fields.{FieldsAt}
 use Rattle.fields.proofs.Laws.{no-fields, some-fields}
 use Rattle.shape.specs.Shape.{viewRight, viewRest}
 use Rattle.shape.proofs.Laws.Parted.{parted-at, rest-behind, view-parted}
-use Rattle.shape.proofs.Laws.Views.{viewsRight, views, views-on, views-more, views-wrong}
+use Rattle.shape.proofs.Laws.Views.{view-tests, viewsRight, views, views-on, first-right}
 use Rattle.values.specs.View.{ViewThere, rawIn, ViewRight, ViewWrong, SizedIs}
 use Rattle.values.specs.declared.view.Sized.{Sized}
 use Rattle.heads.specs.Answers.{Seen}
@@ -36,21 +35,9 @@ raws fs = map viewIn (parted fs .1)
 raws-more : (fs : List Field) → T (viewRight fs) → raws fs ≡ rawIn fs ∷ raws (viewRest fs)
 raws-more [] t = absurd t
 raws-more (f ∷ fs) t =
-    let two : f .tag ≡ 2 = eqb-yes (and-yes (eqb (f .tag) 2) (viewShape (viewIn (f .value, fs))) t .0) in
-    let a : raws (f ∷ fs) ≡ viewIn (f .value, parted fs .0) ∷ map viewIn (parted fs .1) = ap (λ (p : Parts). map viewIn (p .1)) (parted-at f fs two) in
+    let a : raws (f ∷ fs) ≡ viewIn (f .value, parted fs .0) ∷ map viewIn (parted fs .1) = ap (λ (p : Parts). map viewIn (p .1)) (parted-at f fs (view-tests f fs t .tag)) in
     let b : raws (viewRest (f ∷ fs)) ≡ map viewIn (parted fs .1) = ap (λ (p : Parts). map viewIn (p .1)) (rest-behind fs) in
     a ∙ ap₂ (λ (x : RawView) (y : List RawView). x ∷ y) (view-parted fs (f .value)) (sym b)
-
-right-on : (fs : List Field) → T (viewRight fs) → (viewsRight fs ≡ viewsRight (viewRest fs)) × (views fs ≡ 1 + views (viewRest fs))
-right-on [] t = absurd t
-right-on (f ∷ fs) t = (views-on f fs t, views-more f fs t)
-
-first-right : (fs : List Field) → 1 ≤ length fs → T (viewsRight fs) → T (viewRight fs)
-first-right fs l t = go (viewRight fs) (views-wrong fs l)
-  where
-    go : (b : Bool) → (T (not b) → T (not (viewsRight fs))) → T b
-    go true u = tt
-    go false u = absurd (T-not (viewsRight fs) t (u tt))
 
 -- ---- what is read, with nothing left over
 
@@ -112,7 +99,7 @@ module _ {w : Widths} {s seen : List ℕ} {p n z : ℕ} {fs : List Field} (g : G
     next-view = record { stand = g .stand; right = next-right }
 
     pub one-more : views fs ≤ 255 → n < 255
-    one-more k = omega (arith, g .count, right-on (g .left) next-right .1)
+    one-more k = omega (arith, g .count, views-on (g .left) next-right .1)
 
     first-read : viewsFrom w (g .before) (raws (g .left)) ≡ viewsFrom w (g .before) (rawIn (g .left) ∷ raws (viewRest (g .left)))
     first-read = ap (viewsFrom w (g .before)) (raws-more (g .left) next-right)
@@ -120,7 +107,7 @@ module _ {w : Widths} {s seen : List ℕ} {p n z : ℕ} {fs : List Field} (g : G
     going-on : (v : Sized) → ViewRight w (g .before) (g .left) s v → v .position ≤ 10
         → Going w s (set seen (v .position) (getD seen (v .position) 0 + 1)) (v .end) (n + 1) (z + v .bytes) fs
     going-on v r k =
-        let (a, b) = right-on (g .left) next-right in
+        let (a, b) = views-on (g .left) next-right in
         let x : View = r .value in
         let e : viewsFrom w (g .before) (raws (g .left)) ≡ next (viewsFrom w (tellSeen (g .before) x) (raws (viewRest (g .left)))) (λ xs q. got (x ∷ xs) []) = first-read ∙ rw (r .reads) in
         record {
