@@ -23,7 +23,7 @@ use Rattle.sheet.specs.Sheet.{alike}
 use Rattle.shape.specs.Shape.{starts}
 use Rattle.worth.specs.Worth.{Right, Wrong}
 use Rattle.values.specs.Run.{lineLong, lineBits, Lines, RunWrong, RunRight, RightAre}
-use Rattle.values.proofs.Laws.Stand.{Next}
+use Rattle.values.proofs.Laws.Stand.{Held, Next}
 use Rattle.values.proofs.Laws.Run.{Going, going-first, going-all, going-wrong, going-on, its-right, one-more}
 
 -- ---- one line
@@ -59,8 +59,7 @@ lines-first w s a = record { count = 0; small = omega arith; on = omega arith; i
 pub record LineNext (w : Widths) (s : List ℕ) (a p z : ℕ) (g : LinesGoing w s a p z) (m : ℕ) : Type 0 where
   pub least : 12 ≤ m
   pub most : m ≤ 267
-  pub long : length (part s (p + 3) (p + 3 + m - (p + 3))) ≡ m
-  pub there : p + 3 + m ≤ length s
+  pub held : Held s p m
   pub few : g .count < 1024
   pub is : (fs : List Field) (h : Lines s a fs) → Next 3 s p m (g .is fs h .left)
 
@@ -73,8 +72,7 @@ module _ {w : Widths} {s : List ℕ} {a p z : ℕ} (g : LinesGoing w s a p z) wh
       record {
         least = omega (arith, within-low 12 267 (length v) t, N .size);
         most = omega (arith, within-high 12 267 (length v) t, N .size);
-        long = omega (arith, ap length (N .holds), N .size);
-        there = N .there;
+        held = N .held;
         few = omega (arith, one-more (g .is fs h) N, h .few);
         is = k;
       }
@@ -90,7 +88,7 @@ module _ {w : Widths} {s : List ℕ} {a p z : ℕ} (g : LinesGoing w s a p z) wh
 
     pub lines-on : Narrow w → Right (lineValue w) v (λ l. length (l .codes) ≡ length v - 12) → LinesGoing w s a (p + 3 + m) (z + counted w (m - 12))
     lines-on n r =
-        let e : length (r .value .codes) ≡ m - 12 = omega (arith, r .known, N .long) in
+        let e : length (r .value .codes) ≡ m - 12 = omega (arith, r .known, N .held .long) in
         record {
           count = g .count + 1;
           small = omega (arith, g .small, counted-few w (m - 12) n (omega (arith, N .most)));

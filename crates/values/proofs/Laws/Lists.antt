@@ -20,7 +20,7 @@ use Rattle.sheet.specs.Values.{listValue}
 use Rattle.shape.specs.Shape.{starts}
 use Rattle.worth.specs.Worth.{Right, Wrong}
 use Rattle.values.specs.Run.{listLong, listBits, Lists, RunWrong, RunRight, RightAre}
-use Rattle.values.proofs.Laws.Stand.{Next}
+use Rattle.values.proofs.Laws.Stand.{Held, Next}
 use Rattle.values.proofs.Laws.Run.{Going, going-first, going-all, going-wrong, going-on, its-right, one-more}
 
 -- of n neighbours
@@ -41,8 +41,7 @@ lists-first w s a = record { small = omega arith; on = omega arith; is = λ fs h
 pub record ListNext (w : ℕ) (s : List ℕ) (a p l z : ℕ) (g : ListsGoing w s a p l z) (m : ℕ) : Type 0 where
   pub even : m % 2 ≡ 0
   pub most : m ≤ 65534
-  pub long : length (part s (p + 3) (p + 3 + m - (p + 3))) ≡ m
-  pub there : p + 3 + m ≤ length s
+  pub held : Held s p m
   pub few : l < 1024
   pub is : (fs : List Field) (h : Lists s a fs) → Next 5 s p m (g .is fs h .left)
 
@@ -55,8 +54,7 @@ module _ {w : ℕ} {s : List ℕ} {a p l z : ℕ} (g : ListsGoing w s a p l z) w
       record {
         even = d;
         most = omega (arith, N .short);
-        long = omega (arith, ap length (N .holds), N .size);
-        there = N .there;
+        held = N .held;
         few = omega (arith, one-more (g .is fs h) N, h .few);
         is = k;
       }
@@ -77,7 +75,7 @@ module _ {w : ℕ} {s : List ℕ} {a p l z : ℕ} (g : ListsGoing w s a p l z) w
 
     pub lists-on : w ≤ 16 → Right (listValue w l) v (λ ns. length ns ≡ length v / 2) → ListsGoing w s a (p + 3 + m) (l + 1) (z + (w + w * (m / 2)))
     lists-on n r =
-        let e : m / 2 ≡ length (r .value) = ap (λ (k : ℕ). k / 2) (sym (N .long)) ∙ sym (r .known) in
+        let e : m / 2 ≡ length (r .value) = ap (λ (k : ℕ). k / 2) (sym (N .held .long)) ∙ sym (r .known) in
         record {
           small = omega (arith, g .small, lists-small n .0);
           on = omega (arith, g .on);

@@ -63,27 +63,27 @@ two-at-requires c κs =
 
 add-from : tie.Need-add-from Inv-loop μ-loop
 add-from c =
-    omega (arith, here (c) .there)
+    omega (arith, here (c) .held .there)
 
 add-end : tie.Need-add-end Inv-loop μ-loop
 add-end c =
-    omega (arith, here (c) .there)
+    omega (arith, here (c) .held .there)
 
 sub-value : tie.Need-sub-value Inv-loop μ-loop
 sub-value c =
-    omega (arith, here (c) .there)
+    omega (arith, here (c) .held .there)
 
 part-value-start : tie.Need-part-value-start Inv-loop μ-loop
 part-value-start c =
-    omega (arith, here (c) .there)
+    omega (arith, here (c) .held .there)
 
 part-value-end : tie.Need-part-value-end Inv-loop μ-loop
 part-value-end c =
-    omega (arith, here (c) .there)
+    omega (arith, here (c) .held .there)
 
 line-value-requires : tie.Need-line-value-requires Inv-loop μ-loop
 line-value-requires c κs =
-    let N = here (c .before) in let n = c .before .before .before .before .before .before .before .before .pre .1 in (omega (arith, N .least, N .long), omega (arith, N .most, N .long), n .c, n .b, n .low, n .k)
+    let N = here (c .before) in let n = c .before .before .before .before .before .before .before .before .pre .1 in (omega (arith, N .least, N .held .long), omega (arith, N .most, N .held .long), n .c, n .b, n .low, n .k)
 
 returns : tie.Need-returns Inv-loop μ-loop
 returns c =
@@ -111,7 +111,7 @@ add-bits-3 c =
 
 loop-less : tie.Need-loop-less Inv-loop μ-loop
 loop-less c =
-    omega (arith, here (c .before .before .before .before) .there)
+    omega (arith, here (c .before .before .before .before) .held .there)
 
 loop-again : tie.Need-loop-again Inv-loop μ-loop
 loop-again c =

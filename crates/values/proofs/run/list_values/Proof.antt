@@ -48,27 +48,27 @@ two-at-requires c κs =
 
 add-from : tie.Need-add-from Inv-loop μ-loop
 add-from c =
-    omega (arith, here (c) .there)
+    omega (arith, here (c) .held .there)
 
 add-end : tie.Need-add-end Inv-loop μ-loop
 add-end c =
-    omega (arith, here (c) .there)
+    omega (arith, here (c) .held .there)
 
 sub-value : tie.Need-sub-value Inv-loop μ-loop
 sub-value c =
-    omega (arith, here (c) .there)
+    omega (arith, here (c) .held .there)
 
 part-value-start : tie.Need-part-value-start Inv-loop μ-loop
 part-value-start c =
-    omega (arith, here (c) .there)
+    omega (arith, here (c) .held .there)
 
 part-value-end : tie.Need-part-value-end Inv-loop μ-loop
 part-value-end c =
-    omega (arith, here (c) .there)
+    omega (arith, here (c) .held .there)
 
 list-value-requires : tie.Need-list-value-requires Inv-loop μ-loop
 list-value-requires c κs =
-    let N = here (c .before) in (ap (λ (n : ℕ). n % 2) (N .long) ∙ N .even, omega (arith, N .most, N .long), c .before .before .before .before .before .before .pre .1, N .few)
+    let N = here (c .before) in (ap (λ (n : ℕ). n % 2) (N .held .long) ∙ N .even, omega (arith, N .most, N .held .long), c .before .before .before .before .before .before .pre .1, N .few)
 
 returns : tie.Need-returns Inv-loop μ-loop
 returns c =
@@ -92,7 +92,7 @@ add-l c =
 
 loop-less : tie.Need-loop-less Inv-loop μ-loop
 loop-less c =
-    omega (arith, here (c .before .before .before) .there)
+    omega (arith, here (c .before .before .before) .held .there)
 
 loop-again : tie.Need-loop-again Inv-loop μ-loop
 loop-again c =

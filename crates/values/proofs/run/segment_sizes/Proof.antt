@@ -47,23 +47,23 @@ two-at-requires c κs =
 
 add-bytes : tie.Need-add-bytes Inv-loop μ-loop
 add-bytes c =
-    let N = here (c) (c .before .before .before .before .before .pre .value) (c .before .before .before .before .before .pre .holds) in omega (arith, N .there, N .short, c .before .before .before .loop .inv .0)
+    let N = here (c) (c .before .before .before .before .before .pre .value) (c .before .before .before .before .before .pre .holds) in omega (arith, N .held .there, N .short, c .before .before .before .loop .inv .0)
 
 add-bytes-2 : tie.Need-add-bytes-2 Inv-loop μ-loop
 add-bytes-2 c =
-    let N = here (c) (c .before .before .before .before .before .pre .value) (c .before .before .before .before .before .pre .holds) in omega (arith, N .there, N .short, c .before .before .before .loop .inv .0)
+    let N = here (c) (c .before .before .before .before .before .pre .value) (c .before .before .before .before .before .pre .holds) in omega (arith, N .held .there, N .short, c .before .before .before .loop .inv .0)
 
 add-end : tie.Need-add-end Inv-loop μ-loop
 add-end c =
-    let N = here (c) (c .before .before .before .before .before .pre .value) (c .before .before .before .before .before .pre .holds) in omega (arith, N .there, N .short, c .before .before .before .loop .inv .0)
+    let N = here (c) (c .before .before .before .before .before .pre .value) (c .before .before .before .before .before .pre .holds) in omega (arith, N .held .there, N .short, c .before .before .before .loop .inv .0)
 
 add-end-2 : tie.Need-add-end-2 Inv-loop μ-loop
 add-end-2 c =
-    let N = here (c) (c .before .before .before .before .before .pre .value) (c .before .before .before .before .before .pre .holds) in omega (arith, N .there, N .short, c .before .before .before .loop .inv .0)
+    let N = here (c) (c .before .before .before .before .before .pre .value) (c .before .before .before .before .before .pre .holds) in omega (arith, N .held .there, N .short, c .before .before .before .loop .inv .0)
 
 loop-less : tie.Need-loop-less Inv-loop μ-loop
 loop-less c =
-    let N = here (c) (c .before .before .before .before .before .pre .value) (c .before .before .before .before .before .pre .holds) in omega (arith, N .there, N .short, c .before .before .before .loop .inv .0)
+    let N = here (c) (c .before .before .before .before .before .pre .value) (c .before .before .before .before .before .pre .holds) in omega (arith, N .held .there, N .short, c .before .before .before .loop .inv .0)
 
 loop-again : tie.Need-loop-again Inv-loop μ-loop
 loop-again c =
