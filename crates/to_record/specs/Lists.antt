@@ -44,15 +44,18 @@ pub record ListsPut (w lines : ℕ) (s : List ℕ) (a : ℕ) (old : List ℕ) (a
 
 -- ---- the index of a view with so many lines: nothing, or a field 04 and its lists
 
+pub record IndexAt (lines : ℕ) (s : List ℕ) (a : ℕ) (o : Option Index) (rest : List ℕ) : Type 0 where
+  pub is : drop a s ≡ indexBytes o ++ rest
+  pub behind : Other 4 rest × Other 5 rest
+  pub fits : indexBlock lines .Fits o
+
 pub record IndexThere (lines : ℕ) (s : List ℕ) (a : ℕ) (out : List ℕ) : Type 0 where
   pub few : lines ≤ 1024
   pub value : Option Index
   pub rest : List ℕ
-  pub is : drop a s ≡ indexBytes value ++ rest
-  pub behind : Other 4 rest × Other 5 rest
-  pub fits : indexBlock lines .Fits value
+  pub at : IndexAt lines s a value rest
   pub room : Room out 0 (length (indexBlock lines .enc value))
 
 pub record IndexPut (lines : ℕ) (s : List ℕ) (a : ℕ) (before after : List ℕ) (r : Done) : Type 0 where
-  pub is : (o : Option Index) (rest : List ℕ) → drop a s ≡ indexBytes o ++ rest → Other 4 rest × Other 5 rest → indexBlock lines .Fits o
+  pub is : (o : Option Index) (rest : List ℕ) → IndexAt lines s a o rest
       → Laid (inBytes (indexBlock lines .enc o)) before after (r .bytes) × (drop (r .next) s ≡ rest)

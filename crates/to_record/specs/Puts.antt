@@ -63,14 +63,17 @@ pub record LinePut (w : Widths) (s old : List ℕ) (at : ℕ) (now : List ℕ) (
 
 -- ---- the lines: fields 03 from byte a of the sheet s on
 
+pub record LinesAt (w : Widths) (s : List ℕ) (a : ℕ) (ls : List Line) (rest : List ℕ) : Type 0 where
+  pub run : RunAt 3 (lineHeld (w .k)) s a ls rest
+  pub fits : All (FitsLine w) ls
+
 pub record LinesThere (w : Widths) (s : List ℕ) (a : ℕ) (out : List ℕ) : Type 0 where
   pub narrow : Narrow w
   pub value : List Line
   pub rest : List ℕ
-  pub run : RunAt 3 (lineHeld (w .k)) s a value rest
-  pub fits : All (FitsLine w) value
+  pub at : LinesAt w s a value rest
   pub room : Room out 0 (total (λ l. length (line w .enc l)) value)
 
 pub record LinesPut (w : Widths) (s : List ℕ) (a : ℕ) (before after : List ℕ) (r : Lines) : Type 0 where
-  pub is : (ls : List Line) (rest : List ℕ) → RunAt 3 (lineHeld (w .k)) s a ls rest → All (FitsLine w) ls
+  pub is : (ls : List Line) (rest : List ℕ) → LinesAt w s a ls rest
       → Laid (inBytes (filled (encAll (line w) ls))) before after (r .bytes) × (r .count ≡ length ls) × (drop (r .next) s ≡ rest)

@@ -13,11 +13,11 @@ use Rattle.format.specs.Segments.{Segment, FitsSegment, segments}
 use Rattle.format.specs.View.{View}
 use Rattle.format.specs.declared.Widths.{Widths}
 use Rattle.format.specs.Record.{Narrow}
-use Rattle.to_sheet.specs.Bytes.{indexBytes, viewBytes}
+use Rattle.to_sheet.specs.Bytes.{viewBytes}
 use Rattle.locate.specs.Stored.{sizedOut, viewOut}
-use Rattle.to_record.specs.Run.{Other, RunAt}
-use Rattle.to_record.specs.Puts.{lineHeld}
-use Rattle.to_record.specs.Outs.{segmentHeld}
+use Rattle.to_record.specs.Puts.{LinesAt}
+use Rattle.to_record.specs.Lists.{IndexAt}
+use Rattle.to_record.specs.Outs.{SegmentsAt}
 use Rattle.to_record.specs.declared.Done.{Done}
 use Rattle.to_record.specs.declared.line.Lines.{Lines}
 
@@ -27,13 +27,12 @@ pub record SkeletonThere (w : Widths) (s : List ℕ) (a : ℕ) (out : List ℕ) 
   pub narrow : Narrow w
   pub value : List Line
   pub rest : List ℕ
-  pub run : RunAt 3 (lineHeld (w .k)) s a value rest
-  pub fits : All (FitsLine w) value
+  pub at : LinesAt w s a value rest
   pub small : length (inBytes (skeleton w .enc value)) < 65536
   pub room : 2 + length (inBytes (skeleton w .enc value)) ≤ length out
 
 pub record SkeletonOut (w : Widths) (s : List ℕ) (a : ℕ) (before after : List ℕ) (r : Lines) : Type 0 where
-  pub is : (ls : List Line) (rest : List ℕ) → RunAt 3 (lineHeld (w .k)) s a ls rest → All (FitsLine w) ls
+  pub is : (ls : List Line) (rest : List ℕ) → LinesAt w s a ls rest
       → Laid (sizedOut (skeleton w) ls) before after (r .bytes) × (r .count ≡ length ls) × (drop (r .next) s ≡ rest)
 
 -- ---- the index block: nothing, or fields 04 and 05
@@ -42,14 +41,12 @@ pub record IndexSizedThere (lines : ℕ) (s : List ℕ) (a : ℕ) (out : List �
   pub few : lines ≤ 1024
   pub value : Option Index
   pub rest : List ℕ
-  pub is : drop a s ≡ indexBytes value ++ rest
-  pub behind : Other 4 rest × Other 5 rest
-  pub fits : indexBlock lines .Fits value
+  pub at : IndexAt lines s a value rest
   pub small : length (inBytes (indexBlock lines .enc value)) < 65536
   pub room : 2 + length (inBytes (indexBlock lines .enc value)) ≤ length out
 
 pub record IndexSized (lines : ℕ) (s : List ℕ) (a : ℕ) (before after : List ℕ) (r : Done) : Type 0 where
-  pub is : (o : Option Index) (rest : List ℕ) → drop a s ≡ indexBytes o ++ rest → Other 4 rest × Other 5 rest → indexBlock lines .Fits o
+  pub is : (o : Option Index) (rest : List ℕ) → IndexAt lines s a o rest
       → Laid (sizedOut (indexBlock lines) o) before after (r .bytes) × (drop (r .next) s ≡ rest)
 
 -- ---- the extended block: fields 06
@@ -57,13 +54,12 @@ pub record IndexSized (lines : ℕ) (s : List ℕ) (a : ℕ) (before after : Lis
 pub record SegmentsSizedThere (s : List ℕ) (a : ℕ) (out : List ℕ) : Type 0 where
   pub value : List Segment
   pub rest : List ℕ
-  pub run : RunAt 6 segmentHeld s a value rest
-  pub fits : All FitsSegment value
+  pub at : SegmentsAt s a value rest
   pub small : length (inBytes (segments .enc value)) < 65536
   pub room : 2 + length (inBytes (segments .enc value)) ≤ length out
 
 pub record SegmentsSized (s : List ℕ) (a : ℕ) (before after : List ℕ) (r : Done) : Type 0 where
-  pub is : (gs : List Segment) (rest : List ℕ) → RunAt 6 segmentHeld s a gs rest → All FitsSegment gs
+  pub is : (gs : List Segment) (rest : List ℕ) → SegmentsAt s a gs rest
       → Laid (sizedOut segments gs) before after (r .bytes) × (drop (r .next) s ≡ rest)
 
 -- ---- the view whose field 02 is at byte a of the sheet s; behind it is another view, or nothing

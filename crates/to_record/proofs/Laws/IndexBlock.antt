@@ -22,7 +22,7 @@ use Rattle.puts.proofs.Laws.{put-none, put-laid}
 use Rattle.to_sheet.specs.Bytes.{listBytes, indexBytes}
 use Rattle.to_record.specs.Run.{Other, fieldOf, RunAt}
 use Rattle.puts.specs.Put.{Room}
-use Rattle.to_record.specs.Lists.{ListsPut, IndexThere, IndexPut}
+use Rattle.to_record.specs.Lists.{ListsPut, IndexAt, IndexThere, IndexPut}
 use Rattle.to_record.specs.declared.Done.{Done}
 
 -- ---- whether there is one
@@ -59,22 +59,22 @@ lists-small : (w l : ℕ) (nss : List (List ℕ)) → l + length nss ≤ 1024 �
 lists-small w l [] n f = tt
 lists-small w l (ns ∷ nss) n f = (omega (arith, twos-length ns, falls-count 0 l ns (omega arith) (f .0 .falls)), lists-small w (suc l) nss (omega arith) (f .1))
 
-module _ (lines : ℕ) (few : lines ≤ 1024) (s : List ℕ) (a : ℕ) (rest : List ℕ) (i : Index) (e : drop a s ≡ indexBytes (some i) ++ rest) (other : Other 5 rest) (f : indexBlock lines .Fits (some i)) where
-  pub index-fits : FitsIndex lines i
-  index-fits = fits-in lines i f
+module _ {lines : ℕ} {s : List ℕ} {a : ℕ} {i : Index} {rest : List ℕ} (h : IndexAt lines s a (some i) rest) where
+  index-fits : FitsIndex lines i
+  index-fits = fits-in lines i (h .fits)
 
-  pub index-there : a + 4 ≤ length s
-  index-there = omega (arith, length-drop a s, ap length e)
+  index-there : a + 4 ≤ length s
+  index-there = omega (arith, length-drop a s, ap length (h .is))
 
-  pub width-at : getD s (a + 3) 0 ≡ i .width
-  width-at = sym (getD-drop a s 3 0) ∙ ap (λ (xs : List ℕ). getD xs 3 0) e
+  width-at : getD s (a + 3) 0 ≡ i .width
+  width-at = sym (getD-drop a s 3 0) ∙ ap (λ (xs : List ℕ). getD xs 3 0) (h .is)
 
-  pub lists-at : RunAt 5 (joined two) s (a + 4) (i .lists) rest
-  lists-at =
+  lists-at : lines ≤ 1024 → RunAt 5 (joined two) s (a + 4) (i .lists) rest
+  lists-at few =
       record {
-        is = sym (drop-drop 4 a s) ∙ ap (drop 4) e ∙ ap (λ (xs : List ℕ). xs ++ rest) (lists-fields (i .lists));
+        is = sym (drop-drop 4 a s) ∙ ap (drop 4) (h .is) ∙ ap (λ (xs : List ℕ). xs ++ rest) (lists-fields (i .lists));
         small = lists-small (i .width) 0 (i .lists) (omega (arith, index-fits .count)) (index-fits .lists);
-        other = other;
+        other = h .behind .1;
       }
 
 none-enc : (lines : ℕ) → indexBlock lines .enc none ≡ []
@@ -96,9 +96,9 @@ pub index-none : {lines : ℕ} {s : List ℕ} {a : ℕ} {before : List ℕ} → 
 unfolding bytesOf
 index-none {lines} {s} {a} {before} k =
     record {
-      is = λ o rest e h f.
-          let z = no-index s a rest o e k in
-          (rw (z, none-enc lines) (nothing before), e ∙ ap (λ (o : Option Index). indexBytes o ++ rest) z);
+      is = λ o rest h.
+          let z = no-index s a rest o (h .is) k in
+          (rw (z, none-enc lines) (nothing before), h .is ∙ ap (λ (o : Option Index). indexBytes o ++ rest) z);
     }
   where
     nothing : (before : List ℕ) → Laid (inBytes []) before before 0
@@ -108,13 +108,12 @@ pub index-some : {lines : ℕ} {s : List ℕ} {a : ℕ} {before mid now : List �
     → PutMore before 0 w 8 mid p → ListsPut w lines s (a + 4) mid p now r → IndexPut lines s a before now r
 index-some {lines} {s} {a} {before} {w = w} few l t e h L =
     record {
-      is = λ o rest d other f.
-          an-index s a rest o d (other .0) l t λ i z.
-          let d′ = d ∙ ap (λ (o : Option Index). indexBytes o ++ rest) z in
-          let f′ = rw z at f in
-          let I = index-fits lines few s a rest i d′ (other .1) f′ in
-          let x : w ≡ i .width = e ∙ width-at lines few s a rest i d′ (other .1) f′ in
-          let (q, P, n, y) = rw x at L .is (i .lists) rest (lists-at lines few s a rest i d′ (other .1) f′) (I .count) (I .lists) in
+      is = λ o rest j.
+          an-index s a rest o (j .is) (j .behind .0) l t λ i z.
+          let I = rw z at j in
+          let F = index-fits I in
+          let x : w ≡ i .width = e ∙ width-at I in
+          let (q, P, n, y) = rw x at L .is (i .lists) rest (lists-at I few) (F .count) (F .lists) in
           let b = P .is _ before (rw x at h .is [] before (put-none before)) in
           (rw (z, index-enc lines i) (put-laid b n), y);
     }
@@ -132,16 +131,14 @@ pub record IndexHere (lines : ℕ) (s : List ℕ) (a : ℕ) (out : List ℕ) : T
 
 pub index-here : {lines : ℕ} {s : List ℕ} {a : ℕ} {out : List ℕ} → IndexThere lines s a out → a < length s → getD s a 0 ≡ 4 → IndexHere lines s a out
 index-here {lines} {s} {a} {out} h l t =
-    an-index s a (h .rest) (h .value) (h .is) (h .behind .0) l t λ i z.
-    let d = h .is ∙ ap (λ (o : Option Index). indexBytes o ++ h .rest) z in
-    let f = rw z at (h .fits) in
-    let o = h .behind .1 in
+    an-index s a (h .rest) (h .value) (h .at .is) (h .at .behind .0) l t λ i z.
+    let I = rw z at (h .at) in
     record {
       value = i;
       rest = h .rest;
-      fits = index-fits lines (h .few) s a (h .rest) i d o f;
-      there = index-there lines (h .few) s a (h .rest) i d o f;
-      width = width-at lines (h .few) s a (h .rest) i d o f;
-      lists = lists-at lines (h .few) s a (h .rest) i d o f;
+      fits = index-fits I;
+      there = index-there I;
+      width = width-at I;
+      lists = lists-at I (h .few);
       room = index-room lines i (rw z at (h .room));
     }

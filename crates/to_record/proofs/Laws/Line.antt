@@ -6,7 +6,7 @@ use native.Mathlib.Omega.{arith}
 use mathlib.Core.List.{List, [], _∷_, map}
 use lib.ListN.{length, take, drop, getD, length-append, length-map}
 use lib.Seq.{take-all}
-use Rattle.bits.specs.Lists.{All, total}
+use Rattle.bits.specs.Lists.{total}
 use Rattle.bits.specs.ListsLaws.{total-append}
 use Rattle.bits.specs.CodecLaws.{encAll, field}
 use Rattle.bits.proofs.Laws.Parts.{part}
@@ -20,9 +20,8 @@ use Rattle.locate.specs.Stands.{endBits}
 use Rattle.locate.proofs.Laws.Line.{end-long, codes-long, line-bits}
 use Rattle.locate.proofs.Laws.Lists.{all-long}
 use Rattle.to_sheet.specs.Bytes.{endBytes}
-use Rattle.to_record.specs.Run.{RunAt}
 use Rattle.puts.specs.Put.{Puts, Room}
-use Rattle.to_record.specs.Puts.{EndPut, CodesPut, lineHeld, LinePut, LinesPut}
+use Rattle.to_record.specs.Puts.{EndPut, CodesPut, lineHeld, LinePut, LinesAt, LinesPut}
 use Rattle.puts.proofs.Chain.{puts-one, _then_, enc-snoc}
 use Rattle.to_record.proofs.Laws.Run.{FieldNext, run-next, Going, going-first, going-fits, going-next, going-ends}
 
@@ -81,10 +80,10 @@ GoingOn w s p before now at n ls rest = Going 3 (lineHeld (w .k)) (FitsLine w) (
 
 -- whatever lines they are
 abbrev pub LinesGoing : Widths → List ℕ → ℕ → List ℕ → ℕ → List ℕ → ℕ → ℕ → Type 0
-LinesGoing w s a before p now at n = (ls : List Line) (rest : List ℕ) → RunAt 3 (lineHeld (w .k)) s a ls rest → All (FitsLine w) ls → GoingOn w s p before now at n ls rest
+LinesGoing w s a before p now at n = (ls : List Line) (rest : List ℕ) → LinesAt w s a ls rest → GoingOn w s p before now at n ls rest
 
 pub lines-first : (w : Widths) (s : List ℕ) (a : ℕ) (before : List ℕ) → LinesGoing w s a before a before 0 0
-lines-first w s a before ls rest r f = going-first r f (put-none before, refl)
+lines-first w s a before ls rest h = going-first (h .run) (h .fits) (put-none before, refl)
 
 module _ (w : Widths) {s : List ℕ} {p : ℕ} (l : p < length s) (t : getD s p 0 ≡ 3) where
   module _ {before now : List ℕ} {at n : ℕ} {ls : List Line} {rest : List ℕ} (g : GoingOn w s p before now at n ls rest) where
@@ -111,8 +110,8 @@ module _ (w : Widths) {s : List ℕ} {p : ℕ} (l : p < length s) (t : getD s p 
 
   pub lines-next : {a : ℕ} {before now now′ : List ℕ} {at n m r : ℕ} → LinesGoing w s a before p now at n → m ≡ getD s (p + 1) 0 * 256 + getD s (p + 1 + 1) 0
       → LinePut w (part s (p + 3) (p + 3 + m - (p + 3))) now at now′ r → LinesGoing w s a before (p + 3 + m) now′ r (n + 1)
-  lines-next {before = before} {m = m} G e h ls rest run f =
-      let g = G ls rest run f in
+  lines-next {before = before} {m = m} G e h ls rest x =
+      let g = G ls rest x in
       let N = line-here g in
       let z : m ≡ length (lineHeld (w .k) (N .one)) = e ∙ N .size in
       let k = h .is (N .one) (line-fits g) (line-held g e) .is (encAll (line w) (g .done)) before (g .holds .0) in
@@ -131,7 +130,7 @@ pub lines-end : (w : Widths) {s : List ℕ} {a : ℕ} {before now : List ℕ} {p
     → LinesPut w s a before now (record { next = p; count = n; bytes = (at + 7) / 8 })
 lines-end w G k =
     record {
-      is = λ ls rest r f.
-          let (h, e) = going-ends (G ls rest r f) k in
+      is = λ ls rest x.
+          let (h, e) = going-ends (G ls rest x) k in
           (put-laid (h .0) refl, h .1, e);
     }

@@ -4,7 +4,7 @@ use Prim.Native.Nat.{ℕ, _+_, _-_, _*_, _≤_, _<_}
 use native.Mathlib.Omega.{arith}
 use mathlib.Core.List.{List, _++_}
 use lib.ListN.{length, take, drop, getD}
-use Rattle.bits.specs.Lists.{All, total}
+use Rattle.bits.specs.Lists.{total}
 use Rattle.bits.specs.ListsLaws.{total-append}
 use Rattle.bits.proofs.Laws.Parts.{part}
 use Rattle.lay.specs.Laid.{Laid}
@@ -13,8 +13,7 @@ use Rattle.lay.proofs.Laws.{laid-none, laid-next, joined-snoc, lent, back}
 use Rattle.format.specs.Segments.{Segment, FitsSegment}
 use Rattle.to_sheet.proofs.Laws.Sizes.{joined-size}
 use Rattle.locate.specs.Finds.{segmentStored}
-use Rattle.to_record.specs.Run.{RunAt}
-use Rattle.to_record.specs.Outs.{segmentHeld, SegmentsOut}
+use Rattle.to_record.specs.Outs.{segmentHeld, SegmentsAt, SegmentsOut}
 use Rattle.to_record.proofs.Laws.Run.{FieldNext, run-next, Going, going-first, going-fits, going-next, going-ends}
 
 -- those of the segments gs that the loop has passed are laid
@@ -23,10 +22,10 @@ GoingOn s p before now at gs rest = Going 6 segmentHeld FitsSegment (λ done. La
 
 -- whatever segments they are
 abbrev pub SegmentsGoing : List ℕ → ℕ → List ℕ → ℕ → List ℕ → ℕ → Type 0
-SegmentsGoing s a before p now at = (gs : List Segment) (rest : List ℕ) → RunAt 6 segmentHeld s a gs rest → All FitsSegment gs → GoingOn s p before now at gs rest
+SegmentsGoing s a before p now at = (gs : List Segment) (rest : List ℕ) → SegmentsAt s a gs rest → GoingOn s p before now at gs rest
 
 pub segments-first : (s : List ℕ) (a : ℕ) (before : List ℕ) → SegmentsGoing s a before a before 0
-segments-first s a before gs rest r f = going-first r f (laid-none before)
+segments-first s a before gs rest h = going-first (h .run) (h .fits) (laid-none before)
 
 stored-long : (g : Segment) → length (segmentStored g) ≡ 4 + length (g .payload)
 stored-long g = omega arith
@@ -71,12 +70,12 @@ module _ {s : List ℕ} {p : ℕ} (l : p < length s) (t : getD s p 0 ≡ 6) wher
   pub segments-next : {a : ℕ} {before now ys : List ℕ} {at n m : ℕ} → SegmentsGoing s a before p now at → n ≡ getD s (p + 1) 0 * 256 + getD s (p + 1 + 1) 0
       → Laid ((take 2 (part s (p + 3) (p + 3 + n - (p + 3))) ++ two (length (part s (p + 3) (p + 3 + n - (p + 3))) + 2)) ++ drop 2 (part s (p + 3) (p + 3 + n - (p + 3)))) (lent now at) ys m
       → SegmentsGoing s a before (p + 3 + n) (back now at ys) (at + m)
-  segments-next {n = n} G e h gs rest r f =
-      let g = G gs rest r f in
+  segments-next {n = n} G e h gs rest x =
+      let g = G gs rest x in
       let N = segment-here g in
       let z : n ≡ length (segmentHeld (N .one)) = e ∙ N .size in
       rw z (going-next g N (rw (joined-snoc segmentStored (g .done) (N .one)) (laid-next (g .holds) (segment-laid g e h))))
 
 pub segments-end : {s : List ℕ} {a : ℕ} {before now : List ℕ} {p at : ℕ} → SegmentsGoing s a before p now at → (p < length s → getD s p 0 ≡ 6 → ⊥)
     → SegmentsOut s a before now (record { next = p; bytes = at })
-segments-end G k = record { is = λ gs rest r f. going-ends (G gs rest r f) k }
+segments-end G k = record { is = λ gs rest x. going-ends (G gs rest x) k }

@@ -27,8 +27,9 @@ use Rattle.to_sheet.proofs.Laws.Sizes.{joined-size}
 use Rattle.to_sheet.specs.Bytes.{lineBytes, indexBytes, segmentBytes, viewBytes}
 use Rattle.locate.specs.Finds.{segmentStored}
 use Rattle.to_record.specs.Run.{Other, fieldOf, RunAt}
-use Rattle.to_record.specs.Puts.{lineHeld}
-use Rattle.to_record.specs.Outs.{segmentHeld}
+use Rattle.to_record.specs.Puts.{lineHeld, LinesAt}
+use Rattle.to_record.specs.Outs.{segmentHeld, SegmentsAt}
+use Rattle.to_record.specs.Lists.{IndexAt}
 use Rattle.to_record.specs.Views.{SkeletonOut, IndexSized, SegmentsSized, NextView, RightView}
 use Rattle.locate.specs.Stored.{headBytes, sizedOut, viewOut}
 use Rattle.to_record.specs.declared.Done.{Done}
@@ -120,27 +121,33 @@ module _ (w : Widths) (s : List ℕ) (a : ℕ) (v : View) (rest : List ℕ) (e :
   pub head-at : take 8 (drop (a + 3) s) ≡ headBytes (v .head)
   head-at = ap (take 8) (sym (drop-drop 3 a s) ∙ ap (drop 3) view-is)
 
-  pub lines-at : RunAt 3 (lineHeld (w .k)) s (a + 11) (v .lines) behindLines
-  lines-at =
+  lines-run : RunAt 3 (lineHeld (w .k)) s (a + 11) (v .lines) behindLines
+  lines-run =
       record {
         is = sym (drop-drop 11 a s) ∙ ap (drop 11) view-is ∙ ap (λ (x : List ℕ). x ++ behindLines) (lines-fields (w .k) (v .lines));
         small = lines-small w (v .lines) (r .lines);
         other = index-other (v .index) (v .segments) rest n;
       }
 
-  pub index-behind : Other 4 (joined segmentBytes (v .segments) ++ rest) × Other 5 (joined segmentBytes (v .segments) ++ rest)
+  pub lines-at : LinesAt w s (a + 11) (v .lines) behindLines
+  lines-at = record { run = lines-run; fits = r .lines }
+
+  index-behind : Other 4 (joined segmentBytes (v .segments) ++ rest) × Other 5 (joined segmentBytes (v .segments) ++ rest)
   index-behind = (
     segments-other 4 (v .segments) rest (λ z. absurd (omega arith)) (λ z. absurd (omega arith)) n,
     segments-other 5 (v .segments) rest (λ z. absurd (omega arith)) (λ z. absurd (omega arith)) n,
   )
 
-  pub segments-at : {q : ℕ} → drop q s ≡ joined segmentBytes (v .segments) ++ rest → RunAt 6 segmentHeld s q (v .segments) rest
-  segments-at d =
+  segments-run : {q : ℕ} → drop q s ≡ joined segmentBytes (v .segments) ++ rest → RunAt 6 segmentHeld s q (v .segments) rest
+  segments-run d =
       record {
         is = d ∙ ap (λ (x : List ℕ). x ++ rest) (segments-fields (v .segments));
         small = segments-small (v .segments) (r .extended);
         other = next-other 6 rest (λ z. absurd (omega arith)) n;
       }
+
+  pub segments-at : {q : ℕ} → drop q s ≡ joined segmentBytes (v .segments) ++ rest → SegmentsAt s q (v .segments) rest
+  segments-at d = record { run = segments-run d; fits = r .extended }
 
   -- ---- what the writers leave, one behind the other
 
@@ -153,20 +160,20 @@ module _ (w : Widths) (s : List ℕ) (a : ℕ) (v : View) (rest : List ℕ) (e :
 
     module _ {o2 : List ℕ} {x : Lines} (S : SkeletonOut w s (a + 11) (lent o1 h) o2 x) where
       pub lines-laid : Laid (sizedOut (skeleton w) (v .lines)) (lent o1 h) o2 (x .bytes) × (x .count ≡ length (v .lines)) × (drop (x .next) s ≡ behindLines)
-      lines-laid = S .is (v .lines) behindLines lines-at (r .lines)
+      lines-laid = S .is (v .lines) behindLines lines-at
 
-      pub index-right : indexBlock (x .count) .Fits (v .index)
-      index-right = rw (lines-laid .1) (r .index)
+      pub index-at : IndexAt (x .count) s (x .next) (v .index) (joined segmentBytes (v .segments) ++ rest)
+      index-at = record { is = lines-laid .2; behind = index-behind; fits = rw (lines-laid .1) (r .index) }
 
       module _ {o3 : List ℕ} {y : Done} (I : IndexSized (x .count) s (x .next) (lent (back o1 h o2) (h + x .bytes)) o3 y) where
         pub index-laid : Laid (sizedOut (indexBlock (length (v .lines))) (v .index)) (lent (back o1 h o2) (h + x .bytes)) o3 (y .bytes) × (drop (y .next) s ≡ joined segmentBytes (v .segments) ++ rest)
         index-laid =
-            let (l, d) = I .is (v .index) (joined segmentBytes (v .segments) ++ rest) (lines-laid .2) index-behind index-right in
+            let (l, d) = I .is (v .index) (joined segmentBytes (v .segments) ++ rest) index-at in
             (rw (lines-laid .1) at l, d)
 
         module _ {o4 : List ℕ} {z : Done} (G : SegmentsSized s (y .next) (lent (back (back o1 h o2) (h + x .bytes) o3) (h + x .bytes + y .bytes)) o4 z) where
           pub segments-laid : Laid (sizedOut segments (v .segments)) (lent (back (back o1 h o2) (h + x .bytes) o3) (h + x .bytes + y .bytes)) o4 (z .bytes) × (drop (z .next) s ≡ rest)
-          segments-laid = G .is (v .segments) rest (segments-at (index-laid .1)) (r .extended)
+          segments-laid = G .is (v .segments) rest (segments-at (index-laid .1))
 
           pub view-laid : Laid (viewOut w v) o (back (back (back o1 h o2) (h + x .bytes) o3) (h + x .bytes + y .bytes) o4) (h + x .bytes + y .bytes + z .bytes) × (drop (z .next) s ≡ rest)
           view-laid =

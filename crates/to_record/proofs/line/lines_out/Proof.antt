@@ -22,7 +22,7 @@ tag : (c : tie.Then1 Inv-loop μ-loop) → getD (c .before .before .before .befo
 tag c = sym (c .before .wide .ensures) ∙ eqb-true _ 3 (c .if1 .taken)
 
 going : (c : tie.At-loop Inv-loop μ-loop) → GoingOn (c .before .before .before .args .w) (c .before .before .before .args .s .now) (c .loop .next) (c .before .before .before .args .out .now) (c .loop .out) (c .loop .at) (c .loop .count) (c .before .before .before .pre .value) (c .before .before .before .pre .rest)
-going c = let pre = c .before .before .before .pre in c .loop .inv .1 (pre .value) (pre .rest) (pre .run) (pre .fits)
+going c = let pre = c .before .before .before .pre in c .loop .inv .1 (pre .value) (pre .rest) (pre .at)
 
 loop-holds : tie.Need-loop-holds Inv-loop μ-loop
 loop-holds c =

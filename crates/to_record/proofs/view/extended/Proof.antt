@@ -22,21 +22,20 @@ segments-out-requires c κs =
     record {
       value = pre .value;
       rest = pre .rest;
-      run = pre .run;
-      fits = pre .fits;
-      room = simp (length-take, length-drop) (omega (arith, segments-long (pre .value) (pre .fits), pre .room));
+      at = pre .at;
+      room = simp (length-take, length-drop) (omega (arith, segments-long (pre .value) (pre .at .fits), pre .room));
     }
 
 put-two-requires : tie.Need-put-two-requires
 put-two-requires c κs =
     let pre = c .before .before .before .before .before .before .before .pre in
-    let l = rw (sym (segments-bytes (pre .value) (pre .fits))) at (c .before .before .before .segments-out .ensures .is (pre .value) (pre .rest) (pre .run) (pre .fits) .0) in
+    let l = rw (sym (segments-bytes (pre .value) (pre .at .fits))) at (c .before .before .before .segments-out .ensures .is (pre .value) (pre .rest) (pre .at) .0) in
     omega (arith, l .count, pre .small, pre .room)
 
 add-t7 : tie.Need-add-t7
 add-t7 c =
     let pre = c .before .before .before .before .before .before .before .before .before .before .before .pre in
-    let l = rw (sym (segments-bytes (pre .value) (pre .fits))) at (c .before .before .before .before .before .before .before .segments-out .ensures .is (pre .value) (pre .rest) (pre .run) (pre .fits) .0) in
+    let l = rw (sym (segments-bytes (pre .value) (pre .at .fits))) at (c .before .before .before .before .before .before .before .segments-out .ensures .is (pre .value) (pre .rest) (pre .at) .0) in
     omega (arith, l .count, pre .small, pre .room)
 
 same-length : tie.Need-same-length
@@ -45,9 +44,9 @@ same-length c = search needs
 returns : tie.Need-returns
 returns c =
     record {
-      is = λ gs rest r f.
-          let (l, e) = c .before .before .before .before .before .before .before .segments-out .ensures .is gs rest r f in
-          (sized-laid (omega (arith, c .before .before .before .before .before .before .before .before .before .before .before .pre .room)) (rw (sym (segments-bytes gs f)) at l) (c .before .before .before .put-two .ensures), e);
+      is = λ gs rest h.
+          let (l, e) = c .before .before .before .before .before .before .before .segments-out .ensures .is gs rest h in
+          (sized-laid (omega (arith, c .before .before .before .before .before .before .before .before .before .before .before .pre .room)) (rw (sym (segments-bytes gs (h .fits))) at l) (c .before .before .before .put-two .ensures), e);
     }
 
 pub extended-spec : {M : Type 1} → statement M

@@ -25,22 +25,20 @@ index-out-requires c κs =
       few = pre .few;
       value = pre .value;
       rest = pre .rest;
-      is = pre .is;
-      behind = pre .behind;
-      fits = pre .fits;
+      at = pre .at;
       room = record { room = simp (length-take, length-drop) (omega (arith, b, pre .room)); near = omega (arith, b, pre .small) };
     }
 
 put-two-requires : tie.Need-put-two-requires
 put-two-requires c κs =
     let pre = c .before .before .before .before .before .before .before .pre in
-    let l = c .before .before .before .index-out .ensures .is (pre .value) (pre .rest) (pre .is) (pre .behind) (pre .fits) .0 in
+    let l = c .before .before .before .index-out .ensures .is (pre .value) (pre .rest) (pre .at) .0 in
     omega (arith, l .count, pre .small, pre .room)
 
 add-t8 : tie.Need-add-t8
 add-t8 c =
     let pre = c .before .before .before .before .before .before .before .before .before .before .before .pre in
-    let l = c .before .before .before .before .before .before .before .index-out .ensures .is (pre .value) (pre .rest) (pre .is) (pre .behind) (pre .fits) .0 in
+    let l = c .before .before .before .before .before .before .before .index-out .ensures .is (pre .value) (pre .rest) (pre .at) .0 in
     omega (arith, l .count, pre .small, pre .room)
 
 same-length : tie.Need-same-length
@@ -49,8 +47,8 @@ same-length c = search needs
 returns : tie.Need-returns
 returns c =
     record {
-      is = λ o rest d h f.
-          let (l, e) = c .before .before .before .before .before .before .before .index-out .ensures .is o rest d h f in
+      is = λ o rest h.
+          let (l, e) = c .before .before .before .before .before .before .before .index-out .ensures .is o rest h in
           (sized-laid (omega (arith, c .before .before .before .before .before .before .before .before .before .before .before .pre .room)) l (c .before .before .before .put-two .ensures), e);
     }
 

@@ -23,21 +23,20 @@ lines-out-requires c κs =
       narrow = pre .narrow;
       value = pre .value;
       rest = pre .rest;
-      run = pre .run;
-      fits = pre .fits;
+      at = pre .at;
       room = record { room = simp (length-take, length-drop) (omega (arith, b, pre .room)); near = omega (arith, b, pre .small) };
     }
 
 put-two-requires : tie.Need-put-two-requires
 put-two-requires c κs =
     let pre = c .before .before .before .before .before .before .before .pre in
-    let l = rw (skeleton-bytes (c .before .before .before .before .before .before .before .args .w) (pre .value)) at (c .before .before .before .lines-out .ensures .is (pre .value) (pre .rest) (pre .run) (pre .fits) .0) in
+    let l = rw (skeleton-bytes (c .before .before .before .before .before .before .before .args .w) (pre .value)) at (c .before .before .before .lines-out .ensures .is (pre .value) (pre .rest) (pre .at) .0) in
     omega (arith, l .count, pre .small, pre .room)
 
 add-t8 : tie.Need-add-t8
 add-t8 c =
     let pre = c .before .before .before .before .before .before .before .before .before .before .before .pre in
-    let l = rw (skeleton-bytes (c .before .before .before .before .before .before .before .before .before .before .before .args .w) (pre .value)) at (c .before .before .before .before .before .before .before .lines-out .ensures .is (pre .value) (pre .rest) (pre .run) (pre .fits) .0) in
+    let l = rw (skeleton-bytes (c .before .before .before .before .before .before .before .before .before .before .before .args .w) (pre .value)) at (c .before .before .before .before .before .before .before .lines-out .ensures .is (pre .value) (pre .rest) (pre .at) .0) in
     omega (arith, l .count, pre .small, pre .room)
 
 same-length : tie.Need-same-length
@@ -46,8 +45,8 @@ same-length c = search needs
 returns : tie.Need-returns
 returns c =
     record {
-      is = λ ls rest r f.
-          let (l, n, e) = c .before .before .before .before .before .before .before .lines-out .ensures .is ls rest r f in
+      is = λ ls rest h.
+          let (l, n, e) = c .before .before .before .before .before .before .before .lines-out .ensures .is ls rest h in
           (sized-laid (omega (arith, c .before .before .before .before .before .before .before .before .before .before .before .pre .room)) (rw (skeleton-bytes (c .before .before .before .before .before .before .before .before .before .before .before .args .w) ls) at l) (c .before .before .before .put-two .ensures), n, e);
     }
 

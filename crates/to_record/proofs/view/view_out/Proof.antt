@@ -9,7 +9,7 @@ use Rattle.format.specs.Line.{skeleton}
 use Rattle.format.specs.Index.{indexBlock}
 use Rattle.lay.specs.HighFirst.{joined}
 use Rattle.to_sheet.specs.Bytes.{indexBytes, segmentBytes}
-use Rattle.to_record.proofs.Laws.View.{head-there, lines-at, index-behind, segments-at, head-laid, lines-laid, index-right, index-laid, segments-laid, view-laid, view-long}
+use Rattle.to_record.proofs.Laws.View.{head-there, lines-at, segments-at, head-laid, lines-laid, index-at, index-laid, segments-laid, view-laid, view-long}
 use borrow.Author.Needs.{needs}
 use Rattle.to_record.proofs.view.view_out.Statement.{statement}
 use Rattle.to_record.proofs.view.view_out.Tie as tie
@@ -77,8 +77,7 @@ skeleton-requires c κs =
       narrow = pre .narrow;
       value = pre .value .lines;
       rest = indexBytes (pre .value .index) ++ (joined segmentBytes (pre .value .segments) ++ pre .rest);
-      run = lines-at w (c .before .before .before .before .before .before .before .before .args .s .now) (c .before .before .before .before .before .before .before .before .args .a) (pre .value) (pre .rest) (pre .is) (pre .next) (pre .right);
-      fits = pre .right .lines;
+      at = lines-at w (c .before .before .before .before .before .before .before .before .args .s .now) (c .before .before .before .before .before .before .before .before .args .a) (pre .value) (pre .rest) (pre .is) (pre .next) (pre .right);
       small = pre .right .linesSmall;
       room = simp (length-take, length-drop) (omega (arith, H .count, view-long w (pre .value), pre .room));
     }
@@ -109,9 +108,7 @@ index-requires c κs =
       few = rw n (pre .right .few);
       value = pre .value .index;
       rest = joined segmentBytes (pre .value .segments) ++ pre .rest;
-      is = d;
-      behind = index-behind w (c .before .before .before .before .before .before .before .before .before .before .before .before .before .args .s .now) (c .before .before .before .before .before .before .before .before .before .before .before .before .before .args .a) (pre .value) (pre .rest) (pre .is) (pre .next) (pre .right);
-      fits = index-right w (c .before .before .before .before .before .before .before .before .before .before .before .before .before .args .s .now) (c .before .before .before .before .before .before .before .before .before .before .before .before .before .args .a) (pre .value) (pre .rest) (pre .is) (pre .next) (pre .right) (c .before .before .before .before .before .before .before .before .copy .ensures) (c .before .before .before .before .skeleton .ensures);
+      at = index-at w (c .before .before .before .before .before .before .before .before .before .before .before .before .before .args .s .now) (c .before .before .before .before .before .before .before .before .before .before .before .before .before .args .a) (pre .value) (pre .rest) (pre .is) (pre .next) (pre .right) (c .before .before .before .before .before .before .before .before .copy .ensures) (c .before .before .before .before .skeleton .ensures);
       small = rw n (pre .right .indexSmall);
       room = simp (length-take, length-drop) (rw n (omega (arith, l, h, view-long w (pre .value), pre .room)));
     }
@@ -141,8 +138,7 @@ extended-requires c κs =
     record {
       value = pre .value .segments;
       rest = pre .rest;
-      run = segments-at w (c .before .before .before .before .before .before .before .before .before .before .before .before .before .before .before .before .before .before .args .s .now) (c .before .before .before .before .before .before .before .before .before .before .before .before .before .before .before .before .before .before .args .a) (pre .value) (pre .rest) (pre .is) (pre .next) (pre .right) d;
-      fits = pre .right .extended;
+      at = segments-at w (c .before .before .before .before .before .before .before .before .before .before .before .before .before .before .before .before .before .before .args .s .now) (c .before .before .before .before .before .before .before .before .before .before .before .before .before .before .before .before .before .before .args .a) (pre .value) (pre .rest) (pre .is) (pre .next) (pre .right) d;
       small = pre .right .extendedSmall;
       room = simp (length-take, length-drop) (omega (arith, l, h, index-done (c .before .before .before .before), view-long w (pre .value), pre .room));
     }
