@@ -1,11 +1,12 @@
 -- The index block of an accepted view: it has an index where it is not empty, and its bits are its width's and its lists'.
 use mathlib.Core.Path.{_≡_, refl, sym, ap, _∙_}
-use Prim.Native.Nat.{ℕ, _<_}
+use Prim.Native.Nat.{ℕ, _+_, _*_, _/_, _<_}
 use native.Mathlib.Omega.{arith}
-use mathlib.Core.Option.{Option, some}
-use mathlib.Core.List.{List, _++_, append-assoc}
-use lib.ListN.{length}
+use mathlib.Core.Option.{Option, none, some}
+use mathlib.Core.List.{List, [], _++_, append-assoc}
+use lib.ListN.{length, length-append}
 use Rattle.bits.specs.Bits.{Bits, bitsOfNumber, filled}
+use Rattle.bits.specs.BitsLaws.{length-bits, filled-long}
 use Rattle.bits.specs.Bytes.{bitsOf}
 use Rattle.bits.specs.BytesLaws.{length-bitsOf}
 use Rattle.bits.specs.Codec.{got, fieldDec}
@@ -41,7 +42,16 @@ index-at lines s {i} {u} e =
 pub width-is : (lines : ℕ) (s : List ℕ) {i : Index} {u : Bits} → indexBlock lines .dec (bitsOf s) ≡ got (some i) u → {w q : ℕ} → Reads (fieldDec badIndex 8) s 0 (found w q) → w ≡ i .width
 width-is lines s e h = let I = index-at lines s e in number-there badIndex 8 _ (omega (arith, I .fits .high)) (I .bits) h
 
--- what is written of one
+-- what is written of none, and of one
+pub none-enc : (lines : ℕ) → indexBlock lines .enc none ≡ []
+unfolding indexBlock
+none-enc lines = refl
+
 pub index-enc : (lines : ℕ) (i : Index) → indexBlock lines .enc (some i) ≡ filled (bitsOfNumber 8 (i .width) ++ encAlong (neighbours (i .width)) up 0 (i .lists))
 unfolding indexBlock index
 index-enc lines i = refl
+
+pub index-long : (lines : ℕ) (i : Index) → length (indexBlock lines .enc (some i)) ≡ 8 * ((8 + length (encAlong (neighbours (i .width)) up 0 (i .lists)) + 7) / 8)
+index-long lines i =
+    let lists : Bits = encAlong (neighbours (i .width)) up 0 (i .lists) in
+    omega (arith, ap length (index-enc lines i), filled-long (bitsOfNumber 8 (i .width) ++ lists), length-append (bitsOfNumber 8 (i .width)) lists, length-bits 8 (i .width))

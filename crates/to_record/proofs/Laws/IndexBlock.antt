@@ -4,11 +4,9 @@ use Prim.Native.Nat.{ℕ, suc, _+_, _≤_, _<_}
 use native.Mathlib.Omega.{arith}
 use mathlib.Core.Option.{Option, none, some}
 use mathlib.Core.List.{List, [], _∷_, _++_}
-use lib.ListN.{length, drop, getD, length-append, length-drop}
+use lib.ListN.{length, drop, getD, length-drop}
 use lib.Seq.{drop-drop, getD-drop}
 use Rattle.bits.specs.Lists.{All, Along}
-use Rattle.bits.specs.Bits.{Bits, bitsOfNumber, zeros, pad, filled}
-use Rattle.bits.specs.BitsLaws.{length-bits}
 use Rattle.bits.specs.Bytes.{bytesOf, inBytes}
 use Rattle.bits.specs.CodecLaws.{encAlong}
 use Rattle.lay.specs.Laid.{Laid}
@@ -16,7 +14,7 @@ use Rattle.lay.specs.HighFirst.{two, joined}
 use Rattle.lay.proofs.Laws.{laid-none, twos-length}
 use Rattle.format.specs.DifferencesLaws.{falls-count}
 use Rattle.format.specs.Index.{Index, FitsList, FitsIndex, neighbours, up, index, indexBlock}
-use Rattle.locate.proofs.Laws.Index.{index-enc}
+use Rattle.locate.proofs.Laws.Index.{none-enc, index-enc, index-long}
 use Rattle.puts.specs.Put.{PutMore}
 use Rattle.puts.proofs.Laws.{put-none, put-laid}
 use Rattle.to_sheet.specs.Bytes.{listBytes, indexBytes}
@@ -77,19 +75,6 @@ module _ {lines : ℕ} {s : List ℕ} {a : ℕ} {i : Index} {rest : List ℕ} (h
         other = h .behind .1;
       }
 
-none-enc : (lines : ℕ) → indexBlock lines .enc none ≡ []
-unfolding indexBlock
-none-enc lines = refl
-
--- room for the block is room for its bits
-pub index-room : (lines : ℕ) (i : Index) {out : List ℕ} → Room out 0 (length (indexBlock lines .enc (some i))) → Room out 0 (8 + length (encAlong (neighbours (i .width)) up 0 (i .lists)))
-index-room lines i r =
-    let b : Bits = bitsOfNumber 8 (i .width) ++ encAlong (neighbours (i .width)) up 0 (i .lists) in
-    let n : length b ≡ 8 + length (encAlong (neighbours (i .width)) up 0 (i .lists)) = length-append (bitsOfNumber 8 (i .width)) _ ∙ omega (arith, length-bits 8 (i .width)) in
-    let m : length b ≤ length (filled b) = omega (arith, length-append b (zeros (pad (length b)))) in
-    let e = ap length (index-enc lines i) in
-    record { room = omega (arith, r .room); near = omega (arith, r .near) }
-
 -- ---- what is laid
 
 pub index-none : {lines : ℕ} {s : List ℕ} {a : ℕ} {before : List ℕ} → (a < length s → getD s a 0 ≡ 4 → ⊥) → IndexPut lines s a before before (record { next = a; bytes = 0 })
@@ -133,6 +118,8 @@ pub index-here : {lines : ℕ} {s : List ℕ} {a : ℕ} {out : List ℕ} → Ind
 index-here {lines} {s} {a} {out} h l t =
     an-index s a (h .rest) (h .value) (h .at .is) (h .at .behind .0) l t λ i z.
     let I = rw z at (h .at) in
+    let r : Room out 0 (length (indexBlock lines .enc (some i))) = rw z at (h .room) in
+    let n = index-long lines i in
     record {
       value = i;
       rest = h .rest;
@@ -140,5 +127,5 @@ index-here {lines} {s} {a} {out} h l t =
       there = index-there I;
       width = width-at I;
       lists = lists-at I (h .few);
-      room = index-room lines i (rw z at (h .room));
+      room = record { room = omega (arith, n, r .room); near = omega (arith, n, r .near) };
     }

@@ -5,12 +5,11 @@ use Prim.Native.Nat.{ℕ, zero, suc, _+_, _*_, _≤_, _<_}
 use native.Mathlib.Omega.{arith}
 use native.Mathlib.Nat.{mul-le-mul-left}
 use mathlib.Core.Option.{Option, none, some}
-use mathlib.Core.List.{List, [], _∷_, _++_}
+use mathlib.Core.List.{List, [], _∷_}
 use lib.ListN.{length, length-append}
 use Rattle.bits.specs.ChoiceLaws.{within-low}
 use Rattle.bits.specs.Lists.{All, Along, total}
-use Rattle.bits.specs.Bits.{Bits, bitsOfNumber, zeros, pad}
-use Rattle.bits.specs.BitsLaws.{length-bits}
+use Rattle.bits.specs.Bits.{Bits, zeros, pad}
 use Rattle.bits.specs.Bytes.{Byte}
 use Rattle.bits.specs.CodecLaws.{encAll, encAlong}
 use Rattle.outcome.specs.Outcome.{given}
@@ -29,7 +28,7 @@ use Rattle.sheet.specs.Sheet.{sheetOf, reading}
 use Rattle.locate.proofs.Laws.Line.{line-bits}
 use Rattle.locate.proofs.Laws.Lists.{all-long, list-bits}
 use Rattle.locate.proofs.Laws.Blocks.{skeleton-is}
-use Rattle.locate.proofs.Laws.Index.{index-enc}
+use Rattle.locate.proofs.Laws.Index.{index-long}
 use Rattle.to_sheet.proofs.Laws.Sizes.{rendered-size}
 use Rattle.to_sheet.proofs.Laws.Rendered.{rendered}
 
@@ -54,11 +53,8 @@ index-room : (n : ℕ) (o : Option Index) → indexBlock n .Fits o → 8 * index
 unfolding indexBlock index
 index-room n none f = omega arith
 index-room n (some i) f =
-    let w : ℕ = i .width in
-    let xs : Bits = bitsOfNumber 8 w in
-    let ys : Bits = encAlong (neighbours w) up 0 (i .lists) in
     let k : FitsIndex n i = f in
-    omega (arith, lists-room w 0 (i .lists) (k .low) (k .lists), k .count, ap length (index-enc n i), length-append (xs ++ ys) (zeros (pad (length (xs ++ ys)))), length-append xs ys, length-bits 8 w)
+    omega (arith, lists-room (i .width) 0 (i .lists) (k .low) (k .lists), k .count, index-long n i)
 
 -- ---- segments
 

@@ -8,13 +8,13 @@ use mathlib.Core.Option.{none, some}
 use mathlib.Core.List.{List, [], _∷_}
 use lib.ListN.{length, length-append}
 use Rattle.bits.specs.Lists.{total}
-use Rattle.bits.specs.Bits.{bitsOfNumber}
-use Rattle.bits.specs.BitsLaws.{length-bits, filled-long}
+use Rattle.bits.specs.BitsLaws.{filled-long}
 use Rattle.bits.specs.CodecLaws.{encAll, encAlong}
 use Rattle.format.specs.Line.{Line, line, skeleton}
-use Rattle.format.specs.Index.{Index, neighbours, up, index, indexBlock}
+use Rattle.format.specs.Index.{Index, neighbours, up, indexBlock}
 use Rattle.format.specs.Segments.{Segment, segment, segment-length, segments}
 use Rattle.format.specs.declared.Widths.{Widths}
+use Rattle.locate.proofs.Laws.Index.{none-enc, index-long}
 use Rattle.locate.proofs.Laws.Lists.{all-long, along-long, list-bits}
 use Rattle.values.specs.Run.{lineBits, listBits, segmentBytes}
 
@@ -32,17 +32,11 @@ list-long w l ns = list-bits w l ns ∙ ap (λ (n : ℕ). w + n) (mul-comm (leng
 lists-long : (w l : ℕ) (xs : List (List ℕ)) → length (encAlong (neighbours w) up l xs) ≡ total (listBits w) xs
 lists-long w = along-long (neighbours w) up (listBits w) (list-long w)
 
-index-long : (n : ℕ) (i : Index) → length (index n .enc i) ≡ 8 + length (encAlong (neighbours (i .width)) up 0 (i .lists))
-unfolding index
-index-long n i = length-append (bitsOfNumber 8 (i .width)) (encAlong (neighbours (i .width)) up 0 (i .lists)) ∙ omega (arith, length-bits 8 (i .width))
-
 pub index-bytes : (n : ℕ) (i : Index) (z : ℕ) → z ≡ total (listBits (i .width)) (i .lists) → length (indexBlock n .enc (some i)) ≡ 8 * ((8 + z + 7) / 8)
-unfolding indexBlock
-index-bytes n i z e = filled-long (index n .enc i) ∙ ap (λ (m : ℕ). 8 * ((m + 7) / 8)) (omega (arith, index-long n i, lists-long (i .width) 0 (i .lists)))
+index-bytes n i z e = omega (arith, index-long n i, lists-long (i .width) 0 (i .lists))
 
 pub no-index-bytes : (n : ℕ) → length (indexBlock n .enc none) ≡ 0
-unfolding indexBlock
-no-index-bytes n = refl
+no-index-bytes n = ap length (none-enc n)
 
 -- ---- segments
 
