@@ -99,12 +99,13 @@ header-spells n m h l f =
 
 -- ---- how long it is
 
+-- a view's header and blocks
+pub view-blocks : (w : Widths) (v : View) → length (viewOut w v) ≡ 8 + ((2 + length (inBytes (skeleton w .enc (v .lines)))) + ((2 + length (inBytes (indexBlock (length (v .lines)) .enc (v .index)))) + (2 + length (inBytes (segments .enc (v .segments))))))
+view-blocks w v = simp length-append (omega arith)
+
 pub view-long : (w : Widths) (seen : List ℕ) (v : View) → length (view w seen .enc v) ≡ 8 * length (viewOut w v)
 view-long w seen v =
-    omega (arith, view-length w seen v, block-long (skeleton w) (v .lines), block-long (indexBlock (length (v .lines))) (v .index), block-long segments (v .segments), long)
-  where
-    long : length (viewOut w v) ≡ 8 + ((2 + length (inBytes (skeleton w .enc (v .lines)))) + ((2 + length (inBytes (indexBlock (length (v .lines)) .enc (v .index)))) + (2 + length (inBytes (segments .enc (v .segments))))))
-    long = simp length-append (omega arith)
+    omega (arith, view-length w seen v, block-long (skeleton w) (v .lines), block-long (indexBlock (length (v .lines))) (v .index), block-long segments (v .segments), view-blocks w v)
 
 -- bits of views, and their bytes
 pub views-long : (w : Widths) (vs : List View) → total (λ v. length (view w [] .enc v)) vs ≡ 8 * length (joined (viewOut w) vs)

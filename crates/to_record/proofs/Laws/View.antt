@@ -180,12 +180,3 @@ module _ (w : Widths) (s : List ℕ) (a : ℕ) (v : View) (rest : List ℕ) (e :
               let l = laid-next (laid-next (laid-next head-laid (lines-laid .0)) (index-laid .0)) (segments-laid .0) in
               let q : ((headBytes (v .head) ++ sizedOut (skeleton w) (v .lines)) ++ sizedOut (indexBlock (length (v .lines))) (v .index)) ++ sizedOut segments (v .segments) ≡ viewOut w v = simp append-assoc in
               (rw q at l, segments-laid .1)
-
--- how long a view is
-pub view-long : (w : Widths) (v : View) → length (viewOut w v) ≡ 8 + ((2 + length (inBytes (skeleton w .enc (v .lines)))) + ((2 + length (inBytes (indexBlock (length (v .lines)) .enc (v .index)))) + (2 + length (inBytes (segments .enc (v .segments))))))
-view-long w v =
-    omega (
-      arith,
-      length-append (sizedOut (skeleton w) (v .lines)) (sizedOut (indexBlock (length (v .lines))) (v .index) ++ sizedOut segments (v .segments)),
-      length-append (sizedOut (indexBlock (length (v .lines))) (v .index)) (sizedOut segments (v .segments)),
-    )

@@ -9,7 +9,8 @@ use Rattle.format.specs.Line.{skeleton}
 use Rattle.format.specs.Index.{indexBlock}
 use Rattle.lay.specs.HighFirst.{joined}
 use Rattle.to_sheet.specs.Bytes.{indexBytes, segmentBytes}
-use Rattle.to_record.proofs.Laws.View.{head-there, lines-at, segments-at, head-laid, lines-laid, index-at, index-laid, segments-laid, view-laid, view-long}
+use Rattle.locate.proofs.Laws.Written.{view-blocks}
+use Rattle.to_record.proofs.Laws.View.{head-there, lines-at, segments-at, head-laid, lines-laid, index-at, index-laid, segments-laid, view-laid}
 use borrow.Author.Needs.{needs}
 use Rattle.to_record.proofs.view.view_out.Statement.{statement}
 use Rattle.to_record.proofs.view.view_out.Tie as tie
@@ -48,25 +49,25 @@ part-copy-end c =
 
 copy-requires : tie.Need-copy-requires
 copy-requires c κs =
-    let pre = c .before .before .before .before .pre in simp (length-take, length-drop) (omega (arith, view-long (c .before .before .before .before .args .w) (pre .value), pre .room))
+    let pre = c .before .before .before .before .pre in simp (length-take, length-drop) (omega (arith, view-blocks (c .before .before .before .before .args .w) (pre .value), pre .room))
 
 sub-skeleton : tie.Need-sub-skeleton
 sub-skeleton c =
     let pre = c .before .before .before .before .before .before .before .pre in
     let H = head-laid (c .before .before .before .before .before .before .before .args .w) (c .before .before .before .before .before .before .before .args .s .now) (c .before .before .before .before .before .before .before .args .a) (pre .value) (pre .rest) (pre .is) (pre .next) (pre .right) (c .before .before .copy .ensures) in
-    omega (arith, H .count, view-long (c .before .before .before .before .before .before .before .args .w) (pre .value), pre .room)
+    omega (arith, H .count, view-blocks (c .before .before .before .before .before .before .before .args .w) (pre .value), pre .room)
 
 part-skeleton-start : tie.Need-part-skeleton-start
 part-skeleton-start c =
     let pre = c .before .before .before .before .before .before .before .pre in
     let H = head-laid (c .before .before .before .before .before .before .before .args .w) (c .before .before .before .before .before .before .before .args .s .now) (c .before .before .before .before .before .before .before .args .a) (pre .value) (pre .rest) (pre .is) (pre .next) (pre .right) (c .before .before .copy .ensures) in
-    omega (arith, H .count, view-long (c .before .before .before .before .before .before .before .args .w) (pre .value), pre .room)
+    omega (arith, H .count, view-blocks (c .before .before .before .before .before .before .before .args .w) (pre .value), pre .room)
 
 part-skeleton-end : tie.Need-part-skeleton-end
 part-skeleton-end c =
     let pre = c .before .before .before .before .before .before .before .pre in
     let H = head-laid (c .before .before .before .before .before .before .before .args .w) (c .before .before .before .before .before .before .before .args .s .now) (c .before .before .before .before .before .before .before .args .a) (pre .value) (pre .rest) (pre .is) (pre .next) (pre .right) (c .before .before .copy .ensures) in
-    omega (arith, H .count, view-long (c .before .before .before .before .before .before .before .args .w) (pre .value), pre .room)
+    omega (arith, H .count, view-blocks (c .before .before .before .before .before .before .before .args .w) (pre .value), pre .room)
 
 skeleton-requires : tie.Need-skeleton-requires
 skeleton-requires c κs =
@@ -79,24 +80,24 @@ skeleton-requires c κs =
       rest = indexBytes (pre .value .index) ++ (joined segmentBytes (pre .value .segments) ++ pre .rest);
       at = lines-at w (c .before .before .before .before .before .before .before .before .args .s .now) (c .before .before .before .before .before .before .before .before .args .a) (pre .value) (pre .rest) (pre .is) (pre .next) (pre .right);
       small = pre .right .linesSmall;
-      room = simp (length-take, length-drop) (omega (arith, H .count, view-long w (pre .value), pre .room));
+      room = simp (length-take, length-drop) (omega (arith, H .count, view-blocks w (pre .value), pre .room));
     }
 
 add-at : tie.Need-add-at
 add-at c =
-    let (l, h) = lines-done (c .before .before .before) in omega (arith, l, h, view-long (c .before .before .before .before .before .before .before .before .before .before .before .before .args .w) (c .before .before .before .before .before .before .before .before .before .before .before .before .pre .value), c .before .before .before .before .before .before .before .before .before .before .before .before .pre .room)
+    let (l, h) = lines-done (c .before .before .before) in omega (arith, l, h, view-blocks (c .before .before .before .before .before .before .before .before .before .before .before .before .args .w) (c .before .before .before .before .before .before .before .before .before .before .before .before .pre .value), c .before .before .before .before .before .before .before .before .before .before .before .before .pre .room)
 
 sub-index : tie.Need-sub-index
 sub-index c =
-    let (l, h) = lines-done (c .before .before .before) in omega (arith, l, h, view-long (c .before .before .before .before .before .before .before .before .before .before .before .before .args .w) (c .before .before .before .before .before .before .before .before .before .before .before .before .pre .value), c .before .before .before .before .before .before .before .before .before .before .before .before .pre .room)
+    let (l, h) = lines-done (c .before .before .before) in omega (arith, l, h, view-blocks (c .before .before .before .before .before .before .before .before .before .before .before .before .args .w) (c .before .before .before .before .before .before .before .before .before .before .before .before .pre .value), c .before .before .before .before .before .before .before .before .before .before .before .before .pre .room)
 
 part-index-start : tie.Need-part-index-start
 part-index-start c =
-    let (l, h) = lines-done (c .before .before .before) in omega (arith, l, h, view-long (c .before .before .before .before .before .before .before .before .before .before .before .before .args .w) (c .before .before .before .before .before .before .before .before .before .before .before .before .pre .value), c .before .before .before .before .before .before .before .before .before .before .before .before .pre .room)
+    let (l, h) = lines-done (c .before .before .before) in omega (arith, l, h, view-blocks (c .before .before .before .before .before .before .before .before .before .before .before .before .args .w) (c .before .before .before .before .before .before .before .before .before .before .before .before .pre .value), c .before .before .before .before .before .before .before .before .before .before .before .before .pre .room)
 
 part-index-end : tie.Need-part-index-end
 part-index-end c =
-    let (l, h) = lines-done (c .before .before .before) in omega (arith, l, h, view-long (c .before .before .before .before .before .before .before .before .before .before .before .before .args .w) (c .before .before .before .before .before .before .before .before .before .before .before .before .pre .value), c .before .before .before .before .before .before .before .before .before .before .before .before .pre .room)
+    let (l, h) = lines-done (c .before .before .before) in omega (arith, l, h, view-blocks (c .before .before .before .before .before .before .before .before .before .before .before .before .args .w) (c .before .before .before .before .before .before .before .before .before .before .before .before .pre .value), c .before .before .before .before .before .before .before .before .before .before .before .before .pre .room)
 
 index-requires : tie.Need-index-requires
 index-requires c κs =
@@ -110,24 +111,24 @@ index-requires c κs =
       rest = joined segmentBytes (pre .value .segments) ++ pre .rest;
       at = index-at w (c .before .before .before .before .before .before .before .before .before .before .before .before .before .args .s .now) (c .before .before .before .before .before .before .before .before .before .before .before .before .before .args .a) (pre .value) (pre .rest) (pre .is) (pre .next) (pre .right) (c .before .before .before .before .before .before .before .before .copy .ensures) (c .before .before .before .before .skeleton .ensures);
       small = rw n (pre .right .indexSmall);
-      room = simp (length-take, length-drop) (rw n (omega (arith, l, h, view-long w (pre .value), pre .room)));
+      room = simp (length-take, length-drop) (rw n (omega (arith, l, h, view-blocks w (pre .value), pre .room)));
     }
 
 add-at-2 : tie.Need-add-at-2
 add-at-2 c =
-    let (l, h) = lines-done (c .before .before .before .before .before .before .before .before) in omega (arith, l, h, index-done (c .before .before .before), view-long (c .before .before .before .before .before .before .before .before .before .before .before .before .before .before .before .before .before .args .w) (c .before .before .before .before .before .before .before .before .before .before .before .before .before .before .before .before .before .pre .value), c .before .before .before .before .before .before .before .before .before .before .before .before .before .before .before .before .before .pre .room)
+    let (l, h) = lines-done (c .before .before .before .before .before .before .before .before) in omega (arith, l, h, index-done (c .before .before .before), view-blocks (c .before .before .before .before .before .before .before .before .before .before .before .before .before .before .before .before .before .args .w) (c .before .before .before .before .before .before .before .before .before .before .before .before .before .before .before .before .before .pre .value), c .before .before .before .before .before .before .before .before .before .before .before .before .before .before .before .before .before .pre .room)
 
 sub-extended : tie.Need-sub-extended
 sub-extended c =
-    let (l, h) = lines-done (c .before .before .before .before .before .before .before .before) in omega (arith, l, h, index-done (c .before .before .before), view-long (c .before .before .before .before .before .before .before .before .before .before .before .before .before .before .before .before .before .args .w) (c .before .before .before .before .before .before .before .before .before .before .before .before .before .before .before .before .before .pre .value), c .before .before .before .before .before .before .before .before .before .before .before .before .before .before .before .before .before .pre .room)
+    let (l, h) = lines-done (c .before .before .before .before .before .before .before .before) in omega (arith, l, h, index-done (c .before .before .before), view-blocks (c .before .before .before .before .before .before .before .before .before .before .before .before .before .before .before .before .before .args .w) (c .before .before .before .before .before .before .before .before .before .before .before .before .before .before .before .before .before .pre .value), c .before .before .before .before .before .before .before .before .before .before .before .before .before .before .before .before .before .pre .room)
 
 part-extended-start : tie.Need-part-extended-start
 part-extended-start c =
-    let (l, h) = lines-done (c .before .before .before .before .before .before .before .before) in omega (arith, l, h, index-done (c .before .before .before), view-long (c .before .before .before .before .before .before .before .before .before .before .before .before .before .before .before .before .before .args .w) (c .before .before .before .before .before .before .before .before .before .before .before .before .before .before .before .before .before .pre .value), c .before .before .before .before .before .before .before .before .before .before .before .before .before .before .before .before .before .pre .room)
+    let (l, h) = lines-done (c .before .before .before .before .before .before .before .before) in omega (arith, l, h, index-done (c .before .before .before), view-blocks (c .before .before .before .before .before .before .before .before .before .before .before .before .before .before .before .before .before .args .w) (c .before .before .before .before .before .before .before .before .before .before .before .before .before .before .before .before .before .pre .value), c .before .before .before .before .before .before .before .before .before .before .before .before .before .before .before .before .before .pre .room)
 
 part-extended-end : tie.Need-part-extended-end
 part-extended-end c =
-    let (l, h) = lines-done (c .before .before .before .before .before .before .before .before) in omega (arith, l, h, index-done (c .before .before .before), view-long (c .before .before .before .before .before .before .before .before .before .before .before .before .before .before .before .before .before .args .w) (c .before .before .before .before .before .before .before .before .before .before .before .before .before .before .before .before .before .pre .value), c .before .before .before .before .before .before .before .before .before .before .before .before .before .before .before .before .before .pre .room)
+    let (l, h) = lines-done (c .before .before .before .before .before .before .before .before) in omega (arith, l, h, index-done (c .before .before .before), view-blocks (c .before .before .before .before .before .before .before .before .before .before .before .before .before .before .before .before .before .args .w) (c .before .before .before .before .before .before .before .before .before .before .before .before .before .before .before .before .before .pre .value), c .before .before .before .before .before .before .before .before .before .before .before .before .before .before .before .before .before .pre .room)
 
 extended-requires : tie.Need-extended-requires
 extended-requires c κs =
@@ -140,7 +141,7 @@ extended-requires c κs =
       rest = pre .rest;
       at = segments-at w (c .before .before .before .before .before .before .before .before .before .before .before .before .before .before .before .before .before .before .args .s .now) (c .before .before .before .before .before .before .before .before .before .before .before .before .before .before .before .before .before .before .args .a) (pre .value) (pre .rest) (pre .is) (pre .next) (pre .right) d;
       small = pre .right .extendedSmall;
-      room = simp (length-take, length-drop) (omega (arith, l, h, index-done (c .before .before .before .before), view-long w (pre .value), pre .room));
+      room = simp (length-take, length-drop) (omega (arith, l, h, index-done (c .before .before .before .before), view-blocks w (pre .value), pre .room));
     }
 
 add-at-3 : tie.Need-add-at-3
@@ -148,7 +149,7 @@ add-at-3 c =
     let pre = c .before .before .before .before .before .before .before .before .before .before .before .before .before .before .before .before .before .before .before .before .before .before .pre in
     let (l, h) = lines-done (c .before .before .before .before .before .before .before .before .before .before .before .before .before) in
     let (G, e) = segments-laid (c .before .before .before .before .before .before .before .before .before .before .before .before .before .before .before .before .before .before .before .before .before .before .args .w) (c .before .before .before .before .before .before .before .before .before .before .before .before .before .before .before .before .before .before .before .before .before .before .args .s .now) (c .before .before .before .before .before .before .before .before .before .before .before .before .before .before .before .before .before .before .before .before .before .before .args .a) (pre .value) (pre .rest) (pre .is) (pre .next) (pre .right) (c .before .before .before .before .before .before .before .before .before .before .before .before .before .before .before .before .before .copy .ensures) (c .before .before .before .before .before .before .before .before .before .before .before .before .before .skeleton .ensures) (c .before .before .before .before .before .before .before .before .index .ensures) (c .before .before .before .extended .ensures) in
-    omega (arith, l, h, index-done (c .before .before .before .before .before .before .before .before), G .count, view-long (c .before .before .before .before .before .before .before .before .before .before .before .before .before .before .before .before .before .before .before .before .before .before .args .w) (pre .value), pre .room)
+    omega (arith, l, h, index-done (c .before .before .before .before .before .before .before .before), G .count, view-blocks (c .before .before .before .before .before .before .before .before .before .before .before .before .before .before .before .before .before .before .before .before .before .before .args .w) (pre .value), pre .room)
 
 same-length : tie.Need-same-length
 same-length c = search needs
