@@ -10,8 +10,6 @@ use Rattle.format.specs.SheetSize.{viewSize}
 use Rattle.format.specs.declared.Widths.{Widths}
 use Rattle.blocks.specs.declared.Reached.{Reached}
 use Rattle.blocks.specs.declared.Reached.the-variants as r
-use Rattle.heads.specs.declared.view.Headed.{Headed}
-use Rattle.heads.specs.declared.view.Headed.the-variants as h
 
 -- of the views, their bytes in the sheet are kept
 unfoldable pub viewsDec : Widths → ℕ → Bits → Read Bool ℕ
@@ -21,7 +19,3 @@ viewsDec w n s = kept (total viewSize) (views w n .dec s)
 abbrev pub sheetBytes : Reached → ℕ
 sheetBytes (r.At a z) = z
 sheetBytes (r.Refused e p) = 0
-
-abbrev pub headRefusal : Headed → Reached
-headRefusal (h.At x n) = r.At 0 0
-headRefusal (h.Refused e p) = r.Refused e p

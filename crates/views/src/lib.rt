@@ -4,7 +4,7 @@ ghost use Prim.Native.Nat.{_≤_};
 ghost use lib.ListN.{length};
 ghost use Rattle.bits.specs.Reads.{Reads};
 ghost use Rattle.blocks.specs.Answers.{reached};
-ghost use Rattle.views.specs.Views.{viewsDec, headRefusal, sheetBytes};
+ghost use Rattle.views.specs.Views.{viewsDec, sheetBytes};
 use bits::Cursor;
 use bits::Taken;
 use blocks::Reached;
@@ -19,14 +19,10 @@ use format::Widths;
 use heads::view::Headed;
 use heads::view::head_at;
 
-// The refusal of a view's header as that of the views.
-fn refused_head(h: Headed) -> Reached
-    ensures { λ r. ⌜ r ≡ headRefusal h ⌝ }
-{
-    match h {
-        Headed::At(_, _) => Reached::At(0, 0),
-        Headed::Refused(e, p) => Reached::Refused(e, p),
-    }
+// What the nest needs of a view's header: its position, and the length of the skeleton block.
+struct Opened {
+    position: usize,
+    len: usize,
 }
 
 // The views, from byte 24 on; seen counts those of each position, size the bytes in the sheet.
@@ -40,11 +36,17 @@ pub fn judge_views(s: &[u8], w: Widths, count: usize) -> Reached
     let mut size: usize = 0;
     let mut v: usize = 0;
     'views: while v < count {
-        let head = head_at(s, a, &seen);
-        let Headed::At(h, len) = head else {
-            answer = refused_head(head);
-            break 'views;
+        let head = match head_at(s, a, &seen) {
+            Headed::At(h, len) => Opened {
+                position: h.position,
+                len,
+            },
+            Headed::Refused(e, p) => {
+                answer = Reached::Refused(e, p);
+                break 'views;
+            }
         };
+        let len = head.len;
         let b = a + 10;
         if s.len() - b < len {
             answer = Reached::Refused(6, 8 * b);
@@ -102,7 +104,7 @@ pub fn judge_views(s: &[u8], w: Widths, count: usize) -> Reached
             answer = segments;
             break 'views;
         };
-        let position = h.position;
+        let position = head.position;
         seen[position] = seen[position] + 1;
         size = size + (11 + lines + lists + payloads);
         a = g;

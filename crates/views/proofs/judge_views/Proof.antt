@@ -24,7 +24,7 @@ use Rattle.format.specs.declared.ViewHeader.{ViewHeader}
 use Rattle.blocks.specs.declared.Reached.the-variants.{At}
 use Rattle.heads.specs.Answers.{headAt, Seen}
 use Rattle.blocks.specs.Answers.{ended, cleared, reached, endDec, indexAtDec, segmentsAtDec}
-use Rattle.views.specs.Views.{viewsDec, headRefusal}
+use Rattle.views.specs.Views.{viewsDec}
 use Rattle.views.proofs.Laws.Bounds.{index-small, segments-small}
 use Rattle.views.proofs.Laws.Line.{no-start, no-count, no-code, no-finish, line-is, Lines, lines-start, lines-over, lines-stop, lines-turn, lines-dirt, lines-done}
 use Rattle.heads.proofs.Laws.Seen.{seen-start, seen-more, seen-le}
@@ -35,20 +35,20 @@ use Rattle.views.proofs.judge_views.Statement.{statement}
 use Rattle.views.proofs.judge_views.Tie as tie
 
 abbrev Inv-loop2 : tie.InvT-loop2
-Inv-loop2 s w count answer₀ seen a size v h len b e block end p₀ lines n line codes i₀ answer p i =
+Inv-loop2 s w count answer₀ seen a size v head len b e block end p₀ lines n line codes i₀ answer p i =
     (i ≤ codes) × (p .at ≤ 8 * length block) × (answer ≡ answer₀)
     × (after (timesDec (field badLine (w .k)) (codes - i) (drop (p .at) (bitsOf block))) ≡ after (timesDec (field badLine (w .k)) codes (drop (p₀ .at) (bitsOf block))))
 
 abbrev μ-loop2 : tie.MeasureT-loop2
-μ-loop2 s w count answer₀ seen a size v h len b e block end p₀ lines n line codes i₀ answer p i =
+μ-loop2 s w count answer₀ seen a size v head len b e block end p₀ lines n line codes i₀ answer p i =
     codes - i
 
 abbrev Inv-loop : tie.InvT-loop
-Inv-loop s w count answer₀ seen a size v h len b e block end p₀ lines₀ n₀ answer p lines n =
+Inv-loop s w count answer₀ seen a size v head len b e block end p₀ lines₀ n₀ answer p lines n =
     (n ≤ 1024) × (p .at ≤ 8 * length block) × (answer ≡ answer₀) × (lines ≤ 270 * n) × Lines w block n lines (p .at)
 
 abbrev μ-loop : tie.MeasureT-loop
-μ-loop s w count answer₀ seen a size v h len b e block end p₀ lines₀ n₀ answer p lines n =
+μ-loop s w count answer₀ seen a size v head len b e block end p₀ lines₀ n₀ answer p lines n =
     1024 - n
 
 abbrev Inv-views : tie.InvT-views
@@ -60,23 +60,23 @@ abbrev μ-views : tie.MeasureT-views
     count - v
 
 -- the header of a view
-head : (c : tie.After-head Inv-loop2 μ-loop2 Inv-loop μ-loop Inv-views μ-views) → Reads (viewHeader (λ q. occurs q (c .before .before .before .before .before .views .inv .4 .0)) .dec) (c .before .before .before .before .before .before .before .args .s .now) (8 * c .before .before .before .before .before .views .a) (found (c .head .given .0 .0, c .head .given .0 .1 .0) (8 * c .before .before .before .before .before .views .a + 80))
-head c = head-seen _ _ _ (c .before .before .before .before .before .views .inv .4 .1 .1) (known (ap (headAt (c .before .before .before .before .before .views .a)) (c .head .given .1)) (c .before .before .head-at .ensures))
+head : (c : tie.After-h Inv-loop2 μ-loop2 Inv-loop μ-loop Inv-views μ-views) → Reads (viewHeader (λ q. occurs q (c .before .before .before .before .before .views .inv .4 .0)) .dec) (c .before .before .before .before .before .before .before .args .s .now) (8 * c .before .before .before .before .before .views .a) (found (c .h .given .0 .0, c .h .given .0 .1 .0) (8 * c .before .before .before .before .before .views .a + 80))
+head c = head-seen _ _ _ (c .before .before .before .before .before .views .inv .4 .1 .1) (known (ap (headAt (c .before .before .before .before .before .views .a)) (c .h .given .1)) (c .before .before .head-at .ensures))
 
 -- the skeleton's block
 abbrev blk : tie.After-block Inv-loop2 μ-loop2 Inv-loop μ-loop Inv-views μ-views → List ℕ
-blk c = take ((c .before .before .before .before .before .before .before .before .views .a) + 10 + (c .before .before .before .head .given .0 .1 .0) - ((c .before .before .before .before .before .before .before .before .views .a) + 10)) (drop ((c .before .before .before .before .before .before .before .before .views .a) + 10) (c .before .before .before .before .before .before .before .before .before .before .args .s .now))
+blk c = take ((c .before .before .before .before .before .before .before .before .views .a) + 10 + (c .before .before .before .h .given .0 .1 .0) - ((c .before .before .before .before .before .before .before .before .views .a) + 10)) (drop ((c .before .before .before .before .before .before .before .before .views .a) + 10) (c .before .before .before .before .before .before .before .before .before .before .args .s .now))
 
-fits : (c : tie.After-block Inv-loop2 μ-loop2 Inv-loop μ-loop Inv-views μ-views) → (c .before .before .before .before .before .before .before .before .views .a) + 10 + (c .before .before .before .head .given .0 .1 .0) ≤ length (c .before .before .before .before .before .before .before .before .before .before .args .s .now)
+fits : (c : tie.After-block Inv-loop2 μ-loop2 Inv-loop μ-loop Inv-views μ-views) → (c .before .before .before .before .before .before .before .before .views .a) + 10 + (c .before .before .before .h .given .0 .1 .0) ≤ length (c .before .before .before .before .before .before .before .before .before .before .args .s .now)
 fits c = omega (arith, c .before .if1 .left, head (c .before .before .before) .within)
 
-same : (c : tie.After-block Inv-loop2 μ-loop2 Inv-loop μ-loop Inv-views μ-views) → blk c ≡ part (c .before .before .before .before .before .before .before .before .before .before .args .s .now) ((c .before .before .before .before .before .before .before .before .views .a) + 10) (c .before .before .before .head .given .0 .1 .0)
+same : (c : tie.After-block Inv-loop2 μ-loop2 Inv-loop μ-loop Inv-views μ-views) → blk c ≡ part (c .before .before .before .before .before .before .before .before .before .before .args .s .now) ((c .before .before .before .before .before .before .before .before .views .a) + 10) (c .before .before .before .h .given .0 .1 .0)
 same c =
-    let e : (c .before .before .before .before .before .before .before .before .views .a) + 10 + (c .before .before .before .head .given .0 .1 .0) - ((c .before .before .before .before .before .before .before .before .views .a) + 10) ≡ (c .before .before .before .head .given .0 .1 .0) = omega arith in
+    let e : (c .before .before .before .before .before .before .before .before .views .a) + 10 + (c .before .before .before .h .given .0 .1 .0) - ((c .before .before .before .before .before .before .before .before .views .a) + 10) ≡ (c .before .before .before .h .given .0 .1 .0) = omega arith in
     ap (λ (n : ℕ). take n (drop ((c .before .before .before .before .before .before .before .before .views .a) + 10) (c .before .before .before .before .before .before .before .before .before .before .args .s .now))) e
 
-long : (c : tie.After-block Inv-loop2 μ-loop2 Inv-loop μ-loop Inv-views μ-views) → length (blk c) ≡ (c .before .before .before .head .given .0 .1 .0)
-long c = ap length (same c) ∙ part-length (c .before .before .before .before .before .before .before .before .before .before .args .s .now) ((c .before .before .before .before .before .before .before .before .views .a) + 10) (c .before .before .before .head .given .0 .1 .0) (fits c)
+long : (c : tie.After-block Inv-loop2 μ-loop2 Inv-loop μ-loop Inv-views μ-views) → length (blk c) ≡ (c .before .before .before .h .given .0 .1 .0)
+long c = ap length (same c) ∙ part-length (c .before .before .before .before .before .before .before .before .before .before .args .s .now) ((c .before .before .before .before .before .before .before .before .views .a) + 10) (c .before .before .before .h .given .0 .1 .0) (fits c)
 
 small : (c : tie.After-block Inv-loop2 μ-loop2 Inv-loop μ-loop Inv-views μ-views) → length (blk c) ≤ 32768
 small c = omega (arith, long c, fits c, c .before .before .before .before .before .before .before .before .before .before .pre)
@@ -85,7 +85,7 @@ small c = omega (arith, long c, fits c, c .before .before .before .before .befor
 bad-view : (c : tie.After-block Inv-loop2 μ-loop2 Inv-loop μ-loop Inv-views μ-views) (e q : ℕ) → q ≤ 8 * length (blk c) → skeleton (c .before .before .before .before .before .before .before .before .before .before .args .w) .dec (bitsOf (blk c)) ≡ refused e (8 * length (blk c) - q) → Reads (viewsDec (c .before .before .before .before .before .before .before .before .before .before .args .w) (c .before .before .before .before .before .before .before .before .before .before .args .count)) (c .before .before .before .before .before .before .before .before .before .before .args .s .now) 192 (fault e (8 * ((c .before .before .before .before .before .before .before .before .views .a) + 10) + q))
 bad-view c e q l z =
     let z1 = ap (λ (x : List ℕ). skeleton (c .before .before .before .before .before .before .before .before .before .before .args .w) .dec (bitsOf x)) (sym (same c)) ∙ z ∙ ap (λ (x : ℕ). refused e (8 * x - q)) (long c) in
-    views-stop (c .before .before .before .before .before .before .before .before .before .before .args .w) (c .before .before .before .before .before .before .before .before .before .before .args .count) (c .before .before .before .before .before .before .before .before .before .before .args .s .now) (c .before .before .before .before .before .before .before .before .views .v) (c .before .before .before .before .before .before .before .before .views .size) (c .before .before .before .before .before .before .before .before .views .inv .4 .0) (c .before .before .before .before .before .before .before .before .views .a) (c .before .before .before .before .before .before .before .before .views .inv .4 .1 .2) (omega (arith, c .before .before .before .before .before .before .before .views-test .taken)) (skeleton-bad (c .before .before .before .before .before .before .before .before .before .before .args .w) (c .before .before .before .before .before .before .before .before .views .inv .4 .0) (c .before .before .before .before .before .before .before .before .before .before .args .s .now) (c .before .before .before .before .before .before .before .before .views .a) (c .before .before .before .head .given .0 .0) (c .before .before .before .head .given .0 .1 .0) (head (c .before .before .before)) (fits c) (omega (arith, long c)) z1)
+    views-stop (c .before .before .before .before .before .before .before .before .before .before .args .w) (c .before .before .before .before .before .before .before .before .before .before .args .count) (c .before .before .before .before .before .before .before .before .before .before .args .s .now) (c .before .before .before .before .before .before .before .before .views .v) (c .before .before .before .before .before .before .before .before .views .size) (c .before .before .before .before .before .before .before .before .views .inv .4 .0) (c .before .before .before .before .before .before .before .before .views .a) (c .before .before .before .before .before .before .before .before .views .inv .4 .1 .2) (omega (arith, c .before .before .before .before .before .before .before .views-test .taken)) (skeleton-bad (c .before .before .before .before .before .before .before .before .before .before .args .w) (c .before .before .before .before .before .before .before .before .views .inv .4 .0) (c .before .before .before .before .before .before .before .before .before .before .args .s .now) (c .before .before .before .before .before .before .before .before .views .a) (c .before .before .before .h .given .0 .0) (c .before .before .before .h .given .0 .1 .0) (head (c .before .before .before)) (fits c) (omega (arith, long c)) z1)
 
 -- a line that does not fit is the answer
 bad-line : (c : tie.Else3 Inv-loop2 μ-loop2 Inv-loop μ-loop Inv-views μ-views) → Reads (line (c .before .before .before .before .before .before .before .before .before .before .before .before .before .before .before .args .w) .dec) (blk (c .before .before .before .before .before)) (c .before .before .before .loop .p .at) (fault 8 (c .before .before .before .loop .p .at)) → Reads (viewsDec (c .before .before .before .before .before .before .before .before .before .before .before .before .before .before .before .args .w) (c .before .before .before .before .before .before .before .before .before .before .before .before .before .before .before .args .count)) (c .before .before .before .before .before .before .before .before .before .before .before .before .before .before .before .args .s .now) 192 (fault 8 (8 * ((c .before .before .before .before .before .before .before .before .before .before .before .before .before .views .a) + 10) + c .before .before .before .loop .p .at))
@@ -100,13 +100,13 @@ count-of : (c : tie.After-codes Inv-loop2 μ-loop2 Inv-loop μ-loop Inv-views μ
 count-of c = known (ap (taken badLine) (c .codes .given .1)) (c .before .before .field .ensures badLine)
 
 -- the lines are read
-lined : (c : tie.After-enum-told6 Inv-loop2 μ-loop2 Inv-loop μ-loop Inv-views μ-views) (P : Type 0) → ((ls : List Line) (u : Bits) → length ls ≡ c .before .before .before .before .before .loop .n → total lineSize ls ≡ c .before .before .before .before .before .loop .lines → skeleton (c .before .before .before .before .before .before .before .before .before .before .before .before .before .before .before .before .before .args .w) .dec (bitsOf (part (c .before .before .before .before .before .before .before .before .before .before .before .before .before .before .before .before .before .args .s .now) ((c .before .before .before .before .before .before .before .before .before .before .before .before .before .before .before .views .a) + 10) (c .before .before .before .before .before .before .before .before .before .before .head .given .0 .1 .0))) ≡ got ls u → P) → P
+lined : (c : tie.After-enum-told5 Inv-loop2 μ-loop2 Inv-loop μ-loop Inv-views μ-views) (P : Type 0) → ((ls : List Line) (u : Bits) → length ls ≡ c .before .before .before .before .before .loop .n → total lineSize ls ≡ c .before .before .before .before .before .loop .lines → skeleton (c .before .before .before .before .before .before .before .before .before .before .before .before .before .before .before .before .before .args .w) .dec (bitsOf (part (c .before .before .before .before .before .before .before .before .before .before .before .before .before .before .before .before .before .args .s .now) ((c .before .before .before .before .before .before .before .before .before .before .before .before .before .before .before .views .a) + 10) (c .before .before .before .before .before .before .before .before .before .before .h .given .0 .1 .0))) ≡ got ls u → P) → P
 lined c P f =
     lines-done (c .before .before .before .before .before .before .before .before .before .before .before .before .before .before .before .before .before .args .w) (blk (c .before .before .before .before .before .before .before)) (c .before .before .before .before .before .loop .n) (c .before .before .before .before .before .loop .lines) (c .before .before .before .before .before .loop .p .at) (c .before .before .before .before .before .loop .inv .4) (omega (arith, c .before .before .before .if2 .left))
-    (known (ap (cleared badLine (blk (c .before .before .before .before .before .before .before))) (c .enum-told6 .given .1)) (c .before .before .zeros-at .ensures badLine))
+    (known (ap (cleared badLine (blk (c .before .before .before .before .before .before .before))) (c .enum-told5 .given .1)) (c .before .before .zeros-at .ensures badLine))
     λ ls u l t z. f ls u l t (ap (λ (x : List ℕ). skeleton (c .before .before .before .before .before .before .before .before .before .before .before .before .before .before .before .before .before .args .w) .dec (bitsOf x)) (sym (same (c .before .before .before .before .before .before .before))) ∙ z)
 
-indexed : (c : tie.After-index Inv-loop2 μ-loop2 Inv-loop μ-loop Inv-views μ-views) → Reads (indexAtDec (c .before .before .before .before .before .before .before .before .loop .n)) (c .before .before .before .before .before .before .before .before .before .before .before .before .before .before .before .before .before .before .before .before .args .s .now) (8 * ((c .before .before .before .before .before .before .before .before .before .before .before .before .before .before .before .before .before .before .views .a) + 10 + (c .before .before .before .before .before .before .before .before .before .before .before .before .before .head .given .0 .1 .0))) (found (c .index .given .0 .1 .0) (8 * c .index .given .0 .0))
+indexed : (c : tie.After-index Inv-loop2 μ-loop2 Inv-loop μ-loop Inv-views μ-views) → Reads (indexAtDec (c .before .before .before .before .before .before .before .before .loop .n)) (c .before .before .before .before .before .before .before .before .before .before .before .before .before .before .before .before .before .before .before .before .args .s .now) (8 * ((c .before .before .before .before .before .before .before .before .before .before .before .before .before .before .before .before .before .before .views .a) + 10 + (c .before .before .before .before .before .before .before .before .before .before .before .before .before .h .given .0 .1 .0))) (found (c .index .given .0 .1 .0) (8 * c .index .given .0 .0))
 indexed c = known (ap reached (c .index .given .1)) (c .before .before .index-at .ensures)
 
 segmented : (c : tie.After-segments Inv-loop2 μ-loop2 Inv-loop μ-loop Inv-views μ-views) → Reads segmentsAtDec (c .before .before .before .before .before .before .before .before .before .before .before .before .before .before .before .before .before .before .before .before .before .before .before .before .args .s .now) (8 * c .before .before .before .before .index .given .0 .0) (found (c .segments .given .0 .1 .0) (8 * c .segments .given .0 .0))
@@ -128,47 +128,47 @@ left c =
     known (ap (exit (k .before .views .a) (k .before .views .size)) (sym (x .1 ∙ k .before .views .inv .2))) (views-done (k .before .before .before .args .w) (k .before .before .before .args .count) (k .before .before .before .args .s .now) (k .before .views .v) (k .before .views .size) (k .before .views .inv .4 .0) (k .before .views .a) (k .before .views .inv .4 .1 .2) (omega (arith, k .views-test .left)) (k .before .views .inv .1)))
     (⊎-elim
     (λ x.
-    let k : tie.After-refused-head Inv-loop2 μ-loop2 Inv-loop μ-loop Inv-views μ-views = record { before = record { before = record { before = record { before = record { before = record { before = c .before; views-test = x .0 }; seen = x .1 }; head-at = x .2 }; match = x .3 }; enum-told = x .4 }; refused-head = x .5 } in
-    known (ap (exit (k .before .before .before .before .before .before .views .a) (k .before .before .before .before .before .before .views .size)) (sym (x .6 ∙ k .refused-head .ensures ∙ ap headRefusal (k .before .enum-told .given .1))))
-    (views-stop (k .before .before .before .before .before .before .before .before .args .w) (k .before .before .before .before .before .before .before .before .args .count) (k .before .before .before .before .before .before .before .before .args .s .now) (k .before .before .before .before .before .before .views .v) (k .before .before .before .before .before .before .views .size) (k .before .before .before .before .before .before .views .inv .4 .0) (k .before .before .before .before .before .before .views .a) (k .before .before .before .before .before .before .views .inv .4 .1 .2) (omega (arith, k .before .before .before .before .before .views-test .taken)) (no-head (k .before .before .before .before .before .before .before .before .args .w) (k .before .before .before .before .before .before .views .inv .4 .0) (k .before .before .before .before .before .before .before .before .args .s .now) (k .before .before .before .before .before .before .views .a) (head-seen _ _ _ (k .before .before .before .before .before .before .views .inv .4 .1 .1) (known (ap (headAt (k .before .before .before .before .before .before .views .a)) (k .before .enum-told .given .1)) (k .before .before .before .head-at .ensures))))))
+    let k : tie.After-known-told2 Inv-loop2 μ-loop2 Inv-loop μ-loop Inv-views μ-views = record { before = record { before = record { before = record { before = record { before = record { before = c .before; views-test = x .0 }; seen = x .1 }; head-at = x .2 }; match = x .3 }; e = x .4 }; known-told2 = x .5 } in
+    known (ap (exit (k .before .before .before .before .before .before .views .a) (k .before .before .before .before .before .before .views .size)) (sym (x .6)))
+    (views-stop (k .before .before .before .before .before .before .before .before .args .w) (k .before .before .before .before .before .before .before .before .args .count) (k .before .before .before .before .before .before .before .before .args .s .now) (k .before .before .before .before .before .before .views .v) (k .before .before .before .before .before .before .views .size) (k .before .before .before .before .before .before .views .inv .4 .0) (k .before .before .before .before .before .before .views .a) (k .before .before .before .before .before .before .views .inv .4 .1 .2) (omega (arith, k .before .before .before .before .before .views-test .taken)) (no-head (k .before .before .before .before .before .before .before .before .args .w) (k .before .before .before .before .before .before .views .inv .4 .0) (k .before .before .before .before .before .before .before .before .args .s .now) (k .before .before .before .before .before .before .views .a) (head-seen _ _ _ (k .before .before .before .before .before .before .views .inv .4 .1 .1) (known (ap (headAt (k .before .before .before .before .before .before .views .a)) (k .before .e .given .1)) (k .before .before .before .head-at .ensures))))))
     (⊎-elim
     (λ x.
-    let k : tie.Then1 Inv-loop2 μ-loop2 Inv-loop μ-loop Inv-views μ-views = record { before = record { before = record { before = record { before = record { before = record { before = record { before = c .before; views-test = x .0 }; seen = x .1 }; head-at = x .2 }; match = x .3 }; head = x .4 }; known-told = x .5 }; if1 = x .6 } in
-    known (ap (exit (k .before .before .before .before .before .before .before .views .a) (k .before .before .before .before .before .before .before .views .size)) (sym (x .7))) (views-stop (k .before .before .before .before .before .before .before .before .before .args .w) (k .before .before .before .before .before .before .before .before .before .args .count) (k .before .before .before .before .before .before .before .before .before .args .s .now) (k .before .before .before .before .before .before .before .views .v) (k .before .before .before .before .before .before .before .views .size) (k .before .before .before .before .before .before .before .views .inv .4 .0) (k .before .before .before .before .before .before .before .views .a) (k .before .before .before .before .before .before .before .views .inv .4 .1 .2) (omega (arith, k .before .before .before .before .before .before .views-test .taken)) (skeleton-past (k .before .before .before .before .before .before .before .before .before .args .w) (k .before .before .before .before .before .before .before .views .inv .4 .0) (k .before .before .before .before .before .before .before .before .before .args .s .now) (k .before .before .before .before .before .before .before .views .a) (k .before .before .head .given .0 .0) (k .before .before .head .given .0 .1 .0) (head (k .before .before)) (omega (arith, head (k .before .before) .within)) (k .if1 .taken))))
+    let k : tie.Then1 Inv-loop2 μ-loop2 Inv-loop μ-loop Inv-views μ-views = record { before = record { before = record { before = record { before = record { before = record { before = record { before = c .before; views-test = x .0 }; seen = x .1 }; head-at = x .2 }; match = x .3 }; h = x .4 }; known-told = x .5 }; if1 = x .6 } in
+    known (ap (exit (k .before .before .before .before .before .before .before .views .a) (k .before .before .before .before .before .before .before .views .size)) (sym (x .7))) (views-stop (k .before .before .before .before .before .before .before .before .before .args .w) (k .before .before .before .before .before .before .before .before .before .args .count) (k .before .before .before .before .before .before .before .before .before .args .s .now) (k .before .before .before .before .before .before .before .views .v) (k .before .before .before .before .before .before .before .views .size) (k .before .before .before .before .before .before .before .views .inv .4 .0) (k .before .before .before .before .before .before .before .views .a) (k .before .before .before .before .before .before .before .views .inv .4 .1 .2) (omega (arith, k .before .before .before .before .before .before .views-test .taken)) (skeleton-past (k .before .before .before .before .before .before .before .before .before .args .w) (k .before .before .before .before .before .before .before .views .inv .4 .0) (k .before .before .before .before .before .before .before .before .before .args .s .now) (k .before .before .before .before .before .before .before .views .a) (k .before .before .h .given .0 .0) (k .before .before .h .given .0 .1 .0) (head (k .before .before)) (omega (arith, head (k .before .before) .within)) (k .if1 .taken))))
     (⊎-elim
     (λ x.
-    let k : tie.Then3 Inv-loop2 μ-loop2 Inv-loop μ-loop Inv-views μ-views = record { before = record { before = record { before = record { before = record { before = record { before = record { before = record { before = record { before = record { before = record { before = record { before = record { before = c .before; views-test = x .0 }; seen = x .1 }; head-at = x .2 }; match = x .3 }; head = x .4 }; known-told = x .5 }; if1 = x .6 }; block = x .7 }; start = x .8 }; loop = x .9 }; struct-known = x .10 }; if2 = x .11 }; if3 = x .12 } in
+    let k : tie.Then3 Inv-loop2 μ-loop2 Inv-loop μ-loop Inv-views μ-views = record { before = record { before = record { before = record { before = record { before = record { before = record { before = record { before = record { before = record { before = record { before = record { before = record { before = c .before; views-test = x .0 }; seen = x .1 }; head-at = x .2 }; match = x .3 }; h = x .4 }; known-told = x .5 }; if1 = x .6 }; block = x .7 }; start = x .8 }; loop = x .9 }; struct-known = x .10 }; if2 = x .11 }; if3 = x .12 } in
     known (ap (exit (k .before .before .before .before .before .before .before .before .before .before .before .before .before .views .a) (k .before .before .before .before .before .before .before .before .before .before .before .before .before .views .size)) (sym (x .13))) (bad-view (k .before .before .before .before .before) 9 (k .before .before .before .loop .p .at) (k .before .before .before .loop .inv .1) (lines-over (k .before .before .before .before .before .before .before .before .before .before .before .before .before .before .before .args .w) (blk (k .before .before .before .before .before)) (k .before .before .before .loop .n) (k .before .before .before .loop .lines) (k .before .before .before .loop .p .at) (k .before .before .before .loop .inv .4) (k .if3 .taken) (omega (arith, k .before .if2 .taken)))))
     (⊎-elim
     (λ x.
-    let k : tie.After-enum-told2 Inv-loop2 μ-loop2 Inv-loop μ-loop Inv-views μ-views = record { before = record { before = record { before = record { before = record { before = record { before = record { before = record { before = record { before = record { before = record { before = record { before = record { before = record { before = record { before = record { before = c .before; views-test = x .0 }; seen = x .1 }; head-at = x .2 }; match = x .3 }; head = x .4 }; known-told = x .5 }; if1 = x .6 }; block = x .7 }; start = x .8 }; loop = x .9 }; struct-known = x .10 }; if2 = x .11 }; if3 = x .12 }; end-at = x .13 }; match2 = x .14 }; enum-told2 = x .15 } in
-    known (ap (exit (k .before .before .before .before .before .before .before .before .before .before .before .before .before .before .before .before .views .a) (k .before .before .before .before .before .before .before .before .before .before .before .before .before .before .before .before .views .size)) (sym (x .16))) (bad-line (k .before .before .before) (no-start (k .before .before .before .before .before .before .before .before .before .before .before .before .before .before .before .before .before .before .args .w) (blk (k .before .before .before .before .before .before .before .before)) (k .before .before .before .before .before .before .loop .p .at) (k .before .before .before .before .before .before .loop .inv .1) (known (ap ended (k .enum-told2 .given .1)) (k .before .before .end-at .ensures)))))
+    let k : tie.After-enum-told Inv-loop2 μ-loop2 Inv-loop μ-loop Inv-views μ-views = record { before = record { before = record { before = record { before = record { before = record { before = record { before = record { before = record { before = record { before = record { before = record { before = record { before = record { before = record { before = record { before = c .before; views-test = x .0 }; seen = x .1 }; head-at = x .2 }; match = x .3 }; h = x .4 }; known-told = x .5 }; if1 = x .6 }; block = x .7 }; start = x .8 }; loop = x .9 }; struct-known = x .10 }; if2 = x .11 }; if3 = x .12 }; end-at = x .13 }; match2 = x .14 }; enum-told = x .15 } in
+    known (ap (exit (k .before .before .before .before .before .before .before .before .before .before .before .before .before .before .before .before .views .a) (k .before .before .before .before .before .before .before .before .before .before .before .before .before .before .before .before .views .size)) (sym (x .16))) (bad-line (k .before .before .before) (no-start (k .before .before .before .before .before .before .before .before .before .before .before .before .before .before .before .before .before .before .args .w) (blk (k .before .before .before .before .before .before .before .before)) (k .before .before .before .before .before .before .loop .p .at) (k .before .before .before .before .before .before .loop .inv .1) (known (ap ended (k .enum-told .given .1)) (k .before .before .end-at .ensures)))))
     (⊎-elim
     (λ x.
-    let k : tie.After-enum-told3 Inv-loop2 μ-loop2 Inv-loop μ-loop Inv-views μ-views = record { before = record { before = record { before = record { before = record { before = record { before = record { before = record { before = record { before = record { before = record { before = record { before = record { before = record { before = record { before = record { before = record { before = record { before = record { before = record { before = c .before; views-test = x .0 }; seen = x .1 }; head-at = x .2 }; match = x .3 }; head = x .4 }; known-told = x .5 }; if1 = x .6 }; block = x .7 }; start = x .8 }; loop = x .9 }; struct-known = x .10 }; if2 = x .11 }; if3 = x .12 }; end-at = x .13 }; match2 = x .14 }; p1 = x .15 }; known-told2 = x .16 }; field = x .17 }; match3 = x .18 }; enum-told3 = x .19 } in
-    known (ap (exit (k .before .before .before .before .before .before .before .before .before .before .before .before .before .before .before .before .before .before .before .before .views .a) (k .before .before .before .before .before .before .before .before .before .before .before .before .before .before .before .before .before .before .before .before .views .size)) (sym (x .20))) (bad-line (k .before .before .before .before .before .before .before) (no-count (k .before .before .before .before .before .before .before .before .before .before .before .before .before .before .before .before .before .before .before .before .before .before .args .w) (blk (k .before .before .before .before .before .before .before .before .before .before .before .before)) (k .before .before .before .before .before .before .before .before .before .before .loop .p .at) (k .before .before .before .before .before .before .before .before .before .before .loop .inv .1) (start-of (k .before .before .before .before)) (known (ap (taken badLine) (k .enum-told3 .given .1)) (k .before .before .field .ensures badLine)))))
+    let k : tie.After-enum-told2 Inv-loop2 μ-loop2 Inv-loop μ-loop Inv-views μ-views = record { before = record { before = record { before = record { before = record { before = record { before = record { before = record { before = record { before = record { before = record { before = record { before = record { before = record { before = record { before = record { before = record { before = record { before = record { before = record { before = c .before; views-test = x .0 }; seen = x .1 }; head-at = x .2 }; match = x .3 }; h = x .4 }; known-told = x .5 }; if1 = x .6 }; block = x .7 }; start = x .8 }; loop = x .9 }; struct-known = x .10 }; if2 = x .11 }; if3 = x .12 }; end-at = x .13 }; match2 = x .14 }; p1 = x .15 }; known-told3 = x .16 }; field = x .17 }; match3 = x .18 }; enum-told2 = x .19 } in
+    known (ap (exit (k .before .before .before .before .before .before .before .before .before .before .before .before .before .before .before .before .before .before .before .before .views .a) (k .before .before .before .before .before .before .before .before .before .before .before .before .before .before .before .before .before .before .before .before .views .size)) (sym (x .20))) (bad-line (k .before .before .before .before .before .before .before) (no-count (k .before .before .before .before .before .before .before .before .before .before .before .before .before .before .before .before .before .before .before .before .before .before .args .w) (blk (k .before .before .before .before .before .before .before .before .before .before .before .before)) (k .before .before .before .before .before .before .before .before .before .before .loop .p .at) (k .before .before .before .before .before .before .before .before .before .before .loop .inv .1) (start-of (k .before .before .before .before)) (known (ap (taken badLine) (k .enum-told2 .given .1)) (k .before .before .field .ensures badLine)))))
     (⊎-elim
     (λ x.
-    let k : tie.After-enum-told4 Inv-loop2 μ-loop2 Inv-loop μ-loop Inv-views μ-views = record { before = record { before = record { before = record { before = record { before = record { before = record { before = record { before = record { before = record { before = record { before = record { before = record { before = record { before = record { before = record { before = record { before = record { before = record { before = record { before = record { before = record { before = record { before = record { before = record { before = record { before = c .before; views-test = x .0 }; seen = x .1 }; head-at = x .2 }; match = x .3 }; head = x .4 }; known-told = x .5 }; if1 = x .6 }; block = x .7 }; start = x .8 }; loop = x .9 }; struct-known = x .10 }; if2 = x .11 }; if3 = x .12 }; end-at = x .13 }; match2 = x .14 }; p1 = x .15 }; known-told2 = x .16 }; field = x .17 }; match3 = x .18 }; codes = x .19 }; known-told3 = x .20 }; loop2 = x .21 }; loop2-test = x .22 }; field2 = x .23 }; match4 = x .24 }; enum-told4 = x .25 } in
-    known (ap (exit (k .before .before .before .before .before .before .before .before .before .before .before .before .before .before .before .before .before .before .before .before .before .before .before .before .before .before .views .a) (k .before .before .before .before .before .before .before .before .before .before .before .before .before .before .before .before .before .before .before .before .before .before .before .before .before .before .views .size)) (sym (x .26))) (bad-line (k .before .before .before .before .before .before .before .before .before .before .before .before .before) (no-code (k .before .before .before .before .before .before .before .before .before .before .before .before .before .before .before .before .before .before .before .before .before .before .before .before .before .before .before .before .args .w) (blk (k .before .before .before .before .before .before .before .before .before .before .before .before .before .before .before .before .before .before)) (k .before .before .before .before .before .before .before .before .before .before .before .before .before .before .before .before .loop .p .at) (k .before .before .before .before .before .before .before .before .before .before .before .before .before .before .before .before .loop .inv .1) (start-of (k .before .before .before .before .before .before .before .before .before .before)) (count-of (k .before .before .before .before .before .before)) (k .before .before .before .before .loop2 .i) (k .before .before .before .before .loop2 .p .at) (k .before .before .before .before .loop2 .inv .3) (omega (arith, k .before .before .before .loop2-test .taken)) (known (ap (taken badLine) (k .enum-told4 .given .1)) (k .before .before .field2 .ensures badLine)))))
+    let k : tie.After-enum-told3 Inv-loop2 μ-loop2 Inv-loop μ-loop Inv-views μ-views = record { before = record { before = record { before = record { before = record { before = record { before = record { before = record { before = record { before = record { before = record { before = record { before = record { before = record { before = record { before = record { before = record { before = record { before = record { before = record { before = record { before = record { before = record { before = record { before = record { before = record { before = c .before; views-test = x .0 }; seen = x .1 }; head-at = x .2 }; match = x .3 }; h = x .4 }; known-told = x .5 }; if1 = x .6 }; block = x .7 }; start = x .8 }; loop = x .9 }; struct-known = x .10 }; if2 = x .11 }; if3 = x .12 }; end-at = x .13 }; match2 = x .14 }; p1 = x .15 }; known-told3 = x .16 }; field = x .17 }; match3 = x .18 }; codes = x .19 }; known-told4 = x .20 }; loop2 = x .21 }; loop2-test = x .22 }; field2 = x .23 }; match4 = x .24 }; enum-told3 = x .25 } in
+    known (ap (exit (k .before .before .before .before .before .before .before .before .before .before .before .before .before .before .before .before .before .before .before .before .before .before .before .before .before .before .views .a) (k .before .before .before .before .before .before .before .before .before .before .before .before .before .before .before .before .before .before .before .before .before .before .before .before .before .before .views .size)) (sym (x .26))) (bad-line (k .before .before .before .before .before .before .before .before .before .before .before .before .before) (no-code (k .before .before .before .before .before .before .before .before .before .before .before .before .before .before .before .before .before .before .before .before .before .before .before .before .before .before .before .before .args .w) (blk (k .before .before .before .before .before .before .before .before .before .before .before .before .before .before .before .before .before .before)) (k .before .before .before .before .before .before .before .before .before .before .before .before .before .before .before .before .loop .p .at) (k .before .before .before .before .before .before .before .before .before .before .before .before .before .before .before .before .loop .inv .1) (start-of (k .before .before .before .before .before .before .before .before .before .before)) (count-of (k .before .before .before .before .before .before)) (k .before .before .before .before .loop2 .i) (k .before .before .before .before .loop2 .p .at) (k .before .before .before .before .loop2 .inv .3) (omega (arith, k .before .before .before .loop2-test .taken)) (known (ap (taken badLine) (k .enum-told3 .given .1)) (k .before .before .field2 .ensures badLine)))))
     (⊎-elim
     (λ x.
-    let k : tie.After-enum-told5 Inv-loop2 μ-loop2 Inv-loop μ-loop Inv-views μ-views = record { before = record { before = record { before = record { before = record { before = record { before = record { before = record { before = record { before = record { before = record { before = record { before = record { before = record { before = record { before = record { before = record { before = record { before = record { before = record { before = record { before = record { before = record { before = record { before = record { before = record { before = c .before; views-test = x .0 }; seen = x .1 }; head-at = x .2 }; match = x .3 }; head = x .4 }; known-told = x .5 }; if1 = x .6 }; block = x .7 }; start = x .8 }; loop = x .9 }; struct-known = x .10 }; if2 = x .11 }; if3 = x .12 }; end-at = x .13 }; match2 = x .14 }; p1 = x .15 }; known-told2 = x .16 }; field = x .17 }; match3 = x .18 }; codes = x .19 }; known-told3 = x .20 }; loop2 = x .21 }; loop2-test = x .22 }; end-at2 = x .23 }; match5 = x .24 }; enum-told5 = x .25 } in
-    known (ap (exit (k .before .before .before .before .before .before .before .before .before .before .before .before .before .before .before .before .before .before .before .before .before .before .before .before .before .before .views .a) (k .before .before .before .before .before .before .before .before .before .before .before .before .before .before .before .before .before .before .before .before .before .before .before .before .before .before .views .size)) (sym (x .26))) (bad-line (k .before .before .before .before .before .before .before .before .before .before .before .before .before) (no-finish (k .before .before .before .before .before .before .before .before .before .before .before .before .before .before .before .before .before .before .before .before .before .before .before .before .before .before .before .before .args .w) (blk (k .before .before .before .before .before .before .before .before .before .before .before .before .before .before .before .before .before .before)) (k .before .before .before .before .before .before .before .before .before .before .before .before .before .before .before .before .loop .p .at) (k .before .before .before .before .before .before .before .before .before .before .before .before .before .before .before .before .loop .inv .1) (start-of (k .before .before .before .before .before .before .before .before .before .before)) (count-of (k .before .before .before .before .before .before)) (k .before .before .before .before .loop2 .i) (k .before .before .before .before .loop2 .p .at) (k .before .before .before .before .loop2 .inv .3) (k .before .before .before .before .loop2 .inv .1) (omega (arith, k .before .before .before .loop2-test .left)) (known (ap ended (k .enum-told5 .given .1)) (k .before .before .end-at2 .ensures)))))
+    let k : tie.After-enum-told4 Inv-loop2 μ-loop2 Inv-loop μ-loop Inv-views μ-views = record { before = record { before = record { before = record { before = record { before = record { before = record { before = record { before = record { before = record { before = record { before = record { before = record { before = record { before = record { before = record { before = record { before = record { before = record { before = record { before = record { before = record { before = record { before = record { before = record { before = record { before = c .before; views-test = x .0 }; seen = x .1 }; head-at = x .2 }; match = x .3 }; h = x .4 }; known-told = x .5 }; if1 = x .6 }; block = x .7 }; start = x .8 }; loop = x .9 }; struct-known = x .10 }; if2 = x .11 }; if3 = x .12 }; end-at = x .13 }; match2 = x .14 }; p1 = x .15 }; known-told3 = x .16 }; field = x .17 }; match3 = x .18 }; codes = x .19 }; known-told4 = x .20 }; loop2 = x .21 }; loop2-test = x .22 }; end-at2 = x .23 }; match5 = x .24 }; enum-told4 = x .25 } in
+    known (ap (exit (k .before .before .before .before .before .before .before .before .before .before .before .before .before .before .before .before .before .before .before .before .before .before .before .before .before .before .views .a) (k .before .before .before .before .before .before .before .before .before .before .before .before .before .before .before .before .before .before .before .before .before .before .before .before .before .before .views .size)) (sym (x .26))) (bad-line (k .before .before .before .before .before .before .before .before .before .before .before .before .before) (no-finish (k .before .before .before .before .before .before .before .before .before .before .before .before .before .before .before .before .before .before .before .before .before .before .before .before .before .before .before .before .args .w) (blk (k .before .before .before .before .before .before .before .before .before .before .before .before .before .before .before .before .before .before)) (k .before .before .before .before .before .before .before .before .before .before .before .before .before .before .before .before .loop .p .at) (k .before .before .before .before .before .before .before .before .before .before .before .before .before .before .before .before .loop .inv .1) (start-of (k .before .before .before .before .before .before .before .before .before .before)) (count-of (k .before .before .before .before .before .before)) (k .before .before .before .before .loop2 .i) (k .before .before .before .before .loop2 .p .at) (k .before .before .before .before .loop2 .inv .3) (k .before .before .before .before .loop2 .inv .1) (omega (arith, k .before .before .before .loop2-test .left)) (known (ap ended (k .enum-told4 .given .1)) (k .before .before .end-at2 .ensures)))))
     (⊎-elim
     (λ x.
-    let k : tie.After-known-told6 Inv-loop2 μ-loop2 Inv-loop μ-loop Inv-views μ-views = record { before = record { before = record { before = record { before = record { before = record { before = record { before = record { before = record { before = record { before = record { before = record { before = record { before = record { before = record { before = record { before = c .before; views-test = x .0 }; seen = x .1 }; head-at = x .2 }; match = x .3 }; head = x .4 }; known-told = x .5 }; if1 = x .6 }; block = x .7 }; start = x .8 }; loop = x .9 }; struct-known = x .10 }; if2 = x .11 }; zeros-at = x .12 }; match6 = x .13 }; q = x .14 }; known-told6 = x .15 } in
+    let k : tie.After-known-told7 Inv-loop2 μ-loop2 Inv-loop μ-loop Inv-views μ-views = record { before = record { before = record { before = record { before = record { before = record { before = record { before = record { before = record { before = record { before = record { before = record { before = record { before = record { before = record { before = record { before = c .before; views-test = x .0 }; seen = x .1 }; head-at = x .2 }; match = x .3 }; h = x .4 }; known-told = x .5 }; if1 = x .6 }; block = x .7 }; start = x .8 }; loop = x .9 }; struct-known = x .10 }; if2 = x .11 }; zeros-at = x .12 }; match6 = x .13 }; q = x .14 }; known-told7 = x .15 } in
     let g = known (ap (cleared badLine (blk (k .before .before .before .before .before .before .before .before))) (k .before .q .given .1)) (k .before .before .before .zeros-at .ensures badLine) in
     known (ap (exit (k .before .before .before .before .before .before .before .before .before .before .before .before .before .before .before .before .views .a) (k .before .before .before .before .before .before .before .before .before .before .before .before .before .before .before .before .views .size)) (sym (x .16))) (bad-view (k .before .before .before .before .before .before .before .before) 8 _ (g .within) (lines-dirt (k .before .before .before .before .before .before .before .before .before .before .before .before .before .before .before .before .before .before .args .w) (blk (k .before .before .before .before .before .before .before .before)) (k .before .before .before .before .before .before .loop .n) (k .before .before .before .before .before .before .loop .lines) (k .before .before .before .before .before .before .loop .p .at) (k .before .before .before .before .before .before .loop .inv .4) (omega (arith, k .before .before .before .before .if2 .left)) g)))
     (⊎-elim
     (λ x.
-    let k : tie.After-enum-told7 Inv-loop2 μ-loop2 Inv-loop μ-loop Inv-views μ-views = record { before = record { before = record { before = record { before = record { before = record { before = record { before = record { before = record { before = record { before = record { before = record { before = record { before = record { before = record { before = record { before = record { before = record { before = c .before; views-test = x .0 }; seen = x .1 }; head-at = x .2 }; match = x .3 }; head = x .4 }; known-told = x .5 }; if1 = x .6 }; block = x .7 }; start = x .8 }; loop = x .9 }; struct-known = x .10 }; if2 = x .11 }; zeros-at = x .12 }; match6 = x .13 }; enum-told6 = x .14 }; index-at = x .15 }; match7 = x .16 }; enum-told7 = x .17 } in
-    known (ap (exit (k .before .before .before .before .before .before .before .before .before .before .before .before .before .before .before .before .before .before .views .a) (k .before .before .before .before .before .before .before .before .before .before .before .before .before .before .before .before .before .before .views .size)) (sym (x .18 ∙ k .enum-told7 .given .1)))
-    (lined (k .before .before .before) _ λ ls u l t z. views-stop (k .before .before .before .before .before .before .before .before .before .before .before .before .before .before .before .before .before .before .before .before .args .w) (k .before .before .before .before .before .before .before .before .before .before .before .before .before .before .before .before .before .before .before .before .args .count) (k .before .before .before .before .before .before .before .before .before .before .before .before .before .before .before .before .before .before .before .before .args .s .now) (k .before .before .before .before .before .before .before .before .before .before .before .before .before .before .before .before .before .before .views .v) (k .before .before .before .before .before .before .before .before .before .before .before .before .before .before .before .before .before .before .views .size) (k .before .before .before .before .before .before .before .before .before .before .before .before .before .before .before .before .before .before .views .inv .4 .0) (k .before .before .before .before .before .before .before .before .before .before .before .before .before .before .before .before .before .before .views .a) (k .before .before .before .before .before .before .before .before .before .before .before .before .before .before .before .before .before .before .views .inv .4 .1 .2) (omega (arith, k .before .before .before .before .before .before .before .before .before .before .before .before .before .before .before .before .before .views-test .taken)) (index-bad (k .before .before .before .before .before .before .before .before .before .before .before .before .before .before .before .before .before .before .before .before .args .w) (k .before .before .before .before .before .before .before .before .before .before .before .before .before .before .before .before .before .before .views .inv .4 .0) (k .before .before .before .before .before .before .before .before .before .before .before .before .before .before .before .before .before .before .before .before .args .s .now) (k .before .before .before .before .before .before .before .before .before .before .before .before .before .before .before .before .before .before .views .a) (k .before .before .before .before .before .before .before .before .before .before .before .before .before .head .given .0 .0) (k .before .before .before .before .before .before .before .before .before .before .before .before .before .head .given .0 .1 .0) (head (k .before .before .before .before .before .before .before .before .before .before .before .before .before)) (fits (k .before .before .before .before .before .before .before .before .before .before)) ls u (k .before .before .before .before .before .before .before .before .loop .n) l z (known (ap reached (k .enum-told7 .given .1)) (k .before .before .index-at .ensures)))))
+    let k : tie.After-enum-told6 Inv-loop2 μ-loop2 Inv-loop μ-loop Inv-views μ-views = record { before = record { before = record { before = record { before = record { before = record { before = record { before = record { before = record { before = record { before = record { before = record { before = record { before = record { before = record { before = record { before = record { before = record { before = c .before; views-test = x .0 }; seen = x .1 }; head-at = x .2 }; match = x .3 }; h = x .4 }; known-told = x .5 }; if1 = x .6 }; block = x .7 }; start = x .8 }; loop = x .9 }; struct-known = x .10 }; if2 = x .11 }; zeros-at = x .12 }; match6 = x .13 }; enum-told5 = x .14 }; index-at = x .15 }; match7 = x .16 }; enum-told6 = x .17 } in
+    known (ap (exit (k .before .before .before .before .before .before .before .before .before .before .before .before .before .before .before .before .before .before .views .a) (k .before .before .before .before .before .before .before .before .before .before .before .before .before .before .before .before .before .before .views .size)) (sym (x .18 ∙ k .enum-told6 .given .1)))
+    (lined (k .before .before .before) _ λ ls u l t z. views-stop (k .before .before .before .before .before .before .before .before .before .before .before .before .before .before .before .before .before .before .before .before .args .w) (k .before .before .before .before .before .before .before .before .before .before .before .before .before .before .before .before .before .before .before .before .args .count) (k .before .before .before .before .before .before .before .before .before .before .before .before .before .before .before .before .before .before .before .before .args .s .now) (k .before .before .before .before .before .before .before .before .before .before .before .before .before .before .before .before .before .before .views .v) (k .before .before .before .before .before .before .before .before .before .before .before .before .before .before .before .before .before .before .views .size) (k .before .before .before .before .before .before .before .before .before .before .before .before .before .before .before .before .before .before .views .inv .4 .0) (k .before .before .before .before .before .before .before .before .before .before .before .before .before .before .before .before .before .before .views .a) (k .before .before .before .before .before .before .before .before .before .before .before .before .before .before .before .before .before .before .views .inv .4 .1 .2) (omega (arith, k .before .before .before .before .before .before .before .before .before .before .before .before .before .before .before .before .before .views-test .taken)) (index-bad (k .before .before .before .before .before .before .before .before .before .before .before .before .before .before .before .before .before .before .before .before .args .w) (k .before .before .before .before .before .before .before .before .before .before .before .before .before .before .before .before .before .before .views .inv .4 .0) (k .before .before .before .before .before .before .before .before .before .before .before .before .before .before .before .before .before .before .before .before .args .s .now) (k .before .before .before .before .before .before .before .before .before .before .before .before .before .before .before .before .before .before .views .a) (k .before .before .before .before .before .before .before .before .before .before .before .before .before .h .given .0 .0) (k .before .before .before .before .before .before .before .before .before .before .before .before .before .h .given .0 .1 .0) (head (k .before .before .before .before .before .before .before .before .before .before .before .before .before)) (fits (k .before .before .before .before .before .before .before .before .before .before)) ls u (k .before .before .before .before .before .before .before .before .loop .n) l z (known (ap reached (k .enum-told6 .given .1)) (k .before .before .index-at .ensures)))))
     (λ x.
-    let k : tie.After-enum-told8 Inv-loop2 μ-loop2 Inv-loop μ-loop Inv-views μ-views = record { before = record { before = record { before = record { before = record { before = record { before = record { before = record { before = record { before = record { before = record { before = record { before = record { before = record { before = record { before = record { before = record { before = record { before = record { before = record { before = record { before = record { before = c .before; views-test = x .0 }; seen = x .1 }; head-at = x .2 }; match = x .3 }; head = x .4 }; known-told = x .5 }; if1 = x .6 }; block = x .7 }; start = x .8 }; loop = x .9 }; struct-known = x .10 }; if2 = x .11 }; zeros-at = x .12 }; match6 = x .13 }; enum-told6 = x .14 }; index-at = x .15 }; match7 = x .16 }; index = x .17 }; known-told7 = x .18 }; segments-at = x .19 }; match8 = x .20 }; enum-told8 = x .21 } in
-    known (ap (exit (k .before .before .before .before .before .before .before .before .before .before .before .before .before .before .before .before .before .before .before .before .before .before .views .a) (k .before .before .before .before .before .before .before .before .before .before .before .before .before .before .before .before .before .before .before .before .before .before .views .size)) (sym (x .22 ∙ k .enum-told8 .given .1)))
-    (lined (k .before .before .before .before .before .before .before) _ λ ls u l t z. views-stop (k .before .before .before .before .before .before .before .before .before .before .before .before .before .before .before .before .before .before .before .before .before .before .before .before .args .w) (k .before .before .before .before .before .before .before .before .before .before .before .before .before .before .before .before .before .before .before .before .before .before .before .before .args .count) (k .before .before .before .before .before .before .before .before .before .before .before .before .before .before .before .before .before .before .before .before .before .before .before .before .args .s .now) (k .before .before .before .before .before .before .before .before .before .before .before .before .before .before .before .before .before .before .before .before .before .before .views .v) (k .before .before .before .before .before .before .before .before .before .before .before .before .before .before .before .before .before .before .before .before .before .before .views .size) (k .before .before .before .before .before .before .before .before .before .before .before .before .before .before .before .before .before .before .before .before .before .before .views .inv .4 .0) (k .before .before .before .before .before .before .before .before .before .before .before .before .before .before .before .before .before .before .before .before .before .before .views .a) (k .before .before .before .before .before .before .before .before .before .before .before .before .before .before .before .before .before .before .before .before .before .before .views .inv .4 .1 .2) (omega (arith, k .before .before .before .before .before .before .before .before .before .before .before .before .before .before .before .before .before .before .before .before .before .views-test .taken)) (segments-bad (k .before .before .before .before .before .before .before .before .before .before .before .before .before .before .before .before .before .before .before .before .before .before .before .before .args .w) (k .before .before .before .before .before .before .before .before .before .before .before .before .before .before .before .before .before .before .before .before .before .before .views .inv .4 .0) (k .before .before .before .before .before .before .before .before .before .before .before .before .before .before .before .before .before .before .before .before .before .before .before .before .args .s .now) (k .before .before .before .before .before .before .before .before .before .before .before .before .before .before .before .before .before .before .before .before .before .before .views .a) (k .before .before .before .before .before .before .before .before .before .before .before .before .before .before .before .before .before .head .given .0 .0) (k .before .before .before .before .before .before .before .before .before .before .before .before .before .before .before .before .before .head .given .0 .1 .0) (head (k .before .before .before .before .before .before .before .before .before .before .before .before .before .before .before .before .before)) (fits (k .before .before .before .before .before .before .before .before .before .before .before .before .before .before)) ls u (k .before .before .before .before .before .before .before .before .before .before .before .before .loop .n) l z (k .before .before .before .before .index .given .0 .0) (k .before .before .before .before .index .given .0 .1 .0) (indexed (k .before .before .before .before)) (known (ap reached (k .enum-told8 .given .1)) (k .before .before .segments-at .ensures))))))))))))))
+    let k : tie.After-enum-told7 Inv-loop2 μ-loop2 Inv-loop μ-loop Inv-views μ-views = record { before = record { before = record { before = record { before = record { before = record { before = record { before = record { before = record { before = record { before = record { before = record { before = record { before = record { before = record { before = record { before = record { before = record { before = record { before = record { before = record { before = record { before = c .before; views-test = x .0 }; seen = x .1 }; head-at = x .2 }; match = x .3 }; h = x .4 }; known-told = x .5 }; if1 = x .6 }; block = x .7 }; start = x .8 }; loop = x .9 }; struct-known = x .10 }; if2 = x .11 }; zeros-at = x .12 }; match6 = x .13 }; enum-told5 = x .14 }; index-at = x .15 }; match7 = x .16 }; index = x .17 }; known-told8 = x .18 }; segments-at = x .19 }; match8 = x .20 }; enum-told7 = x .21 } in
+    known (ap (exit (k .before .before .before .before .before .before .before .before .before .before .before .before .before .before .before .before .before .before .before .before .before .before .views .a) (k .before .before .before .before .before .before .before .before .before .before .before .before .before .before .before .before .before .before .before .before .before .before .views .size)) (sym (x .22 ∙ k .enum-told7 .given .1)))
+    (lined (k .before .before .before .before .before .before .before) _ λ ls u l t z. views-stop (k .before .before .before .before .before .before .before .before .before .before .before .before .before .before .before .before .before .before .before .before .before .before .before .before .args .w) (k .before .before .before .before .before .before .before .before .before .before .before .before .before .before .before .before .before .before .before .before .before .before .before .before .args .count) (k .before .before .before .before .before .before .before .before .before .before .before .before .before .before .before .before .before .before .before .before .before .before .before .before .args .s .now) (k .before .before .before .before .before .before .before .before .before .before .before .before .before .before .before .before .before .before .before .before .before .before .views .v) (k .before .before .before .before .before .before .before .before .before .before .before .before .before .before .before .before .before .before .before .before .before .before .views .size) (k .before .before .before .before .before .before .before .before .before .before .before .before .before .before .before .before .before .before .before .before .before .before .views .inv .4 .0) (k .before .before .before .before .before .before .before .before .before .before .before .before .before .before .before .before .before .before .before .before .before .before .views .a) (k .before .before .before .before .before .before .before .before .before .before .before .before .before .before .before .before .before .before .before .before .before .before .views .inv .4 .1 .2) (omega (arith, k .before .before .before .before .before .before .before .before .before .before .before .before .before .before .before .before .before .before .before .before .before .views-test .taken)) (segments-bad (k .before .before .before .before .before .before .before .before .before .before .before .before .before .before .before .before .before .before .before .before .before .before .before .before .args .w) (k .before .before .before .before .before .before .before .before .before .before .before .before .before .before .before .before .before .before .before .before .before .before .views .inv .4 .0) (k .before .before .before .before .before .before .before .before .before .before .before .before .before .before .before .before .before .before .before .before .before .before .before .before .args .s .now) (k .before .before .before .before .before .before .before .before .before .before .before .before .before .before .before .before .before .before .before .before .before .before .views .a) (k .before .before .before .before .before .before .before .before .before .before .before .before .before .before .before .before .before .h .given .0 .0) (k .before .before .before .before .before .before .before .before .before .before .before .before .before .before .before .before .before .h .given .0 .1 .0) (head (k .before .before .before .before .before .before .before .before .before .before .before .before .before .before .before .before .before)) (fits (k .before .before .before .before .before .before .before .before .before .before .before .before .before .before)) ls u (k .before .before .before .before .before .before .before .before .before .before .before .before .loop .n) l z (k .before .before .before .before .index .given .0 .0) (k .before .before .before .before .index .given .0 .1 .0) (indexed (k .before .before .before .before)) (known (ap reached (k .enum-told7 .given .1)) (k .before .before .segments-at .ensures))))))))))))))
     (c .views-test .came)
 
 views-holds : tie.Need-views-holds Inv-loop2 μ-loop2 Inv-loop μ-loop Inv-views μ-views
@@ -179,15 +179,11 @@ head-at-requires : tie.Need-head-at-requires Inv-loop2 μ-loop2 Inv-loop μ-loop
 head-at-requires c κs =
     omega (arith, c .before .before .views .inv .1, c .before .before .before .before .pre)
 
-enum-known-head : tie.Need-enum-known-head Inv-loop2 μ-loop2 Inv-loop μ-loop Inv-views μ-views
-enum-known-head c = search needs
+enum-known-h : tie.Need-enum-known-h Inv-loop2 μ-loop2 Inv-loop μ-loop Inv-views μ-views
+enum-known-h c = search needs
 
-enum-told : tie.Need-enum-told Inv-loop2 μ-loop2 Inv-loop μ-loop Inv-views μ-views
-enum-told c = search needs
-
-refused-head-requires :
-    tie.Need-refused-head-requires Inv-loop2 μ-loop2 Inv-loop μ-loop Inv-views μ-views
-refused-head-requires c κs = search needs
+enum-known-e : tie.Need-enum-known-e Inv-loop2 μ-loop2 Inv-loop μ-loop Inv-views μ-views
+enum-known-e c = search needs
 
 add-b : tie.Need-add-b Inv-loop2 μ-loop2 Inv-loop μ-loop Inv-views μ-views
 add-b c =
@@ -197,8 +193,8 @@ sub-if1 : tie.Need-sub-if1 Inv-loop2 μ-loop2 Inv-loop μ-loop Inv-views μ-view
 sub-if1 c =
     omega (arith, head (c .before) .within)
 
-mul-t40 : tie.Need-mul-t40 Inv-loop2 μ-loop2 Inv-loop μ-loop Inv-views μ-views
-mul-t40 c =
+mul-t45 : tie.Need-mul-t45 Inv-loop2 μ-loop2 Inv-loop μ-loop Inv-views μ-views
+mul-t45 c =
     omega (arith, c .before .before .before .before .before .before .before .views .inv .1, c .before .before .before .before .before .before .before .before .before .pre)
 
 add-e : tie.Need-add-e Inv-loop2 μ-loop2 Inv-loop μ-loop Inv-views μ-views
@@ -232,12 +228,12 @@ sub-if2 : tie.Need-sub-if2 Inv-loop2 μ-loop2 Inv-loop μ-loop Inv-views μ-view
 sub-if2 c =
     omega (arith, c .before .loop .inv .1)
 
-mul-t45 : tie.Need-mul-t45 Inv-loop2 μ-loop2 Inv-loop μ-loop Inv-views μ-views
-mul-t45 c =
+mul-t50 : tie.Need-mul-t50 Inv-loop2 μ-loop2 Inv-loop μ-loop Inv-views μ-views
+mul-t50 c =
     omega (arith, c .before .before .before .before .before .before .before .before .before .before .before .before .before .views .inv .1, c .before .before .before .before .before .before .before .before .before .before .before .before .before .before .before .pre)
 
-add-t46 : tie.Need-add-t46 Inv-loop2 μ-loop2 Inv-loop μ-loop Inv-views μ-views
-add-t46 c =
+add-t51 : tie.Need-add-t51 Inv-loop2 μ-loop2 Inv-loop μ-loop Inv-views μ-views
+add-t51 c =
     omega (arith, c .before .before .before .before .before .before .before .before .before .before .before .before .before .views .inv .1, c .before .before .before .before .before .before .before .before .before .before .before .before .before .before .before .pre, c .before .before .before .loop .inv .1, small (c .before .before .before .before .before))
 
 end-at-requires : tie.Need-end-at-requires Inv-loop2 μ-loop2 Inv-loop μ-loop Inv-views μ-views
@@ -247,15 +243,15 @@ end-at-requires c κs =
 enum-known-p1 : tie.Need-enum-known-p1 Inv-loop2 μ-loop2 Inv-loop μ-loop Inv-views μ-views
 enum-known-p1 c = search needs
 
-enum-told-2 : tie.Need-enum-told-2 Inv-loop2 μ-loop2 Inv-loop μ-loop Inv-views μ-views
-enum-told-2 c = search needs
+enum-told : tie.Need-enum-told Inv-loop2 μ-loop2 Inv-loop μ-loop Inv-views μ-views
+enum-told c = search needs
 
-mul-t48 : tie.Need-mul-t48 Inv-loop2 μ-loop2 Inv-loop μ-loop Inv-views μ-views
-mul-t48 c =
+mul-t53 : tie.Need-mul-t53 Inv-loop2 μ-loop2 Inv-loop μ-loop Inv-views μ-views
+mul-t53 c =
     omega (arith, c .before .before .before .before .before .before .before .before .before .before .before .before .before .before .before .before .views .inv .1, c .before .before .before .before .before .before .before .before .before .before .before .before .before .before .before .before .before .before .pre)
 
-add-t49 : tie.Need-add-t49 Inv-loop2 μ-loop2 Inv-loop μ-loop Inv-views μ-views
-add-t49 c =
+add-t54 : tie.Need-add-t54 Inv-loop2 μ-loop2 Inv-loop μ-loop Inv-views μ-views
+add-t54 c =
     omega (arith, c .before .before .before .before .before .before .before .before .before .before .before .before .before .before .before .before .views .inv .1, c .before .before .before .before .before .before .before .before .before .before .before .before .before .before .before .before .before .before .pre, c .before .before .before .before .before .before .loop .inv .1, small (c .before .before .before .before .before .before .before .before))
 
 field-requires : tie.Need-field-requires Inv-loop2 μ-loop2 Inv-loop μ-loop Inv-views μ-views
@@ -265,15 +261,15 @@ field-requires c κs =
 enum-known-codes : tie.Need-enum-known-codes Inv-loop2 μ-loop2 Inv-loop μ-loop Inv-views μ-views
 enum-known-codes c = search needs
 
-enum-told-3 : tie.Need-enum-told-3 Inv-loop2 μ-loop2 Inv-loop μ-loop Inv-views μ-views
-enum-told-3 c = search needs
+enum-told-2 : tie.Need-enum-told-2 Inv-loop2 μ-loop2 Inv-loop μ-loop Inv-views μ-views
+enum-told-2 c = search needs
 
-mul-t51 : tie.Need-mul-t51 Inv-loop2 μ-loop2 Inv-loop μ-loop Inv-views μ-views
-mul-t51 c =
+mul-t56 : tie.Need-mul-t56 Inv-loop2 μ-loop2 Inv-loop μ-loop Inv-views μ-views
+mul-t56 c =
     omega (arith, c .before .before .before .before .before .before .before .before .before .before .before .before .before .before .before .before .before .before .before .before .views .inv .1, c .before .before .before .before .before .before .before .before .before .before .before .before .before .before .before .before .before .before .before .before .before .before .pre)
 
-add-t52 : tie.Need-add-t52 Inv-loop2 μ-loop2 Inv-loop μ-loop Inv-views μ-views
-add-t52 c =
+add-t57 : tie.Need-add-t57 Inv-loop2 μ-loop2 Inv-loop μ-loop Inv-views μ-views
+add-t57 c =
     omega (arith, c .before .before .before .before .before .before .before .before .before .before .before .before .before .before .before .before .before .before .before .before .views .inv .1, c .before .before .before .before .before .before .before .before .before .before .before .before .before .before .before .before .before .before .before .before .before .before .pre, c .before .before .before .before .before .before .before .before .before .before .loop .inv .1, small (c .before .before .before .before .before .before .before .before .before .before .before .before))
 
 loop2-holds : tie.Need-loop2-holds Inv-loop2 μ-loop2 Inv-loop μ-loop Inv-views μ-views
@@ -287,15 +283,15 @@ field-requires-2 c κs =
 enum-known-p3 : tie.Need-enum-known-p3 Inv-loop2 μ-loop2 Inv-loop μ-loop Inv-views μ-views
 enum-known-p3 c = search needs
 
-enum-told-4 : tie.Need-enum-told-4 Inv-loop2 μ-loop2 Inv-loop μ-loop Inv-views μ-views
-enum-told-4 c = search needs
+enum-told-3 : tie.Need-enum-told-3 Inv-loop2 μ-loop2 Inv-loop μ-loop Inv-views μ-views
+enum-told-3 c = search needs
 
-mul-t55 : tie.Need-mul-t55 Inv-loop2 μ-loop2 Inv-loop μ-loop Inv-views μ-views
-mul-t55 c =
+mul-t60 : tie.Need-mul-t60 Inv-loop2 μ-loop2 Inv-loop μ-loop Inv-views μ-views
+mul-t60 c =
     omega (arith, c .before .before .before .before .before .before .before .before .before .before .before .before .before .before .before .before .before .before .before .before .before .before .before .before .before .before .views .inv .1, c .before .before .before .before .before .before .before .before .before .before .before .before .before .before .before .before .before .before .before .before .before .before .before .before .before .before .before .before .pre)
 
-add-t56 : tie.Need-add-t56 Inv-loop2 μ-loop2 Inv-loop μ-loop Inv-views μ-views
-add-t56 c =
+add-t61 : tie.Need-add-t61 Inv-loop2 μ-loop2 Inv-loop μ-loop Inv-views μ-views
+add-t61 c =
     omega (arith, c .before .before .before .before .before .before .before .before .before .before .before .before .before .before .before .before .before .before .before .before .before .before .before .before .before .before .views .inv .1, c .before .before .before .before .before .before .before .before .before .before .before .before .before .before .before .before .before .before .before .before .before .before .before .before .before .before .before .before .pre, c .before .before .before .before .before .before .before .before .before .before .before .before .before .before .before .before .loop .inv .1, small (c .before .before .before .before .before .before .before .before .before .before .before .before .before .before .before .before .before .before))
 
 add-i : tie.Need-add-i Inv-loop2 μ-loop2 Inv-loop μ-loop Inv-views μ-views
@@ -317,15 +313,15 @@ end-at-requires-2 c κs =
 enum-known-p4 : tie.Need-enum-known-p4 Inv-loop2 μ-loop2 Inv-loop μ-loop Inv-views μ-views
 enum-known-p4 c = search needs
 
-enum-told-5 : tie.Need-enum-told-5 Inv-loop2 μ-loop2 Inv-loop μ-loop Inv-views μ-views
-enum-told-5 c = search needs
+enum-told-4 : tie.Need-enum-told-4 Inv-loop2 μ-loop2 Inv-loop μ-loop Inv-views μ-views
+enum-told-4 c = search needs
 
-mul-t58 : tie.Need-mul-t58 Inv-loop2 μ-loop2 Inv-loop μ-loop Inv-views μ-views
-mul-t58 c =
+mul-t63 : tie.Need-mul-t63 Inv-loop2 μ-loop2 Inv-loop μ-loop Inv-views μ-views
+mul-t63 c =
     omega (arith, c .before .before .before .before .before .before .before .before .before .before .before .before .before .before .before .before .before .before .before .before .before .before .before .before .before .before .views .inv .1, c .before .before .before .before .before .before .before .before .before .before .before .before .before .before .before .before .before .before .before .before .before .before .before .before .before .before .before .before .pre)
 
-add-t59 : tie.Need-add-t59 Inv-loop2 μ-loop2 Inv-loop μ-loop Inv-views μ-views
-add-t59 c =
+add-t64 : tie.Need-add-t64 Inv-loop2 μ-loop2 Inv-loop μ-loop Inv-views μ-views
+add-t64 c =
     omega (arith, c .before .before .before .before .before .before .before .before .before .before .before .before .before .before .before .before .before .before .before .before .before .before .before .before .before .before .views .inv .1, c .before .before .before .before .before .before .before .before .before .before .before .before .before .before .before .before .before .before .before .before .before .before .before .before .before .before .before .before .pre, c .before .before .before .before .before .before .before .before .before .before .before .before .before .before .before .before .loop .inv .1, small (c .before .before .before .before .before .before .before .before .before .before .before .before .before .before .before .before .before .before))
 
 add-lines : tie.Need-add-lines Inv-loop2 μ-loop2 Inv-loop μ-loop Inv-views μ-views
@@ -359,16 +355,16 @@ zeros-at-requires c κs =
 enum-known-q : tie.Need-enum-known-q Inv-loop2 μ-loop2 Inv-loop μ-loop Inv-views μ-views
 enum-known-q c = search needs
 
-mul-t61 : tie.Need-mul-t61 Inv-loop2 μ-loop2 Inv-loop μ-loop Inv-views μ-views
-mul-t61 c =
+mul-t66 : tie.Need-mul-t66 Inv-loop2 μ-loop2 Inv-loop μ-loop Inv-views μ-views
+mul-t66 c =
     omega (arith, c .before .before .before .before .before .before .before .before .before .before .before .before .before .before .before .before .views .inv .1, c .before .before .before .before .before .before .before .before .before .before .before .before .before .before .before .before .before .before .pre)
 
-add-t62 : tie.Need-add-t62 Inv-loop2 μ-loop2 Inv-loop μ-loop Inv-views μ-views
-add-t62 c =
+add-t67 : tie.Need-add-t67 Inv-loop2 μ-loop2 Inv-loop μ-loop Inv-views μ-views
+add-t67 c =
     omega (arith, c .before .before .before .before .before .before .before .before .before .before .before .before .before .before .before .before .views .inv .1, c .before .before .before .before .before .before .before .before .before .before .before .before .before .before .before .before .before .before .pre, known (ap (cleared badLine (blk (c .before .before .before .before .before .before .before .before))) (c .before .q .given .1)) (c .before .before .before .zeros-at .ensures badLine) .within, small (c .before .before .before .before .before .before .before .before))
 
-enum-told-6 : tie.Need-enum-told-6 Inv-loop2 μ-loop2 Inv-loop μ-loop Inv-views μ-views
-enum-told-6 c = search needs
+enum-told-5 : tie.Need-enum-told-5 Inv-loop2 μ-loop2 Inv-loop μ-loop Inv-views μ-views
+enum-told-5 c = search needs
 
 index-at-requires : tie.Need-index-at-requires Inv-loop2 μ-loop2 Inv-loop μ-loop Inv-views μ-views
 index-at-requires c κs =
@@ -377,8 +373,8 @@ index-at-requires c κs =
 enum-known-index : tie.Need-enum-known-index Inv-loop2 μ-loop2 Inv-loop μ-loop Inv-views μ-views
 enum-known-index c = search needs
 
-enum-told-7 : tie.Need-enum-told-7 Inv-loop2 μ-loop2 Inv-loop μ-loop Inv-views μ-views
-enum-told-7 c = search needs
+enum-told-6 : tie.Need-enum-told-6 Inv-loop2 μ-loop2 Inv-loop μ-loop Inv-views μ-views
+enum-told-6 c = search needs
 
 segments-at-requires :
     tie.Need-segments-at-requires Inv-loop2 μ-loop2 Inv-loop μ-loop Inv-views μ-views
@@ -389,8 +385,8 @@ enum-known-segments :
     tie.Need-enum-known-segments Inv-loop2 μ-loop2 Inv-loop μ-loop Inv-views μ-views
 enum-known-segments c = search needs
 
-enum-told-8 : tie.Need-enum-told-8 Inv-loop2 μ-loop2 Inv-loop μ-loop Inv-views μ-views
-enum-told-8 c = search needs
+enum-told-7 : tie.Need-enum-told-7 Inv-loop2 μ-loop2 Inv-loop μ-loop Inv-views μ-views
+enum-told-7 c = search needs
 
 array-read-seen : tie.Need-array-read-seen Inv-loop2 μ-loop2 Inv-loop μ-loop Inv-views μ-views
 array-read-seen c =
@@ -398,7 +394,7 @@ array-read-seen c =
 
 add-seen : tie.Need-add-seen Inv-loop2 μ-loop2 Inv-loop μ-loop Inv-views μ-views
 add-seen c =
-    omega (arith, seen-le (c .before .before .before .before .before .before .before .before .before .before .before .before .before .before .before .before .before .before .before .before .before .before .before .views .seen) (c .before .before .before .before .before .before .before .before .before .before .before .before .before .before .before .before .before .before .before .before .before .before .before .views .inv .4 .0) ((c .before .before .before .before .before .before .before .before .before .before .before .before .before .before .before .before .before .before .head .given .0 .0) .position) (position-le _ _ _ _ _ _ (head (c .before .before .before .before .before .before .before .before .before .before .before .before .before .before .before .before .before .before))) (c .before .before .before .before .before .before .before .before .before .before .before .before .before .before .before .before .before .before .before .before .before .before .before .views .inv .4 .1 .1), c .before .before .before .before .before .before .before .before .before .before .before .before .before .before .before .before .before .before .before .before .before .before .before .views .inv .4 .1 .0, c .before .before .before .before .before .before .before .before .before .before .before .before .before .before .before .before .before .before .before .before .before .before .views-test .taken, c .before .before .before .before .before .before .before .before .before .before .before .before .before .before .before .before .before .before .before .before .before .before .before .before .before .pre)
+    omega (arith, seen-le (c .before .before .before .before .before .before .before .before .before .before .before .before .before .before .before .before .before .before .before .before .before .before .before .views .seen) (c .before .before .before .before .before .before .before .before .before .before .before .before .before .before .before .before .before .before .before .before .before .before .before .views .inv .4 .0) ((c .before .before .before .before .before .before .before .before .before .before .before .before .before .before .before .before .before .before .h .given .0 .0) .position) (position-le _ _ _ _ _ _ (head (c .before .before .before .before .before .before .before .before .before .before .before .before .before .before .before .before .before .before))) (c .before .before .before .before .before .before .before .before .before .before .before .before .before .before .before .before .before .before .before .before .before .before .before .views .inv .4 .1 .1), c .before .before .before .before .before .before .before .before .before .before .before .before .before .before .before .before .before .before .before .before .before .before .before .views .inv .4 .1 .0, c .before .before .before .before .before .before .before .before .before .before .before .before .before .before .before .before .before .before .before .before .before .before .views-test .taken, c .before .before .before .before .before .before .before .before .before .before .before .before .before .before .before .before .before .before .before .before .before .before .before .before .before .pre)
 
 array-write-seen : tie.Need-array-write-seen Inv-loop2 μ-loop2 Inv-loop μ-loop Inv-views μ-views
 array-write-seen c =
@@ -433,32 +429,30 @@ views-again c =
     let g = segmented (c .before) in
     let d = c .before .segments .given .0 .0 in
     lined (c .before .before .before .before .before .before .before .before) _ λ ls u l t z.
-    view-is (c .before .before .before .before .before .before .before .before .before .before .before .before .before .before .before .before .before .before .before .before .before .before .before .before .before .args .w) (c .before .before .before .before .before .before .before .before .before .before .before .before .before .before .before .before .before .before .before .before .before .before .before .views .inv .4 .0) (c .before .before .before .before .before .before .before .before .before .before .before .before .before .before .before .before .before .before .before .before .before .before .before .before .before .args .s .now) (c .before .before .before .before .before .before .before .before .before .before .before .before .before .before .before .before .before .before .before .before .before .before .before .views .a) (c .before .before .before .before .before .before .before .before .before .before .before .before .before .before .before .before .before .before .head .given .0 .0) (c .before .before .before .before .before .before .before .before .before .before .before .before .before .before .before .before .before .before .head .given .0 .1 .0) (head (c .before .before .before .before .before .before .before .before .before .before .before .before .before .before .before .before .before .before)) (fits (c .before .before .before .before .before .before .before .before .before .before .before .before .before .before .before)) ls u (c .before .before .before .before .before .before .before .before .before .before .before .before .before .loop .n) l z (c .before .before .before .before .before .index .given .0 .0) (c .before .before .before .before .before .index .given .0 .1 .0) (indexed (c .before .before .before .before .before)) d (c .before .segments .given .0 .1 .0) g λ x e y r. (
+    view-is (c .before .before .before .before .before .before .before .before .before .before .before .before .before .before .before .before .before .before .before .before .before .before .before .before .before .args .w) (c .before .before .before .before .before .before .before .before .before .before .before .before .before .before .before .before .before .before .before .before .before .before .before .views .inv .4 .0) (c .before .before .before .before .before .before .before .before .before .before .before .before .before .before .before .before .before .before .before .before .before .before .before .before .before .args .s .now) (c .before .before .before .before .before .before .before .before .before .before .before .before .before .before .before .before .before .before .before .before .before .before .before .views .a) (c .before .before .before .before .before .before .before .before .before .before .before .before .before .before .before .before .before .before .h .given .0 .0) (c .before .before .before .before .before .before .before .before .before .before .before .before .before .before .before .before .before .before .h .given .0 .1 .0) (head (c .before .before .before .before .before .before .before .before .before .before .before .before .before .before .before .before .before .before)) (fits (c .before .before .before .before .before .before .before .before .before .before .before .before .before .before .before)) ls u (c .before .before .before .before .before .before .before .before .before .before .before .before .before .loop .n) l z (c .before .before .before .before .before .index .given .0 .0) (c .before .before .before .before .before .index .given .0 .1 .0) (indexed (c .before .before .before .before .before)) d (c .before .segments .given .0 .1 .0) g λ x e y r. (
       omega (arith, c .before .before .before .before .before .before .before .before .before .before .before .before .before .before .before .before .before .before .before .before .before .before .views-test .taken),
       omega (arith, g .within),
       c .before .before .before .before .before .before .before .before .before .before .before .before .before .loop .inv .2 ∙ c .before .before .before .before .before .before .before .before .before .before .before .before .before .before .before .before .before .before .before .before .before .before .before .views .inv .2,
       omega (arith, c .before .before .before .before .before .before .before .before .before .before .before .before .before .loop .inv .0, c .before .before .before .before .before .before .before .before .before .before .before .before .before .loop .inv .3, lists-few (c .before), payloads-few (c .before), c .before .before .before .before .before .before .before .before .before .before .before .before .before .before .before .before .before .before .before .before .before .before .before .views .inv .3),
       (
-        (c .before .before .before .before .before .before .before .before .before .before .before .before .before .before .before .before .before .before .head .given .0 .0) .position ∷ (c .before .before .before .before .before .before .before .before .before .before .before .before .before .before .before .before .before .before .before .before .before .before .before .views .inv .4 .0),
+        (c .before .before .before .before .before .before .before .before .before .before .before .before .before .before .before .before .before .before .h .given .0 .0) .position ∷ (c .before .before .before .before .before .before .before .before .before .before .before .before .before .before .before .before .before .before .before .before .before .before .before .views .inv .4 .0),
         (
           ap suc (c .before .before .before .before .before .before .before .before .before .before .before .before .before .before .before .before .before .before .before .before .before .before .before .views .inv .4 .1 .0) ∙ sym (add-one _),
-          seen-more (c .before .before .before .before .before .before .before .before .before .before .before .before .before .before .before .before .before .before .before .before .before .before .before .views .seen) (c .before .before .before .before .before .before .before .before .before .before .before .before .before .before .before .before .before .before .before .before .before .before .before .views .inv .4 .0) ((c .before .before .before .before .before .before .before .before .before .before .before .before .before .before .before .before .before .before .head .given .0 .0) .position) (position-le _ _ _ _ _ _ (head (c .before .before .before .before .before .before .before .before .before .before .before .before .before .before .before .before .before .before))) (c .before .before .before .before .before .before .before .before .before .before .before .before .before .before .before .before .before .before .before .before .before .before .before .views .inv .4 .1 .1),
+          seen-more (c .before .before .before .before .before .before .before .before .before .before .before .before .before .before .before .before .before .before .before .before .before .before .before .views .seen) (c .before .before .before .before .before .before .before .before .before .before .before .before .before .before .before .before .before .before .before .before .before .before .before .views .inv .4 .0) ((c .before .before .before .before .before .before .before .before .before .before .before .before .before .before .before .before .before .before .h .given .0 .0) .position) (position-le _ _ _ _ _ _ (head (c .before .before .before .before .before .before .before .before .before .before .before .before .before .before .before .before .before .before))) (c .before .before .before .before .before .before .before .before .before .before .before .before .before .before .before .before .before .before .before .before .before .before .before .views .inv .4 .1 .1),
           subst (λ (y : ViewHeader). Views (c .before .before .before .before .before .before .before .before .before .before .before .before .before .before .before .before .before .before .before .before .before .before .before .before .before .args .w) (c .before .before .before .before .before .before .before .before .before .before .before .before .before .before .before .before .before .before .before .before .before .before .before .before .before .args .count) (c .before .before .before .before .before .before .before .before .before .before .before .before .before .before .before .before .before .before .before .before .before .before .before .before .before .args .s .now) (c .before .before .before .before .before .before .before .before .before .before .before .before .before .before .before .before .before .before .before .before .before .before .before .views .v + 1) (c .before .before .before .before .before .before .before .before .before .before .before .before .before .before .before .before .before .before .before .before .before .before .before .views .size + (11 + c .before .before .before .before .before .before .before .before .before .before .before .before .before .loop .lines + c .before .before .before .before .before .index .given .0 .1 .0 + c .before .segments .given .0 .1 .0)) (y .position ∷ (c .before .before .before .before .before .before .before .before .before .before .before .before .before .before .before .before .before .before .before .before .before .before .before .views .inv .4 .0)) d) e (views-turn (c .before .before .before .before .before .before .before .before .before .before .before .before .before .before .before .before .before .before .before .before .before .before .before .before .before .args .w) (c .before .before .before .before .before .before .before .before .before .before .before .before .before .before .before .before .before .before .before .before .before .before .before .before .before .args .count) (c .before .before .before .before .before .before .before .before .before .before .before .before .before .before .before .before .before .before .before .before .before .before .before .before .before .args .s .now) (c .before .before .before .before .before .before .before .before .before .before .before .before .before .before .before .before .before .before .before .before .before .before .before .views .v) (c .before .before .before .before .before .before .before .before .before .before .before .before .before .before .before .before .before .before .before .before .before .before .before .views .size) (c .before .before .before .before .before .before .before .before .before .before .before .before .before .before .before .before .before .before .before .before .before .before .before .views .inv .4 .0) (c .before .before .before .before .before .before .before .before .before .before .before .before .before .before .before .before .before .before .before .before .before .before .before .views .a) (c .before .before .before .before .before .before .before .before .before .before .before .before .before .before .before .before .before .before .before .before .before .before .before .views .inv .4 .1 .2) d (omega (arith, c .before .before .before .before .before .before .before .before .before .before .before .before .before .before .before .before .before .before .before .before .before .before .views-test .taken)) (y ∙ ap (λ (m : ℕ). 11 + m + c .before .before .before .before .before .index .given .0 .1 .0 + c .before .segments .given .0 .1 .0) t) r),
         ),
       ),
     )
 
-enum-told-9 : tie.Need-enum-told-9 Inv-loop2 μ-loop2 Inv-loop μ-loop Inv-views μ-views
-enum-told-9 c = search needs
+enum-told-8 : tie.Need-enum-told-8 Inv-loop2 μ-loop2 Inv-loop μ-loop Inv-views μ-views
+enum-told-8 c = search needs
 
 enum-known-answer : tie.Need-enum-known-answer Inv-loop2 μ-loop2 Inv-loop μ-loop Inv-views μ-views
 enum-known-answer c = search needs
 
 returns : tie.Need-returns Inv-loop2 μ-loop2 Inv-loop μ-loop Inv-views μ-views
-returns c = (
-  known (ap (exit (c .before .before .before .views .a) (c .before .before .before .views .size)) (c .enum-told9 .given .1)) (left (c .before .before)),
-  omega (arith, c .before .before .before .views .inv .0, c .before .before .before .views .inv .3, c .before .before .before .before .before .pre .2),
-)
+returns c =
+    (known (ap (exit (c .before .before .before .views .a) (c .before .before .before .views .size)) (c .enum-told8 .given .1)) (left (c .before .before)), omega (arith, c .before .before .before .views .inv .0, c .before .before .before .views .inv .3, c .before .before .before .before .before .pre .2))
 
 returns-2 : tie.Need-returns-2 Inv-loop2 μ-loop2 Inv-loop μ-loop Inv-views μ-views
 returns-2 c =
@@ -476,12 +470,11 @@ judge-views-spec =
     μ-views
     views-holds
     head-at-requires
-    enum-known-head
-    enum-told
-    refused-head-requires
+    enum-known-h
+    enum-known-e
     add-b
     sub-if1
-    mul-t40
+    mul-t45
     add-e
     sub-block
     part-block-start
@@ -490,32 +483,32 @@ judge-views-spec =
     start-requires
     loop-holds
     sub-if2
-    mul-t45
-    add-t46
+    mul-t50
+    add-t51
     end-at-requires
     enum-known-p1
-    enum-told-2
-    mul-t48
-    add-t49
+    enum-told
+    mul-t53
+    add-t54
     field-requires
     enum-known-codes
-    enum-told-3
-    mul-t51
-    add-t52
+    enum-told-2
+    mul-t56
+    add-t57
     loop2-holds
     field-requires-2
     enum-known-p3
-    enum-told-4
-    mul-t55
-    add-t56
+    enum-told-3
+    mul-t60
+    add-t61
     add-i
     loop2-less
     loop2-again
     end-at-requires-2
     enum-known-p4
-    enum-told-5
-    mul-t58
-    add-t59
+    enum-told-4
+    mul-t63
+    add-t64
     add-lines
     add-lines-2
     add-n
@@ -523,15 +516,15 @@ judge-views-spec =
     loop-again
     zeros-at-requires
     enum-known-q
-    mul-t61
-    add-t62
-    enum-told-6
+    mul-t66
+    add-t67
+    enum-told-5
     index-at-requires
     enum-known-index
-    enum-told-7
+    enum-told-6
     segments-at-requires
     enum-known-segments
-    enum-told-8
+    enum-told-7
     array-read-seen
     add-seen
     array-write-seen
@@ -542,7 +535,7 @@ judge-views-spec =
     add-v
     views-less
     views-again
-    enum-told-9
+    enum-told-8
     enum-known-answer
     returns
     returns-2)
