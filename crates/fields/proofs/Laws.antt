@@ -17,8 +17,7 @@ use Rattle.bits.specs.Codec.{Read, got, refused}
 use Rattle.bits.specs.Block.{fillDec}
 use Rattle.bits.specs.Reads.{kept}
 use Rattle.bits.proofs.Laws.Refuses.{Refusal, by, AtMost, Refuses, refusing}
-use Rattle.bits.proofs.Laws.Reads.{length-rest}
-use Rattle.bits.proofs.Laws.Parts.{bits-drop, part, part-length, part-bytes, drop-end}
+use Rattle.bits.proofs.Laws.Parts.{bits-drop, part, part-length, part-bytes, some-left, drop-end}
 use Rattle.bits.proofs.Laws.Loops.{kept-same, fill-turn, fill-stop, fill-done}
 use Rattle.outcome.specs.Refusals.{badSheet}
 use Rattle.lay.specs.HighFirst.{joined}
@@ -152,14 +151,11 @@ going-first s =
     kept-id (refused e l) = refl
 
 module _ {s : List ℕ} (bytes : All Byte s) {p : ℕ} (g : Going s p) (l : p < length s) where
-  left-some : 0 < length (drop (8 * p) (bitsOf s))
-  left-some = rw (length-rest s (8 * p)) (omega arith)
-
   pub going-on : (n : ℕ) → n ≡ getD s (p + 1) 0 * 256 + getD s (p + 1 + 1) 0 → p + 3 + n ≤ length s → Going s (p + (3 + n))
   going-on n e w =
       let f : Field = fieldHere s p n in
       let z : g .fuel - 0 ≡ g .fuel = omega arith in
-      let t = fill-turn tagged badSheet (g .fuel) 0 (drop (8 * p) (bitsOf s)) (λ xs. g .done ++ xs) (omega (arith, g .enough)) left-some (here-reads s bytes p n e w) in
+      let t = fill-turn tagged badSheet (g .fuel) 0 (drop (8 * p) (bitsOf s)) (λ xs. g .done ++ xs) (omega (arith, g .enough)) (some-left s (8 * p) (omega arith)) (here-reads s bytes p n e w) in
       let y : 3 + n ≡ length (fieldBytes f) = omega (arith, part-length s (p + 3) n w) in
       record {
         done = g .done ++ f ∷ [];
@@ -175,7 +171,7 @@ module _ {s : List ℕ} (bytes : All Byte s) {p : ℕ} (g : Going s p) (l : p < 
   going-stops (m, e) =
       let z : g .fuel - 0 ≡ g .fuel = omega arith in
       let t : fillDec tagged badSheet (g .fuel) (drop (8 * p) (bitsOf s)) ≡ refused badSheet m =
-      ap (λ (k : ℕ). fillDec tagged badSheet k (drop (8 * p) (bitsOf s))) (sym z) ∙ fill-stop tagged badSheet (g .fuel) 0 (drop (8 * p) (bitsOf s)) (omega (arith, g .enough)) left-some e in
+      ap (λ (k : ℕ). fillDec tagged badSheet k (drop (8 * p) (bitsOf s))) (sym z) ∙ fill-stop tagged badSheet (g .fuel) 0 (drop (8 * p) (bitsOf s)) (omega (arith, g .enough)) (some-left s (8 * p) (omega arith)) e in
       record { left = m; refuses = sym (g .reads) ∙ ap (kept (λ xs. g .done ++ xs)) t }
 
 pub going-all : {s : List ℕ} {p : ℕ} → Going s p → length s ≤ p → Fields s

@@ -106,6 +106,10 @@ module _ {A : Type 0} (w : Block A) (e n b : ℕ) (s : List ℕ) where
       let l : length (drop (8 * b) (bitsOf s)) < 8 * n = rw (length-rest s (8 * b)) (omega arith) in
       record { is = pick-no (leb (8 * n) (length (drop (8 * b) (bitsOf s)))) _ _ (no-leb l) ∙ ap (refused e) (length-rest s (8 * b)); within = omega arith }
 
+-- before the end some bits are left, at it none
+pub some-left : (s : List ℕ) (p : ℕ) → p < 8 * length s → 0 < length (drop p (bitsOf s))
+some-left s p h = rw (length-rest s p) (omega arith)
+
 pub drop-end : (s : List ℕ) (p : ℕ) → 8 * length s ≤ p → drop p (bitsOf s) ≡ []
 drop-end s p h = drop-of-length-le (bitsOf s) {i = p} (rw (length-bitsOf s) h)
 

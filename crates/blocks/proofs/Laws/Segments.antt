@@ -19,7 +19,7 @@ use Rattle.bits.specs.Lists.{total}
 use Rattle.bits.specs.Reads.{found, fault, Reads, kept, summed}
 use Rattle.bits.proofs.Laws.Reads.{length-rest, gives, refuses, go-on, stop, made, pass, fail, room-there, room-past, all-of, none-of, none-of-it}
 use Rattle.bits.proofs.Laws.Loops.{sum-more, sum-start, fill-turn, fill-stop, fill-done}
-use Rattle.bits.proofs.Laws.Parts.{bytes-there, bytes-cut, drop-end}
+use Rattle.bits.proofs.Laws.Parts.{bytes-there, bytes-cut, some-left, drop-end}
 use Rattle.outcome.specs.Refusals.{badSegment}
 use Rattle.format.specs.Segments.{Segment, segment, segments, measured}
 use Rattle.format.specs.SheetSize.{segmentSize}
@@ -82,17 +82,14 @@ module _ (s : List ℕ) where
 
   module _ (z n p : ℕ) (inv : Filled z n p) where
     module _ (h : n ≤ p) (k : p < 8 * length s) where
-      left : 0 < length (drop p (bitsOf s))
-      left = rw (length-rest s p) (omega arith)
-
       pub fill-bad : {e q : ℕ} → Reads (segment .dec) s p (fault e q) → Reads segmentsDec s 0 (fault e q)
       fill-bad {e} {q} r =
           refuses _ e q (r .within)
-          (sym inv ∙ ap (summed segmentSize z) (fill-stop segment badSegment (8 * length s) n (drop p (bitsOf s)) (omega arith) left (r .is)))
+          (sym inv ∙ ap (summed segmentSize z) (fill-stop segment badSegment (8 * length s) n (drop p (bitsOf s)) (omega arith) (some-left s p k) (r .is)))
 
       pub fill-next : {q y : ℕ} {g : Segment} → z + segmentSize g ≡ y → Reads (segment .dec) s p (found g q) → Filled y (n + 1) q
       fill-next {q} {y} {g} e r =
-          rw (← e) (sym (fill-turn segment badSegment (8 * length s) n (drop p (bitsOf s)) (λ xs. z + total segmentSize xs) (omega arith) left (r .is)
+          rw (← e) (sym (fill-turn segment badSegment (8 * length s) n (drop p (bitsOf s)) (λ xs. z + total segmentSize xs) (omega arith) (some-left s p k) (r .is)
           ∙ sum-more segmentSize z g (fillDec segment badSegment (8 * length s - (n + 1)) (drop q (bitsOf s)))) ∙ inv)
 
     pub fill-end : 8 * length s ≤ p → Reads segmentsDec s 0 (found z (8 * length s))

@@ -16,8 +16,7 @@ use Rattle.bits.specs.CodecLaws.{not-got, next-got, field-there}
 use Rattle.bits.specs.Block.{fillDec}
 use Rattle.bits.specs.BlockLaws.{fill-more}
 use Rattle.bits.specs.Reads.{Reads, found}
-use Rattle.bits.proofs.Laws.Reads.{length-rest}
-use Rattle.bits.proofs.Laws.Parts.{bits-drop, drop-end}
+use Rattle.bits.proofs.Laws.Parts.{bits-drop, some-left, drop-end}
 use Rattle.bits.proofs.Laws.Loops.{fill-done}
 use Rattle.bits.specs.BytesLaws.{bits-append}
 use Rattle.outcome.specs.Refusals.{badSegment}
@@ -54,7 +53,7 @@ pub segment-at : (s : List ℕ) (a k : ℕ) {rest : List Segment} {left : Bits} 
     → fillDec segment badSegment k (drop (8 * a) (bitsOf s)) ≡ got rest left → SegmentAt s a rest left
 unfolding segment
 segment-at s a k f h e =
-    fill-next segment badSegment k (drop (8 * a) (bitsOf s)) (rw (length-rest s (8 * a)) (omega arith)) e λ j g gs r d more is.
+    fill-next segment badSegment k (drop (8 * a) (bitsOf s)) (some-left s (8 * a) (omega arith)) e λ j g gs r d more is.
     let (fits, bits) = segment .back (drop (8 * a) (bitsOf s)) g r d in
     let spells = segment-spells g fits in
     let there = front s a (segmentStored g) r f (spells .bytes) (omega arith) (rw (spells .bits) at bits) in

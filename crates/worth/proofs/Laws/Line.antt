@@ -18,7 +18,7 @@ use Rattle.bits.specs.Block.{fillDec, aheadDec, recastDec}
 use Rattle.bits.specs.Reads.{Reads, found, fault, after}
 use Rattle.bits.proofs.Laws.Reads.{length-rest, go-on, stop, made, pass, fail, gives, refuses, kept-got, kept-refused}
 use Rattle.bits.proofs.Laws.Loops.{fill-turn, fill-stop, fill-done}
-use Rattle.bits.proofs.Laws.Parts.{drop-end}
+use Rattle.bits.proofs.Laws.Parts.{some-left, drop-end}
 use Rattle.outcome.specs.Refusals.{badValue}
 use Rattle.format.specs.Line.{Line}
 use Rattle.format.specs.declared.Widths.{Widths}
@@ -110,13 +110,10 @@ codes-first k s l =
     }
 
 module _ {k : ℕ} {s : List ℕ} {i : ℕ} (g : CodesFrom k s i) (l : i < length s) {v q : ℕ} (h : Reads (fieldDec badValue 8) s (8 * i) (found v q)) where
-  some-left : 0 < length (drop (8 * i) (bitsOf s))
-  some-left = rw (length-rest s (8 * i)) (omega arith)
-
   pub code-bad : codeOk k v ≡ false → NotThere (codesDec k) s 96
   code-bad e =
       let d : Reads (codeValue k .dec) s (8 * i) (fault badValue (8 * i)) = made _ _ (fail (field badValue 8) badValue (codeOk k) (omega arith) h (rw e tt)) in
-      let z = fill-stop (codeValue k) badValue (8 * length s - 96) (i - 12) (drop (8 * i) (bitsOf s)) (omega (arith, g .from)) some-left (d .is) in
+      let z = fill-stop (codeValue k) badValue (8 * length s - 96) (i - 12) (drop (8 * i) (bitsOf s)) (omega (arith, g .from)) (some-left s (8 * i) (omega arith)) (d .is) in
       record { place = 8 * i; reads = refuses _ badValue (8 * i) (omega arith) (kept-refused _ _ (sym (g .reads) ∙ ap after z)) }
 
   pub code-good : q ≡ 8 * i + 8 → codeOk k v ≡ true → CodesFrom k s (i + 1)
@@ -128,7 +125,7 @@ module _ {k : ℕ} {s : List ℕ} {i : ℕ} (g : CodesFrom k s i) (l : i < lengt
         from = omega (arith, g .from);
         within = omega arith;
         reads = rw (a, b)
-            (sym (fill-turn (codeValue k) badValue (8 * length s - 96) (i - 12) (drop (8 * i) (bitsOf s)) (λ xs. tt) (omega (arith, g .from)) some-left (d .is)) ∙ g .reads);
+            (sym (fill-turn (codeValue k) badValue (8 * length s - 96) (i - 12) (drop (8 * i) (bitsOf s)) (λ xs. tt) (omega (arith, g .from)) (some-left s (8 * i) (omega arith)) (d .is)) ∙ g .reads);
       }
 
 pub codes-there : {k : ℕ} {s : List ℕ} {i : ℕ} → CodesFrom k s i → length s ≤ i → There (codesDec k) s 96 (8 * length s)

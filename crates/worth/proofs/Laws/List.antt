@@ -19,9 +19,9 @@ use Rattle.bits.specs.CodecLaws.{field}
 use Rattle.bits.specs.Block.{fillDec, passDec}
 use Rattle.bits.specs.BlockLaws.{fill-more}
 use Rattle.bits.specs.Reads.{Reads, found, kept}
-use Rattle.bits.proofs.Laws.Reads.{length-rest, kept-got}
+use Rattle.bits.proofs.Laws.Reads.{kept-got}
 use Rattle.bits.proofs.Laws.Loops.{kept-same, fill-turn, fill-done}
-use Rattle.bits.proofs.Laws.Parts.{drop-end}
+use Rattle.bits.proofs.Laws.Parts.{some-left, drop-end}
 use Rattle.outcome.specs.Refusals.{badValue}
 use Rattle.format.specs.Differences.{diffs}
 use Rattle.sheet.specs.Values.{fallsOk, listOk, listValue}
@@ -136,7 +136,7 @@ module _ (w l : ℕ) (s : List ℕ) where
       turn : kept (right w m before) (rest i) ≡ kept (λ xs. right w m before (v ∷ xs)) behind
       turn =
           fill-turn (field badValue 16) badValue (length (bitsOf s)) (i / 2) (drop (8 * i) (bitsOf s)) (right w m before) (omega (arith, length-bitsOf s))
-          (rw (length-rest s (8 * i)) (omega arith)) (r .is)
+          (some-left s (8 * i) (omega arith)) (r .is)
 
       pub list-turn : q ≡ 8 * i + 16 → v + m ≤ before → ltb (before - v) (2 ^ w) ≡ true → ListFrom 1 v (i + 2)
       list-turn y a e =
