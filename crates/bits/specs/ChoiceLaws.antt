@@ -39,6 +39,15 @@ pub T-false : (b : Bool) → T (not b) → b ≡ false
 T-false true t = absurd t
 T-false false t = refl
 
+-- two tests, of which one does not hold
+pub not-first : (a b : Bool) → T (not a) → T (not (a && b))
+not-first true b t = absurd t
+not-first false b t = tt
+
+pub not-second : (a b : Bool) → T (not b) → T (not (a && b))
+not-second true b t = t
+not-second false b t = tt
+
 pub eqb-true : (a b : ℕ) → a ≡ b → eqb a b ≡ true
 eqb-true a b e = T-true (eqb a b) (yes-eqb e)
 
@@ -55,18 +64,10 @@ pub within-yes : (low high n : ℕ) → low ≤ n → n ≤ high → T (within l
 within-yes low high n l h = yes-and (leb low n) (leb n high) (le→leb low n l) (le→leb n high h)
 
 pub within-not-low : (low high n : ℕ) → n < low → T (not (within low high n))
-within-not-low low high n h = go (leb low n) (leb n high) (no-leb h)
-  where
-    go : (a b : Bool) → T (not a) → T (not (a && b))
-    go true b t = absurd t
-    go false b t = tt
+within-not-low low high n h = not-first (leb low n) (leb n high) (no-leb h)
 
 pub within-not-high : (low high n : ℕ) → high < n → T (not (within low high n))
-within-not-high low high n h = go (leb low n) (leb n high) (no-leb h)
-  where
-    go : (a b : Bool) → T (not b) → T (not (a && b))
-    go true b t = t
-    go false b t = tt
+within-not-high low high n h = not-second (leb low n) (leb n high) (no-leb h)
 
 -- ---- numbers
 

@@ -18,7 +18,7 @@ use Rattle.bits.specs.Block.{fillDec}
 use Rattle.bits.specs.Reads.{kept}
 use Rattle.bits.proofs.Laws.Refuses.{Refusal, by, AtMost, Refuses, refusing}
 use Rattle.bits.proofs.Laws.Parts.{bits-drop, part, part-length, part-bytes, some-left, drop-end}
-use Rattle.bits.proofs.Laws.Loops.{kept-same, fill-turn, fill-stop, fill-done}
+use Rattle.bits.proofs.Laws.Loops.{kept-same, kept-none, fill-turn, fill-stop, fill-done}
 use Rattle.outcome.specs.Refusals.{badSheet}
 use Rattle.lay.specs.HighFirst.{joined}
 use Rattle.lay.proofs.Laws.{joined-snoc}
@@ -142,13 +142,9 @@ going-first s =
       enough = omega (arith, length-bitsOf s);
       before = refl;
       fits = tt;
-      reads = kept-id (fillDec tagged badSheet (length (bitsOf s)) (bitsOf s));
+      reads = kept-none (fillDec tagged badSheet (length (bitsOf s)) (bitsOf s));
       within = omega arith;
     }
-  where
-    kept-id : (o : Read Bool (List Field)) → kept (λ xs. [] ++ xs) o ≡ o
-    kept-id (got xs r) = refl
-    kept-id (refused e l) = refl
 
 module _ {s : List ℕ} (bytes : All Byte s) {p : ℕ} (g : Going s p) (l : p < length s) where
   pub going-on : (n : ℕ) → n ≡ getD s (p + 1) 0 * 256 + getD s (p + 1 + 1) 0 → p + 3 + n ≤ length s → Going s (p + (3 + n))

@@ -5,11 +5,9 @@ use mathlib.Core.Logic.{_≢_}
 use Prim.Native.Nat.{ℕ, suc, _+_, _-_, _*_, _%_, _^_, _≤_, _<_}
 use native.Mathlib.Omega.{arith}
 use native.Mathlib.Nat.{zero-add, mod-lt, pow-succ'}
-use native.Mathlib.Numerals.{add-one}
 use mathlib.Core.Bool.{Bool, not, true, false}
 use mathlib.Core.List.{List, [], _∷_, _++_, append-assoc, append-nil}
-use lib.ListN.{length, take, drop, set, length-append}
-use lib.Seq.{take-at, drop-at, drop-drop, set-split}
+use lib.ListN.{length, drop, length-append}
 use lib.Dec.{leb, leb→le}
 use borrow.Author.Tests.{le-ltb}
 use Rattle.bits.specs.Choice.{pick}

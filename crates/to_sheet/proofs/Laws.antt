@@ -4,6 +4,7 @@ pub mod Rendered
 pub mod Sizes
 pub mod Line
 pub mod Lines
+pub mod Laying
 pub mod Underway
 pub mod Segments
 pub mod Index

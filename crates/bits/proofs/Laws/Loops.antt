@@ -4,7 +4,7 @@ use mathlib.Core.Path.{_≡_, refl, ap, _∙_}
 use Prim.Native.Nat.{ℕ, zero, suc, _+_, _-_, _≤_, _<_}
 use native.Mathlib.Omega.{arith}
 use mathlib.Core.Bool.{Bool, true, false}
-use mathlib.Core.List.{List, [], _∷_}
+use mathlib.Core.List.{List, [], _∷_, _++_}
 use lib.ListN.{length}
 use lib.Dec.{leb}
 use Rattle.bits.specs.ChoiceLaws.{pick-yes, pick-no}
@@ -22,7 +22,11 @@ pub kept-same : {S A B : Type 0} (f g : A → B) (o : Read S A) → ((a : A) →
 kept-same f g (got a r) h = ap (λ (b : _). got b r) (h a)
 kept-same f g (refused e l) h = refl
 
-kept-cons : {S A B : Type 0} (g : List A → B) (x : A) (o : Read S (List A)) → kept g (next o (λ xs q. got (x ∷ xs) q)) ≡ kept (λ xs. g (x ∷ xs)) o
+pub kept-none : {S A : Type 0} (o : Read S (List A)) → kept (λ xs. [] ++ xs) o ≡ o
+kept-none (got xs r) = refl
+kept-none (refused e l) = refl
+
+pub kept-cons : {S A B : Type 0} (g : List A → B) (x : A) (o : Read S (List A)) → kept g (next o (λ xs q. got (x ∷ xs) q)) ≡ kept (λ xs. g (x ∷ xs)) o
 kept-cons g x (got xs q) = refl
 kept-cons g x (refused e l) = refl
 

@@ -7,8 +7,9 @@ use mathlib.Core.Option.{none, some}
 use mathlib.Core.List.{List, [], _∷_}
 use lib.ListN.{length}
 use lib.Dec.{T, ltb}
-use mir.Facts.{yes-ltb, no-ltb}
+use mir.Facts.{yes-ltb, no-ltb, yes-and}
 use Rattle.bits.specs.Choice.{pick}
+use Rattle.bits.specs.ChoiceLaws.{not-first, not-second}
 use Rattle.bits.specs.Bytes.{bitsOf}
 use Rattle.bits.specs.Codec.{got}
 use Rattle.outcome.specs.Refusals.{badLines, noIndex, alreadySo}
@@ -56,17 +57,6 @@ module _ (a b : ℕ) where
   pair-means true v r l = join-means v r l a b
   pair-means false v r l = part-means v r l a b
 
-both : (c d : Bool) → T c → T d → T (c && d)
-both true d t u = u
-
--- one of them is not
-not-both : (c d : Bool) → T (not c) → T (not (c && d))
-not-both false d t = tt
-
-not-second : (c d : Bool) → T (not d) → T (not (c && d))
-not-second true d t = t
-not-second false d t = tt
-
 module _ {s : List ℕ} {view n : ℕ} {x : Site} (F : Sought s view n x) where
   abbrev v : View
   v = viewAt (F .value) view
@@ -112,14 +102,14 @@ module _ {s : List ℕ} {view n : ℕ} {x : Site} (F : Sought s view n x) where
       bad-pair t = own-refused F (pairAct joins a b) ((indexed? v, noIndex) ∷ []) lines-there badLines _ (tests-are a b joins v) (is-indexed l, tt) t (omega arith)
 
       pub no-first : x .lines ≤ a → order (pairOrder view n a b joins) s ≡ refused badLines 0
-      no-first k = bad-pair (not-both (ltb a (count v)) (ltb b (count v)) (no-ltb {a = a} (omega (arith, F .at .count))))
+      no-first k = bad-pair (not-first (ltb a (count v)) (ltb b (count v)) (no-ltb {a = a} (omega (arith, F .at .count))))
 
       pub no-second : x .lines ≤ b → order (pairOrder view n a b joins) s ≡ refused badLines 0
       no-second k = bad-pair (not-second (ltb a (count v)) (ltb b (count v)) (no-ltb {a = b} (omega (arith, F .at .count))))
 
       module _ (p : a < x .lines) (q : b < x .lines) {r : Bool} (N : Near (cut s (x .index) (x .extended)) (max a b) (min a b) r) where
         there : T lines-there
-        there = both (ltb a (count v)) (ltb b (count v)) (yes-ltb {a = a} (omega (arith, F .at .count))) (yes-ltb {a = b} (omega (arith, F .at .count)))
+        there = yes-and (ltb a (count v)) (ltb b (count v)) (yes-ltb {a = a} (omega (arith, F .at .count))) (yes-ltb {a = b} (omega (arith, F .at .count)))
 
         near-so : near v a b ≡ r
         near-so = near-is l a b N (omega arith)

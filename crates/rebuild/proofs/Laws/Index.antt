@@ -18,7 +18,7 @@ use Rattle.locate.proofs.Laws.Blocks.{no-index}
 use Rattle.locate.proofs.Laws.Index.{an-index, index-enc}
 use Rattle.locate.specs.Stored.{sized}
 use Rattle.relist.specs.Index as r
-use Rattle.relist.proofs.Laws.Index.{block-long, small-block}
+use Rattle.relist.proofs.Laws.Index.{new-long, small-block}
 use Rattle.relist.specs.declared.lists.Change.{Change}
 use Rattle.relist.specs.declared.index.Size.{Size}
 use Rattle.rebuild.specs.Blocks.{newIndexBlock, Keeps, OldIndex, IndexMeasured, IndexRoom, IndexLaid}
@@ -76,7 +76,7 @@ module _ {s : List ℕ} {lines : ℕ} {ch : Change} {removal : List ℕ} (t : Ol
       go (some i) e k =
           let (f, n) = k i refl in
           let ls : List (List ℕ) = r.left removal ch i in
-          omega (arith, e, block-long ls, small-block ls f n)
+          omega (arith, e, new-long ls, small-block ls f n)
 
   laid-index : {before after : List ℕ} {m : ℕ} → Laid (sized (newIndexBlock removal ch (t .value))) before after m → IndexLaid s lines ch removal before after m
   laid-index h = record { is = λ o e. rw (sym (the-index e)) h }

@@ -4,8 +4,8 @@ use Prim.Native.Nat.{ℕ, suc, _+_, _*_, _/_, _≤_}
 use native.Mathlib.Omega.{arith}
 use native.Mathlib.Nat.{add-mul, mul-le-mul-left}
 use mathlib.Core.Option.{some}
-use mathlib.Core.List.{List, [], _∷_, _++_}
-use lib.ListN.{length, length-append}
+use mathlib.Core.List.{List, [], _∷_}
+use lib.ListN.{length}
 use Rattle.bits.specs.Lists.{Along, total}
 use Rattle.bits.specs.Bits.{Bits, bitsOfNumber}
 use Rattle.bits.specs.BitsLaws.{length-bits}
@@ -20,10 +20,10 @@ use Rattle.format.specs.Differences.{Falls}
 use Rattle.format.specs.DifferencesLaws.{falls-count}
 use Rattle.format.specs.Index.{Index, FitsIndex, neighbours, up, indexBlock}
 use Rattle.locate.proofs.Laws.Standing.{stands-behind, stands-within}
-use Rattle.locate.proofs.Laws.Lists.{list-bits}
-use Rattle.locate.proofs.Laws.Index.{IndexAt, index-at, width-is, index-enc}
+use Rattle.locate.proofs.Laws.Blocks.{block-long}
+use Rattle.locate.proofs.Laws.Lists.{along-long, list-bits}
+use Rattle.locate.proofs.Laws.Index.{IndexAt, index-at, width-is, index-enc, index-long}
 use Rattle.puts.specs.Put.{PutMore, Puts, Room}
-use Rattle.puts.proofs.Bytes.{filled-length}
 use Rattle.puts.proofs.Laws.{put-none, put-laid}
 use Rattle.orders.specs.Least.{find, maxOf, numbersFrom, leastWidth, indexOf}
 use Rattle.orders.proofs.Laws.Least.{least-fits}
@@ -56,32 +56,28 @@ module _ (s : List ℕ) (lines : ℕ) {i : Index} {u : Bits} (e : indexBlock lin
 
 -- ---- the block after
 
-along-bits : (w l : ℕ) (ls : List (List ℕ)) → length (encAlong (neighbours w) up l ls) ≡ (length ls + total length ls) * w
-along-bits w l [] = omega arith
-along-bits w l (ns ∷ ls) =
-    let a = length-append (neighbours w l .enc ns) (encAlong (neighbours w) up (suc l) ls) in
+-- so many numbers of w bits: a count and its differences for each list
+entries-long : (w : ℕ) (ls : List (List ℕ)) → total (λ ns. w + length ns * w) ls ≡ (length ls + total length ls) * w
+entries-long w [] = omega arith
+entries-long w (ns ∷ ls) =
     let x : ℕ = length ls + total length ls in
-    let y : (suc (length ls) + (length ns + total length ls)) * w ≡ (suc (length ns) + x) * w =
-    let z : suc (length ls) + (length ns + total length ls) ≡ suc (length ns) + x = omega arith in ap (λ (n : ℕ). n * w) z in
-    omega (arith, a, list-bits w l ns, along-bits w (suc l) ls, y, add-mul (suc (length ns)) x w, add-mul 1 (length ns) w)
+    let z : suc (length ls) + (length ns + total length ls) ≡ suc (length ns) + x = omega arith in
+    omega (arith, entries-long w ls, ap (λ (n : ℕ). n * w) z, add-mul (suc (length ns)) x w, add-mul 1 (length ns) w)
+
+lists-long : (w : ℕ) (ls : List (List ℕ)) → length (encAlong (neighbours w) up 0 ls) ≡ (length ls + total length ls) * w
+lists-long w ls = along-long (neighbours w) up (λ ns. w + length ns * w) (list-bits w) 0 ls ∙ entries-long w ls
 
 module _ (ls : List (List ℕ)) where
   abbrev w : ℕ
   w = leastWidth ls
 
-  abbrev bits : Bits
-  bits = bitsOfNumber 8 w ++ encAlong (neighbours w) up 0 ls
-
-  bits-long : length bits ≡ 8 + (length ls + total length ls) * w
-  bits-long = omega (arith, length-append (bitsOfNumber 8 w) (encAlong (neighbours w) up 0 ls), length-bits 8 w, along-bits w 0 ls)
-
-  pub block-long : length (inBytes (indexBlock 0 .enc (some (indexOf ls)))) ≡ (8 + (length ls + total length ls) * w + 7) / 8
-  block-long = ap (λ (b : Bits). length (inBytes b)) (index-enc 0 (indexOf ls)) ∙ filled-length bits ∙ ap (λ (n : ℕ). (n + 7) / 8) bits-long
+  pub new-long : length (inBytes (indexBlock 0 .enc (some (indexOf ls)))) ≡ (8 + (length ls + total length ls) * w + 7) / 8
+  new-long = omega (arith, block-long (indexBlock 0) (some (indexOf ls)), index-long 0 (indexOf ls), lists-long w ls)
 
   -- room for the block is room for its lists
   pub block-room : {out : List ℕ} → length (inBytes (indexBlock 0 .enc (some (indexOf ls)))) ≤ 65535
       → length (inBytes (indexBlock 0 .enc (some (indexOf ls)))) ≤ length out → Room out 8 (length (encAlong (neighbours w) up 0 ls))
-  block-room s r = record { room = omega (arith, block-long, along-bits w 0 ls); near = omega (arith, block-long, along-bits w 0 ls) }
+  block-room s r = record { room = omega (arith, new-long, lists-long w ls); near = omega (arith, new-long, lists-long w ls) }
 
   pub least-right : Along up (Falls 0) 0 ls → length ls ≤ 1024 → FitsIndex (length ls) (indexOf ls)
   unfolding mostLines
@@ -133,7 +129,7 @@ module _ (s : List ℕ) (lines : ℕ) (ch : Change) (removal : List ℕ) {v q : 
           is = λ i u e f n.
               let (a, b, c) = totals e f in
               let x = least-is (left removal ch i) c k in
-              (x, rw (a, b, x) (sym (block-long (left removal ch i))));
+              (x, rw (a, b, x) (sym (new-long (left removal ch i))));
         }
 
   lists-are : {width : ℕ} {i : Index} {u : Bits} {mid now : List ℕ} {at p : ℕ} → indexBlock lines .dec (bitsOf s) ≡ got (some i) u → width ≡ leastWidth (left removal ch i)

@@ -13,10 +13,10 @@ use Rattle.bits.specs.ChoiceLaws.{pick-yes, pick-no}
 use Rattle.bits.specs.Lists.{every, total}
 use Rattle.bits.specs.ListsLaws.{total-append}
 use Rattle.bits.specs.Bytes.{bitsOf}
-use Rattle.bits.specs.Codec.{Read, got, refused, next}
+use Rattle.bits.specs.Codec.{got, refused}
 use Rattle.bits.specs.Block.{Block}
 use Rattle.bits.specs.Reads.{kept}
-use Rattle.bits.proofs.Laws.Loops.{kept-same}
+use Rattle.bits.proofs.Laws.Loops.{kept-same, kept-none, kept-cons}
 use Rattle.outcome.specs.Refusals.{badValue}
 use Rattle.sheet.specs.Fields.{Field}
 use Rattle.sheet.specs.Grammar.{front, rest}
@@ -25,14 +25,6 @@ use Rattle.fields.specs.Fields.{FieldsAt}
 use Rattle.shape.specs.Shape.{starts}
 use Rattle.values.specs.Run.{Run, RunRight, RunWrong}
 use Rattle.values.proofs.Laws.Stand.{Next}
-
-kept-none : {A : Type 0} (o : Read Bool (List A)) → kept (λ xs. [] ++ xs) o ≡ o
-kept-none (got xs r) = refl
-kept-none (refused e l) = refl
-
-kept-cons : {A B : Type 0} (g : List A → B) (x : A) (o : Read Bool (List A)) → kept g (next o (λ xs q. got (x ∷ xs) q)) ≡ kept (λ xs. g (x ∷ xs)) o
-kept-cons g x (got xs q) = refl
-kept-cons g x (refused e l) = refl
 
 -- of the fields with tag t that fs starts with, n are passed, and what these take is z; the next one starts at byte p, and j is what
 -- the values so far say

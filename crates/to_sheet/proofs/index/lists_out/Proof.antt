@@ -70,7 +70,7 @@ list-out-requires c κs =
         value = t .value;
         left = t .after;
         reads = t .there;
-        room = simp (length-take, length-drop) (omega (arith, c .before .before .loop .inv .3 .room, ap (total listSize) (t .is)));
+        room = simp (length-take, length-drop) (omega (arith, c .before .before .loop .inv .3 .laying .room, ap (total listSize) (t .is)));
       },
     )
 
@@ -102,7 +102,7 @@ returns c =
     let l = c .before .loop in
     let U = l .inv .3 in
     let done = at-last listBytes listSize U (along-done (neighbours (a .w)) up (a .lines) (l .l) (l .l) (drop (l .q .at) (bitsOf (a .s .now))) (omega arith)) in
-    (l .q .at, record { value = U .done; reads = record { is = done; within = l .inv .1 }; laid = U .laid })
+    (l .q .at, record { value = U .all; reads = record { is = done .0; within = l .inv .1 }; laid = done .1 })
 
 pub lists-out-spec : {M : Type 1} → statement M
 lists-out-spec =

@@ -93,7 +93,7 @@ returns c =
     let l = c .before .loop in
     let U = l .inv .4 .1 in
     let done = at-last two (λ x. 2) U (numbers-end (a .w) (a .n) (l .i) (l .inv .4 .0) (l .number) (drop (l .q .at) (bitsOf (a .s .now))) (omega arith)) in
-    record { value = U .done; reads = record { is = done; within = l .inv .1 }; laid = U .laid }
+    record { value = U .all; reads = record { is = done .0; within = l .inv .1 }; laid = done .1 }
 
 pub numbers-out-spec : {M : Type 1} → statement M
 numbers-out-spec =

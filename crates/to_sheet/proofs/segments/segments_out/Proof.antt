@@ -104,7 +104,7 @@ returns c =
     let (k, U) = l .inv .2 in
     let end = drop-end (c .before .before .before .before .args .s .now) (8 * l .a) (omega arith) in
     let done = at-last segmentBytes segmentSize U (fill-done segment badSegment k _ end) in
-    record { is = λ gs u e. let d : gs ≡ U .done = cc (e, done) in rw d (U .laid) }
+    record { is = λ gs u e. let d : gs ≡ U .all = cc (e, done .0) in rw d (done .1) }
 
 pub segments-out-spec : {M : Type 1} → statement M
 segments-out-spec =
