@@ -1,20 +1,22 @@
 -- The laws of loops that read: the answer from here on is the whole answer, for values that are counted, that follow each other
 -- along, that fill a block, and for zero bits.
 use mathlib.Core.Path.{_≡_, refl, ap, _∙_}
-use Prim.Native.Nat.{ℕ, zero, suc, _+_, _-_, _≤_, _<_}
+use Prim.Native.Nat.{ℕ, zero, suc, _+_, _-_, _*_, _≤_, _<_}
 use native.Mathlib.Omega.{arith}
+use native.Mathlib.Nat.{add-mul}
 use mathlib.Core.Bool.{Bool, true, false}
 use mathlib.Core.List.{List, [], _∷_, _++_}
-use lib.ListN.{length}
+use lib.ListN.{length, take, drop, length-drop}
 use lib.Dec.{leb}
 use Rattle.bits.specs.ChoiceLaws.{pick-yes, pick-no}
 use Rattle.bits.specs.Bits.{Bits, numberOf}
 use Rattle.bits.specs.Codec.{Read, got, refused, next, Codec, fieldDec, timesDec, alongDec}
-use Rattle.bits.specs.CodecLaws.{pick-got}
+use Rattle.bits.specs.CodecLaws.{field, pick-got}
 use Rattle.bits.specs.Block.{few, zerosDec, manyDec, fillDec}
 use Rattle.bits.specs.BlockLaws.{few-yes, few-no, many-over, fill-more}
 use Rattle.bits.specs.Lists.{total}
 use Rattle.bits.specs.Reads.{kept, summed, tallied}
+use Rattle.bits.proofs.Laws.Reads.{first-field}
 
 -- ---- what is kept of values, of which the first is read
 
@@ -116,6 +118,20 @@ module _ {A : Type 0} (c : Codec Bool A) (bad most n : ℕ) (s : Bits) where
 pub fill-done : {A : Type 0} (c : Codec Bool A) (bad k : ℕ) (s : Bits) → s ≡ [] → fillDec c bad k s ≡ got [] []
 fill-done c bad zero s e = ap (fillDec c bad 0) e
 fill-done c bad (suc k) s e = ap (fillDec c bad (suc k)) e
+
+-- k numbers of w bits fill k w bits
+pub numbers-fill : (e w k n : ℕ) (s : Bits) → 1 ≤ w → length s ≡ k * w → k ≤ n → (xs : List ℕ) × (length xs ≡ k) × (fillDec (field e w) e n s ≡ got xs [])
+numbers-fill e w zero n s o h l = ([], refl, fill-done (field e w) e n s (none s (omega arith)))
+  where
+    none : (s : Bits) → length s ≡ 0 → s ≡ []
+    none [] z = refl
+    none (b ∷ s) z = absurd (omega arith)
+numbers-fill e w (suc k) zero s o h l = absurd (omega arith)
+numbers-fill e w (suc k) (suc n) s o h l =
+    let m : length s ≡ w + k * w = omega (arith, h, add-mul 1 k w) in
+    let (xs, z, d) = numbers-fill e w k n (drop w s) o (length-drop w s ∙ omega arith) (omega arith) in
+    let f = first-field e w s (omega arith) in
+    (numberOf (take w s) ∷ xs, ap suc z, fill-more (field e w) e n s (omega arith) ∙ rw (f, d))
 
 -- ---- zero bits, one by one
 

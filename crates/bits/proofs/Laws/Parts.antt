@@ -23,7 +23,7 @@ use Rattle.bits.specs.CodecLaws.{field}
 use Rattle.bits.specs.Block.{Block, maybeDec, sizedDec, inside}
 use Rattle.bits.specs.SizedLaws.{sized, prefixed}
 use Rattle.bits.specs.Reads.{Found, found, fault, Reads, kept}
-use Rattle.bits.proofs.Laws.Reads.{length-rest, known, go-on, stop, made, keeps, field-past, kept-got, kept-refused}
+use Rattle.bits.proofs.Laws.Reads.{length-rest, first-field, known, go-on, stop, made, keeps, field-past, kept-got, kept-refused}
 
 -- ---- a block of the bytes
 
@@ -122,7 +122,7 @@ bytes-there e (suc k) s h =
     let (xs, d) = bytes-there e k (drop 8 s) (omega arith) in
     let q : 8 + 8 * k ≡ 8 * suc k = omega arith in (
       numberOf (take 8 s) ∷ xs,
-      ap (λ (o : Read Bool ℕ). next o (λ x r. next (timesDec (field e 8) k r) (λ ys u. got (x ∷ ys) u))) (pick-yes (leb 8 (length s)) _ _ (le→leb 8 (length s) (omega arith)))
+      ap (λ (o : Read Bool ℕ). next o (λ x r. next (timesDec (field e 8) k r) (λ ys u. got (x ∷ ys) u))) (first-field e 8 s (omega arith))
           ∙ rw d (ap (got (numberOf (take 8 s) ∷ xs)) (drop-drop (8 * k) 8 s ∙ ap (λ (n : ℕ). drop n s) q)),
     )
 
@@ -134,7 +134,7 @@ bytes-cut e (suc k) s h = elim (decLe 8 (length s)) [ yes y ↦ more y (λ z. by
     more y ih =
         let l : length (drop 8 s) ≡ length s - 8 = length-drop 8 s in
         let (x, d) = ih (omega arith) in
-        (x, ap (λ (o : Read Bool ℕ). next o (λ x r. next (timesDec (field e 8) k r) (λ ys u. got (x ∷ ys) u))) (pick-yes (leb 8 (length s)) _ _ (le→leb 8 _ y)) ∙ rw d)
+        (x, ap (λ (o : Read Bool ℕ). next o (λ x r. next (timesDec (field e 8) k r) (λ ys u. got (x ∷ ys) u))) (first-field e 8 s y) ∙ rw d)
 
     short : length s < 8 → (l : ℕ) × (timesDec (field e 8) (suc k) s ≡ refused e l)
     short y = (length s, ap (λ (o : Read Bool ℕ). next o (λ x r. next (timesDec (field e 8) k r) (λ ys u. got (x ∷ ys) u))) (pick-no (leb 8 (length s)) _ _ (no-leb y)))

@@ -23,12 +23,16 @@ use Rattle.bits.specs.Reads.{Found, found, fault, placed, placeOf, Reads
 pub length-rest : (s : List ℕ) (p : ℕ) → length (drop p (bitsOf s)) ≡ 8 * length s - p
 length-rest s p = simp (length-drop, length-bitsOf)
 
+-- the first n bits as a number
+pub first-field : (e n : ℕ) (s : Bits) → n ≤ length s → fieldDec e n s ≡ got (numberOf (take n s)) (drop n s)
+first-field e n s l = pick-yes (leb n (length s)) _ _ (le→leb n (length s) l)
+
 -- the field of n bits at place p, where it fits, and where it passes the end
 pub field-at : (e : ℕ) (s : List ℕ) (p n v : ℕ) → p ≤ 8 * length s → n ≤ 8 * length s - p → v ≡ numberOf (take n (drop p (bitsOf s)))
     → Reads (fieldDec e n) s p (found v (p + n))
 field-at e s p n v i h z =
     let l : n ≤ length (drop p (bitsOf s)) = rw (length-rest s p) h in
-    record { is = pick-yes (leb n (length (drop p (bitsOf s)))) _ _ (le→leb n _ l) ∙ ap₂ got (sym z) (drop-drop n p (bitsOf s)); within = omega arith }
+    record { is = first-field e n (drop p (bitsOf s)) l ∙ ap₂ got (sym z) (drop-drop n p (bitsOf s)); within = omega arith }
 
 pub field-past : (e : ℕ) (s : List ℕ) (p n : ℕ) → p ≤ 8 * length s → 8 * length s - p < n → Reads (fieldDec e n) s p (fault e p)
 field-past e s p n i h =
@@ -40,6 +44,10 @@ field-past e s p n i h =
 abbrev pub mapped : {A B : Type 0} → (A → B) → Found A → Found B
 mapped f (found a p) = found (f a) p
 mapped f (fault e p) = fault e p
+
+mapped-within : {A B : Type 0} (f : A → B) (r : Found A) {m : ℕ} → placeOf r ≤ m → placeOf (mapped f r) ≤ m
+mapped-within f (found a p) i = i
+mapped-within f (fault e p) i = i
 
 -- the answer of a call, once its case is known
 pub known : {A : Type 0} {d : Bits → Read Bool A} {s : List ℕ} {p : ℕ} {r r′ : Found A} → r ≡ r′ → Reads d s p r → Reads d s p r′
@@ -57,15 +65,11 @@ module _ {A B : Type 0} (c : Codec Bool A) {s : List ℕ} {p : ℕ} where
   pub go-on : (d : A → Codec Bool B) {a : A} {q : ℕ} {r : Found B} → Reads (c .dec) s p (found a q) → Reads (d a .dec) s q r
       → Reads (thenDec c d) s p (mapped (λ b. (a, b)) r)
   unfolding thenDec
-  go-on d {a} {q} {r} h k = record { is = rw (h .is, k .is) (go r); within = on r (k .within) }
+  go-on d {a} {q} {r} h k = record { is = rw (h .is, k .is) (go r); within = mapped-within {B = A × B} (λ b. (a, b)) r (k .within) }
     where
       go : (r : Found B) → next {B = A × B} (placed s r) (λ b z. got (a, b) z) ≡ placed s (mapped (λ b. (a, b)) r)
       go (found b x) = refl
       go (fault e x) = refl
-
-      on : (r : Found B) → placeOf r ≤ 8 * length s → placeOf {A = A × B} (mapped (λ b. (a, b)) r) ≤ 8 * length s
-      on (found b x) i = i
-      on (fault e x) i = i
 
   pub stop : (d : A → Codec Bool B) {e q : ℕ} → Reads (c .dec) s p (fault e q) → Reads (thenDec c d) s p (fault e q)
   unfolding thenDec
@@ -74,27 +78,19 @@ module _ {A B : Type 0} (c : Codec Bool A) {s : List ℕ} {p : ℕ} where
   -- the same as another type
   pub made : (f : A → B) {r : Found A} → Reads (c .dec) s p r → Reads (viaDec c f) s p (mapped f r)
   unfolding viaDec
-  made f {r} h = record { is = rw (h .is) (go r); within = on r (h .within) }
+  made f {r} h = record { is = rw (h .is) (go r); within = mapped-within f r (h .within) }
     where
       go : (r : Found A) → next (placed s r) (λ b z. got (f b) z) ≡ placed s (mapped f r)
       go (found b x) = refl
       go (fault e x) = refl
 
-      on : (r : Found A) → placeOf r ≤ 8 * length s → placeOf (mapped f r) ≤ 8 * length s
-      on (found b x) i = i
-      on (fault e x) i = i
-
 -- what is kept of a value
 pub keeps : {A B : Type 0} {d : Bits → Read Bool A} {s : List ℕ} {p : ℕ} (f : A → B) {r : Found A} → Reads d s p r → Reads (λ x. kept f (d x)) s p (mapped f r)
-keeps {A = A} {s = s} f {r} h = record { is = rw (h .is) (go r); within = on r (h .within) }
+keeps {A = A} {s = s} f {r} h = record { is = rw (h .is) (go r); within = mapped-within f r (h .within) }
   where
     go : (r : Found A) → kept f (placed s r) ≡ placed s (mapped f r)
     go (found b x) = refl
     go (fault e x) = refl
-
-    on : (r : Found A) → placeOf r ≤ 8 * length s → placeOf (mapped f r) ≤ 8 * length s
-    on (found b x) i = i
-    on (fault e x) i = i
 
 module _ {A : Type 0} (c : Codec Bool A) {s : List ℕ} {p : ℕ} where
   pub pass : (e : ℕ) (t : A → Bool) {a : A} {q : ℕ} → Reads (c .dec) s p (found a q) → T (t a) → Reads (onlyDec c e t) s p (found a q)

@@ -1,21 +1,19 @@
 -- The values of segments, and how far a loop over them has come. One of two bytes or more is right: a type, and a byte for each byte
 -- of the payload.
-use mathlib.Core.Path.{_≡_, refl, ap, _∙_}
-use Prim.Native.Nat.{ℕ, zero, suc, _+_, _-_, _*_, _≤_}
+use mathlib.Core.Path.{_≡_, _∙_}
+use Prim.Native.Nat.{ℕ, _+_, _-_, _*_, _≤_}
 use native.Mathlib.Omega.{arith}
 use mathlib.Core.Bool.{not}
-use mathlib.Core.List.{List, [], _∷_}
+use mathlib.Core.List.{List, []}
 use lib.ListN.{length, take, drop, length-drop}
-use lib.Dec.{T, leb, leb→le, le→leb}
-use Rattle.bits.specs.ChoiceLaws.{pick-yes}
+use lib.Dec.{T, leb→le}
 use Rattle.bits.specs.Bits.{Bits, numberOf}
 use Rattle.bits.specs.Bytes.{bitsOf}
 use Rattle.bits.specs.BytesLaws.{length-bitsOf}
-use Rattle.bits.specs.Codec.{got, fieldDec}
-use Rattle.bits.specs.CodecLaws.{field}
-use Rattle.bits.specs.Block.{fillDec, aheadDec, recastDec}
-use Rattle.bits.specs.BlockLaws.{fill-more}
-use Rattle.bits.proofs.Laws.Loops.{fill-done}
+use Rattle.bits.specs.Codec.{got}
+use Rattle.bits.specs.Block.{aheadDec, recastDec}
+use Rattle.bits.proofs.Laws.Reads.{first-field}
+use Rattle.bits.proofs.Laws.Loops.{numbers-fill}
 use Rattle.outcome.specs.Refusals.{badValue}
 use Rattle.format.specs.Segments.{Segment}
 use Rattle.sheet.specs.Fields.{Field}
@@ -28,22 +26,6 @@ use Rattle.values.proofs.Laws.Run.{Going, going-first, going-all, its-r
 
 -- ---- one segment
 
-first-field : (e n : ℕ) (s : Bits) → n ≤ length s → fieldDec e n s ≡ got (numberOf (take n s)) (drop n s)
-first-field e n s l = pick-yes (leb n (length s)) _ _ (le→leb n (length s) l)
-
--- k bytes fill 8 k bits
-bytes-fill : (e k n : ℕ) (s : Bits) → length s ≡ 8 * k → k ≤ n → (xs : List ℕ) × (length xs ≡ k) × (fillDec (field e 8) e n s ≡ got xs [])
-bytes-fill e zero n s h l = ([], refl, fill-done (field e 8) e n s (none s h))
-  where
-    none : (s : Bits) → length s ≡ 0 → s ≡ []
-    none [] z = refl
-    none (b ∷ s) z = absurd (omega arith)
-bytes-fill e (suc k) zero s h l = absurd (omega arith)
-bytes-fill e (suc k) (suc n) s h l =
-    let (xs, z, d) = bytes-fill e k n (drop 8 s) (length-drop 8 s ∙ omega arith) (omega arith) in
-    let f = first-field e 8 s (omega arith) in
-    (numberOf (take 8 s) ∷ xs, ap suc z, fill-more (field e 8) e n s (omega arith) ∙ rw (f, d))
-
 pub record SegmentIn (v : List ℕ) : Type 0 where
   pub value : Segment
   pub reads : segmentValue .dec (bitsOf v) ≡ got value []
@@ -55,7 +37,7 @@ segment-in v l =
     let s : Bits = bitsOf v in
     let r : Bits = drop 16 s in
     let m : length r ≡ 8 * (length v - 2) = length-drop 16 s ∙ omega (arith, length-bitsOf v) in
-    let (xs, z, d) = bytes-fill badValue (length v - 2) (length r) r m (omega arith) in
+    let (xs, z, d) = numbers-fill badValue 8 (length v - 2) (length r) r (omega arith) (omega arith) (omega arith) in
     let f = first-field badValue 16 s (omega (arith, length-bitsOf v)) in
     record { value = record { kind = numberOf (take 16 s); payload = xs }; reads = rw (f, d); bytes = omega arith }
 

@@ -1,45 +1,29 @@
 -- What the judge of a line's neighbours finds. The numbers are always there; the loop holds each against the one before, so what
 -- the test of the rest says is what the test of them all says.
 use mathlib.Core.Path.{_≡_, refl, sym, ap, _∙_}
-use Prim.Native.Nat.{ℕ, zero, suc, _+_, _-_, _*_, _/_, _%_, _^_, _≤_, _<_}
+use Prim.Native.Nat.{ℕ, _+_, _-_, _*_, _/_, _%_, _^_, _≤_, _<_}
 use native.Mathlib.Omega.{arith}
 use native.Mathlib.Nat.{sub-zero}
 use mathlib.Core.Bool.{Bool, true, false, _&&_}
 use mathlib.Core.List.{List, [], _∷_}
-use lib.ListN.{length, take, drop, length-drop}
-use lib.Dec.{T, leb, ltb, le→leb}
+use lib.ListN.{length, drop}
+use lib.Dec.{T, leb, ltb}
 use borrow.Author.Tests.{le-leb, lt-leb}
 use Rattle.bits.specs.ChoiceLaws.{pick-yes, pick-no}
 use Rattle.bits.specs.Lists.{every}
-use Rattle.bits.specs.Bits.{Bits, numberOf}
 use Rattle.bits.specs.Bytes.{bitsOf}
 use Rattle.bits.specs.BytesLaws.{length-bitsOf}
 use Rattle.bits.specs.Codec.{Read, got, fieldDec}
 use Rattle.bits.specs.CodecLaws.{field}
 use Rattle.bits.specs.Block.{fillDec, passDec}
-use Rattle.bits.specs.BlockLaws.{fill-more}
 use Rattle.bits.specs.Reads.{Reads, found, kept}
 use Rattle.bits.proofs.Laws.Reads.{kept-got}
-use Rattle.bits.proofs.Laws.Loops.{kept-same, fill-turn, fill-done}
+use Rattle.bits.proofs.Laws.Loops.{kept-same, fill-turn, fill-done, numbers-fill}
 use Rattle.bits.proofs.Laws.Parts.{some-left, drop-end}
 use Rattle.outcome.specs.Refusals.{badValue}
 use Rattle.format.specs.Differences.{diffs}
 use Rattle.sheet.specs.Values.{fallsOk, listOk, listValue}
 use Rattle.worth.specs.Worth.{Wrong, Right}
-
--- ---- k numbers of 16 bits fill 16 k bits
-
-numbers : (e k n : ℕ) (s : Bits) → length s ≡ 16 * k → k ≤ n → (ns : List ℕ) × (length ns ≡ k) × (fillDec (field e 16) e n s ≡ got ns [])
-numbers e zero n s h l = ([], refl, fill-done (field e 16) e n s (none s h))
-  where
-    none : (s : Bits) → length s ≡ 0 → s ≡ []
-    none [] z = refl
-    none (b ∷ s) z = absurd (omega arith)
-numbers e (suc k) zero s h l = absurd (omega arith)
-numbers e (suc k) (suc n) s h l =
-    let (ns, z, d) = numbers e k n (drop 16 s) (length-drop 16 s ∙ omega arith) (omega arith) in
-    let f : fieldDec e 16 s ≡ got (numberOf (take 16 s)) (drop 16 s) = pick-yes (leb 16 (length s)) _ _ (le→leb 16 (length s) (omega arith)) in
-    (numberOf (take 16 s) ∷ ns, ap suc z, fill-more (field e 16) e n s (omega arith) ∙ rw (f, d))
 
 -- ---- the test of neighbours behind the number l, each at least m below the one before
 
@@ -106,7 +90,7 @@ module _ (w l : ℕ) (s : List ℕ) where
 
   module _ (even-length : length s % 2 ≡ 0) where
     whole : (ns : List ℕ) × (length ns ≡ length s / 2) × (fillDec (field badValue 16) badValue (length (bitsOf s)) (bitsOf s) ≡ got ns [])
-    whole = numbers badValue (length s / 2) (length (bitsOf s)) (bitsOf s) (length-bitsOf s ∙ omega arith) (omega (arith, length-bitsOf s))
+    whole = numbers-fill badValue 16 (length s / 2) (length (bitsOf s)) (bitsOf s) (omega arith) (length-bitsOf s ∙ omega arith) (omega (arith, length-bitsOf s))
 
     -- not right as a whole
     wrong : listOk w l (whole .0) ≡ false → Wrong (listValue w l) s
