@@ -6,6 +6,7 @@ pub mod Bits
 pub mod BitsLaws
 pub mod Codec
 pub mod CodecLaws
+pub mod RefusingLaws
 pub mod Block
 pub mod BlockLaws
 pub mod SizedLaws

@@ -10,7 +10,8 @@ use lib.ListN.{length, length-append}
 use Rattle.bits.specs.Lists.{All}
 use Rattle.bits.specs.BitsLaws.{length-bits}
 use Rattle.bits.specs.Codec.{Codec}
-use Rattle.bits.specs.CodecLaws.{field, then, via, counted, whole}
+use Rattle.bits.specs.CodecLaws.{field, then, via, counted}
+use Rattle.bits.specs.RefusingLaws.{whole}
 use Rattle.bits.specs.Block.{Block}
 use Rattle.bits.specs.BlockLaws.{many}
 use Rattle.outcome.specs.Refusals.{badLine, tooManyLines}

@@ -10,7 +10,8 @@ use lib.Dec.{leb, leb→le, le→leb}
 use Rattle.bits.specs.Lists.{All}
 use Rattle.bits.specs.BitsLaws.{length-bits}
 use Rattle.bits.specs.Codec.{Codec}
-use Rattle.bits.specs.CodecLaws.{encAll, field, then, via, only, times, whole, room}
+use Rattle.bits.specs.CodecLaws.{encAll, field, then, via, only, times}
+use Rattle.bits.specs.RefusingLaws.{whole, room}
 use Rattle.bits.specs.Block.{Block}
 use Rattle.bits.specs.BlockLaws.{fill}
 use Rattle.bits.specs.Bytes.{Byte}

@@ -11,7 +11,8 @@ use lib.Dec.{leb, eqb}
 use Rattle.bits.specs.Choice.{pick}
 use Rattle.bits.specs.BitsLaws.{length-bits}
 use Rattle.bits.specs.Codec.{Codec}
-use Rattle.bits.specs.CodecLaws.{field, then, via, judged, room}
+use Rattle.bits.specs.CodecLaws.{field, then, via}
+use Rattle.bits.specs.RefusingLaws.{judged, room}
 use Rattle.bits.specs.SizedLaws.{headed, prefixed}
 use Rattle.outcome.specs.Refusals.{past, badView}
 use Rattle.format.specs.Line.{Line, skeleton}
