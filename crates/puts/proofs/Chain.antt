@@ -51,7 +51,7 @@ pub record Putting (rest all : Bits) (old : List ℕ) (at : ℕ) (now : List ℕ
 pub putting-none : (all : Bits) (old : List ℕ) (at : ℕ) → Putting all all old at old at
 putting-none all old at = record { done = []; puts = puts-none old at; whole = refl }
 
-pub putting-place : {rest all : Bits} {old : List ℕ} {at : ℕ} {now : List ℕ} {q : ℕ} → Putting rest all old at now q → q + length rest ≡ at + length all
+putting-place : {rest all : Bits} {old : List ℕ} {at : ℕ} {now : List ℕ} {q : ℕ} → Putting rest all old at now q → q + length rest ≡ at + length all
 putting-place {rest} h = omega (arith, h .puts .place, ap length (h .whole), length-append (h .done) rest)
 
 module _ (x rest : Bits) {all : Bits} {old : List ℕ} {at : ℕ} {now : List ℕ} {q : ℕ} (h : Putting (x ++ rest) all old at now q) where

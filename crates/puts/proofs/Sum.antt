@@ -26,14 +26,14 @@ sum-append (x ∷ xs) [] zs us vs ws s t = absurd (omega arith)
 sum-append (x ∷ xs) (y ∷ ys) [] us vs ws s t = absurd (omega arith)
 sum-append (x ∷ xs) (y ∷ ys) (z ∷ zs) us vs ws (e, s) t = (e, sum-append xs ys zs us vs ws s t)
 
-pub sum-take : (n : ℕ) (xs ys zs : Bits) → Sum xs ys zs → Sum (take n xs) (take n ys) (take n zs)
+sum-take : (n : ℕ) (xs ys zs : Bits) → Sum xs ys zs → Sum (take n xs) (take n ys) (take n zs)
 sum-take zero xs ys zs s = (refl, refl)
 sum-take (suc n) [] ys zs (e, f) = rw (e, f) (refl, refl)
 sum-take (suc n) (x ∷ xs) [] zs s = absurd (omega arith)
 sum-take (suc n) (x ∷ xs) (y ∷ ys) [] s = absurd (omega arith)
 sum-take (suc n) (x ∷ xs) (y ∷ ys) (z ∷ zs) (e, s) = (e, sum-take n xs ys zs s)
 
-pub sum-drop : (n : ℕ) (xs ys zs : Bits) → Sum xs ys zs → Sum (drop n xs) (drop n ys) (drop n zs)
+sum-drop : (n : ℕ) (xs ys zs : Bits) → Sum xs ys zs → Sum (drop n xs) (drop n ys) (drop n zs)
 sum-drop zero xs ys zs s = s
 sum-drop (suc n) [] ys zs (e, f) = rw (e, f) (refl, refl)
 sum-drop (suc n) (x ∷ xs) [] zs s = absurd (omega arith)

@@ -6,7 +6,7 @@ use mathlib.Core.Logic.{_≢_}
 use mathlib.Core.Option.{Option, none, some, Option·none-ne-some, Option·some-injective}
 use mathlib.Core.List.{List, []}
 use lib.ListN.{length}
-use Rattle.bits.specs.Bytes.{bitsOf, bytesOf}
+use Rattle.bits.specs.Bytes.{bitsOf, bytesOf, inBytes}
 use Rattle.bits.specs.Codec.{got}
 use Rattle.lay.specs.Laid.{Laid}
 use Rattle.lay.specs.HighFirst.{two}
@@ -15,7 +15,7 @@ use Rattle.format.specs.Index.{Index, indexBlock}
 use Rattle.orders.specs.Least.{leastWidth}
 use Rattle.survivors.specs.Kept.{kept}
 use Rattle.locate.proofs.Laws.Blocks.{no-index}
-use Rattle.locate.proofs.Laws.Index.{an-index, index-enc}
+use Rattle.locate.proofs.Laws.Index.{none-enc, an-index, index-enc}
 use Rattle.locate.specs.Stored.{sized}
 use Rattle.relist.specs.Index as r
 use Rattle.relist.proofs.Laws.Index.{new-long, small-block}
@@ -30,8 +30,8 @@ index-bytes n none = refl
 index-bytes n (some i) = index-enc n i ∙ sym (index-enc 0 i)
 
 index-none : (removal : List ℕ) (ch : Change) → newIndexBlock removal ch none ≡ []
-unfolding indexBlock bytesOf
-index-none removal ch = refl
+unfolding bytesOf
+index-none removal ch = ap inBytes (none-enc 0)
 
 module _ {s : List ℕ} {lines : ℕ} {ch : Change} {removal : List ℕ} (t : OldIndex s lines ch removal) where
   the-index : {o : Option Index} → indexBlock lines .dec (bitsOf s) ≡ got o [] → t .value ≡ o

@@ -35,10 +35,10 @@ module _ (w : Widths) (s : List ℕ) (p : ℕ) (x : Line) (xs : List Line) {u : 
   here : drop p (bitsOf s) ≡ line w .enc x ++ rest
   here = h .bits ∙ append-assoc (line w .enc x) (encAll (line w) xs) u
 
-  pub line-within : p + length (line w .enc x) ≤ 8 * length s
+  line-within : p + length (line w .enc x) ≤ 8 * length s
   line-within = stands-within s p (line w .enc x) rest here (h .within)
 
-  pub line-reads : Reads (line w .dec) s p (found x (p + length (line w .enc x)))
+  line-reads : Reads (line w .dec) s p (found x (p + length (line w .enc x)))
   unfolding line
   line-reads =
       record {
@@ -46,10 +46,10 @@ module _ (w : Widths) (s : List ℕ) (p : ℕ) (x : Line) (xs : List Line) {u : 
         within = line-within;
       }
 
-  pub line-copied : take (length (line w .enc x)) (drop p (bitsOf s)) ≡ line w .enc x
+  line-copied : take (length (line w .enc x)) (drop p (bitsOf s)) ≡ line w .enc x
   line-copied = ap (take (length (line w .enc x))) here ∙ take-append-seam (line w .enc x) rest
 
-  pub others-at : LinesAt w s (p + length (line w .enc x)) xs u
+  others-at : LinesAt w s (p + length (line w .enc x)) xs u
   others-at = record { bits = stands-behind s p (line w .enc x) rest here (length (line w .enc x)) refl; fits = h .fits .1; within = line-within }
 
 -- ---- line l, which comes next

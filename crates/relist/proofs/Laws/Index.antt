@@ -83,17 +83,17 @@ module _ (ls : List (List ℕ)) where
   unfolding mostLines
   least-right f n = least-fits ls n f
 
-  pub least-is : {m r : ℕ} → m ≡ maxOf (numbersFrom 0 ls) → r ≡ find 15 1 m → r ≡ w
+  least-is : {m r : ℕ} → m ≡ maxOf (numbersFrom 0 ls) → r ≡ find 15 1 m → r ≡ w
   unfolding leastWidth
   least-is e f = f ∙ ap (find 15 1) e
 
-  pub block-laid : {old mid now : List ℕ} {p q r : ℕ} → PutMore old 0 w 8 mid p → Puts (encAlong (neighbours w) up 0 ls) mid p now q → r ≡ (q + 7) / 8
+  block-laid : {old mid now : List ℕ} {p q r : ℕ} → PutMore old 0 w 8 mid p → Puts (encAlong (neighbours w) up 0 ls) mid p now q → r ≡ (q + 7) / 8
       → Laid (inBytes (indexBlock 0 .enc (some (indexOf ls)))) old now r
   block-laid {old} h P e = rw (index-enc 0 (indexOf ls)) (put-laid (P .is (bitsOfNumber 8 w) old (h .is [] old (put-none old))) e)
 
   -- ---- how much there is
 
-  pub few-entries : Along up (Falls 0) 0 ls → length ls ≤ 1024 → total length ls ≤ 1025 * 1024
+  few-entries : Along up (Falls 0) 0 ls → length ls ≤ 1024 → total length ls ≤ 1025 * 1024
   few-entries f n = omega (arith, go 0 ls (omega arith) f)
     where
       go : (l : ℕ) (ks : List (List ℕ)) → l + length ks ≤ 1024 → Along up (Falls 0) l ks → total length ks ≤ 1025 * length ks

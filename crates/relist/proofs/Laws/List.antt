@@ -30,16 +30,16 @@ use Rattle.relist.specs.declared.walk.Step.{Step}
 -- ---- one step: the line goes or stays
 
 module _ {w : ℕ} {s : List ℕ} {k : Walk} {low : ℕ} (drop : ℕ) (lines : List ℕ) {ns : List ℕ} {u : Bits} {r : Step} (t : StepTo w s k low ns u r) where
-  pub one-gone : T (gone (listed lines) drop (r .line)) → become k low drop lines ns ≡ become (r .next) low drop lines (t .lines)
+  one-gone : T (gone (listed lines) drop (r .line)) → become k low drop lines ns ≡ become (r .next) low drop lines (t .lines)
   one-gone g = ap (stayed (listed lines) drop) (t .is) ∙ pick-yes (gone (listed lines) drop (r .line)) _ _ g
 
-  pub one-stays : T (not (gone (listed lines) drop (r .line)))
+  one-stays : T (not (gone (listed lines) drop (r .line)))
       → become k low drop lines ns ≡ (r .line - below (listed lines) (r .line)) ∷ become (r .next) low drop lines (t .lines)
   one-stays g = ap (stayed (listed lines) drop) (t .is) ∙ pick-no (gone (listed lines) drop (r .line)) _ _ g
 
 -- ---- the end
 
-pub nothing-left : {w : ℕ} {s : List ℕ} (k : Walk) (low drop : ℕ) (lines ms : List ℕ) {u : Bits} → WalkAt w s k ms u → k .left + k .waiting ≤ 0
+nothing-left : {w : ℕ} {s : List ℕ} (k : Walk) (low drop : ℕ) (lines ms : List ℕ) {u : Bits} → WalkAt w s k ms u → k .left + k .waiting ≤ 0
     → become k low drop lines ms ≡ []
 nothing-left k low drop lines [] a z = let e : k .waiting ≡ 0 = omega arith in rw e refl
 nothing-left k low drop lines (m ∷ ms) a z = absurd (omega (arith, a .left))
