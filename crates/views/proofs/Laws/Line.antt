@@ -1,6 +1,6 @@
 -- A line, and the lines of a skeleton block, as the judge's loops read them: what each early way out says of the line, and what a
 -- turn of the loop keeps.
-use mathlib.Core.Path.{_≡_, sym, ap, _∙_}
+use mathlib.Core.Path.{_≡_, sym, ap, _∙_, subst}
 use Prim.Native.Nat.{ℕ, _+_, _-_, _*_, _≤_, _<_}
 use native.Mathlib.Omega.{arith}
 use mathlib.Core.Bool.{Bool}
@@ -70,13 +70,16 @@ lineTally ls = (length ls, total lineSize ls)
 abbrev pub Lines : Widths → List ℕ → ℕ → ℕ → ℕ → Type 0
 Lines w s n z p = tallied lineSize n z (manyDec (line w) badLine tooManyLines (1024 - n) (drop p (bitsOf s))) ≡ kept lineTally (skeleton w .dec (bitsOf s))
 
-pub lines-start : (w : Widths) (s : List ℕ) → Lines w s 0 0 0
+lines-first : (w : Widths) (s : List ℕ) → Lines w s 0 0 0
 unfolding skeleton mostLines
-lines-start w s =
+lines-first w s =
     kept-same _ _ (manyDec (line w) badLine tooManyLines 1024 (bitsOf s)) λ ls.
     let a : 0 + length ls ≡ length ls = omega arith in
     let b : 0 + total lineSize ls ≡ total lineSize ls = omega arith in
     λ i. (a i, b i)
+
+pub lines-start : (w : Widths) (s : List ℕ) (p : ℕ) → p ≡ 0 → Lines w s 0 0 p
+lines-start w s p e = subst (λ (q : ℕ). Lines w s 0 0 q) (sym e) (lines-first w s)
 
 module _ (w : Widths) (s : List ℕ) (n z p : ℕ) (inv : Lines w s n z p) where
   pub lines-over : n ≡ 1024 → 8 ≤ 8 * length s - p → skeleton w .dec (bitsOf s) ≡ refused tooManyLines (8 * length s - p)

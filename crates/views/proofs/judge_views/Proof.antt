@@ -222,7 +222,7 @@ start-requires c κs = search needs
 
 loop-holds : tie.Need-loop-holds Inv-loop2 μ-loop2 Inv-loop μ-loop Inv-views μ-views
 loop-holds c =
-    (omega arith, omega (arith, c .start .ensures), refl, omega arith, rw (c .start .ensures) (lines-start (c .before .before .before .before .before .before .before .before .before .before .before .args .w) (blk (c .before))))
+    (omega arith, omega (arith, c .start .ensures), refl, omega arith, lines-start (c .before .before .before .before .before .before .before .before .before .before .before .args .w) (blk (c .before)) _ (c .start .ensures))
 
 sub-if2 : tie.Need-sub-if2 Inv-loop2 μ-loop2 Inv-loop μ-loop Inv-views μ-views
 sub-if2 c =
