@@ -9,7 +9,7 @@ ghost use Rattle.lookup.specs.Segment.{segmentAnswer};
 ghost use Rattle.orders.specs.Order.{order, heldAnswer};
 ghost use Rattle.ordering.specs.Orders.{removal, pairOrder};
 use holds::which_holds;
-use lookup::segment::segment;
+use lookup::segment;
 use ordering::join;
 use ordering::part;
 use ordering::remove;

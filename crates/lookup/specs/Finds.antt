@@ -7,8 +7,8 @@ use lib.ListN.{length, take, drop}
 use Rattle.outcome.specs.Outcome.{refused, given}
 use Rattle.format.specs.Record.{read}
 use Rattle.lookup.specs.Segment.{payload, firstBitRead}
-use Rattle.lookup.specs.declared.segment.Found.{Found}
-use Rattle.lookup.specs.declared.segment.Found.the-variants.{At, Refused}
+use Rattle.lookup.specs.declared.Found.{Found}
+use Rattle.lookup.specs.declared.Found.the-variants.{At, Refused}
 
 -- the payload is the bytes s from byte to byte; they are a record's, so there are few
 pub record PayloadAt (view place : ℕ) (s : List ℕ) (from to : ℕ) : Type 0 where

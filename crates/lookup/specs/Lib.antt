@@ -1,4 +1,2 @@
 pub mod Segment
 pub mod Finds
-pub mod Listing
-pub mod Counts

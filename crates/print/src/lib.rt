@@ -6,8 +6,8 @@ use format::Widths;
 use judge::Verdict;
 use judge::judge;
 use libc::STDOUT_FILENO;
-use lookup::listing::Listed;
-use lookup::listing::listed_at;
+use listed::Listed;
+use listed::listed_at;
 
 pub fn text(bytes: &[u8]) {
     io::write_all(STDOUT_FILENO, bytes);

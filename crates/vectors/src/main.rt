@@ -2,8 +2,8 @@
 // trails of the first lines of each view and the lengths of its first segments.
 use judge::Verdict;
 use judge::judge;
-use lookup::segment::payload;
-use lookup::segment::segment;
+use lookup::payload;
+use lookup::segment;
 use print::number;
 use print::text;
 use reading::read;

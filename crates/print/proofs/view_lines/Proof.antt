@@ -11,8 +11,8 @@ use Rattle.format.proofs.Laws.Record.{narrow}
 use Rattle.locate.proofs.Laws.Record.{record-apart}
 use Rattle.locate.proofs.Laws.View.{position-few}
 use Rattle.locate.proofs.Laws.Views.{Sought, sought-first, sought-on, view-in, view-end}
-use Rattle.lookup.specs.Counts.{ListedAt}
-use Rattle.lookup.specs.Listing as l
+use Rattle.listed.specs.Counts.{ListedAt}
+use Rattle.listed.specs.Listing as l
 use Rattle.print.specs.Views.{ViewsThere}
 use Rattle.print.proofs.view_lines.Statement.{statement}
 use Rattle.print.proofs.view_lines.Tie as tie

@@ -5,9 +5,9 @@ use Rattle.bits.specs.Bytes.{Byte}
 use Rattle.bits.proofs.Laws.Place.{all-bytes}
 use Rattle.outcome.specs.Refusals.{badView}
 use Rattle.locate.proofs.Laws.Blocks.{blocks-there, segments-there, behind-is}
-use Rattle.lookup.proofs.Laws.Listing.{head-there, lines-at, index-at, segments-at, lines-there, index-there, listed-is}
-use Rattle.lookup.proofs.listing.listed_at.Statement.{statement}
-use Rattle.lookup.proofs.listing.listed_at.Tie as tie
+use Rattle.listed.proofs.Laws.Listing.{head-there, lines-at, index-at, segments-at, lines-there, index-there, listed-is}
+use Rattle.listed.proofs.listed_at.Statement.{statement}
+use Rattle.listed.proofs.listed_at.Tie as tie
 
 bytes : (c : tie.After-shared-slice-known) → All Byte (c .before .args .s .now)
 bytes c = all-bytes (c .before .args .s .now) (λ i. c .shared-slice-known .given i .fits)

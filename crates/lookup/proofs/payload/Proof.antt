@@ -2,11 +2,11 @@
 use native.Mathlib.Omega.{arith}
 use mathlib.Core.Path.{subst}
 use Rattle.lookup.specs.Finds.{PayloadAt, Finds}
-use Rattle.lookup.specs.declared.segment.Found.{Found}
-use Rattle.lookup.proofs.Laws.Segment.{none-given, part-given}
+use Rattle.lookup.specs.declared.Found.{Found}
+use Rattle.lookup.proofs.Laws.{none-given, part-given}
 use borrow.Author.Needs.{needs}
-use Rattle.lookup.proofs.segment.payload.Statement.{statement}
-use Rattle.lookup.proofs.segment.payload.Tie as tie
+use Rattle.lookup.proofs.payload.Statement.{statement}
+use Rattle.lookup.proofs.payload.Tie as tie
 
 at : (c : tie.After-from) → PayloadAt (c .before .before .before .before .args .view) (c .before .before .before .before .args .place) (c .before .before .before .before .args .bytes .now) (c .from .given .0 .0) (c .from .given .0 .1 .0)
 at c = subst (λ (r : Found). Finds (c .before .before .before .before .args .view) (c .before .before .before .before .args .place) (c .before .before .before .before .args .bytes .now) r) (c .from .given .1) (c .before .before .find .ensures)

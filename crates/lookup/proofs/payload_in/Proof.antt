@@ -13,10 +13,10 @@ use Rattle.locate.specs.Finds.{BlocksThere}
 use Rattle.locate.proofs.Laws.Blocks.{blocks-there, segments-there}
 use Rattle.locate.proofs.Laws.Record.{record-apart}
 use Rattle.lookup.specs.Finds.{PayloadAt}
-use Rattle.lookup.proofs.Laws.Segment.{extended-at, not-there, header-there, payload-there}
+use Rattle.lookup.proofs.Laws.{extended-at, not-there, header-there, payload-there}
 use borrow.Author.Needs.{needs}
-use Rattle.lookup.proofs.segment.payload_in.Statement.{statement}
-use Rattle.lookup.proofs.segment.payload_in.Tie as tie
+use Rattle.lookup.proofs.payload_in.Statement.{statement}
+use Rattle.lookup.proofs.payload_in.Tie as tie
 
 bytes : (c : tie.After-shared-slice-known) → All Byte (c .before .args .bytes .now)
 bytes c = all-bytes (c .before .args .bytes .now) (λ i. c .shared-slice-known .given i .fits)

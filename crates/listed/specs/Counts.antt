@@ -15,8 +15,8 @@ use Rattle.format.specs.View.{View}
 use Rattle.format.specs.declared.Widths.{Widths}
 use Rattle.format.specs.Record.{Narrow}
 use Rattle.locate.specs.Stands.{ViewAt}
-use Rattle.lookup.specs.Listing.{Listed, listed}
-use Rattle.lookup.specs.declared.listing.Listed as d
+use Rattle.listed.specs.Listing.{Listed, listed}
+use Rattle.listed.specs.declared.Listed as d
 
 -- ---- the pairs in the index block s of so many lines
 

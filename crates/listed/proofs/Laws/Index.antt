@@ -18,7 +18,7 @@ use Rattle.bits.specs.Reads.{found, Reads}
 use Rattle.outcome.specs.Refusals.{badIndex}
 use Rattle.format.specs.Differences.{diffs, diff, tell}
 use Rattle.format.specs.Index.{FitsList, neighbours, Index, up, FitsIndex, index, indexBlock}
-use Rattle.lookup.specs.Counts.{entries}
+use Rattle.listed.specs.Counts.{entries}
 use Rattle.locate.proofs.Laws.Index.{an-index, index-at, width-is}
 use Rattle.locate.proofs.Laws.Lists.{list-bits}
 use Rattle.locate.proofs.Laws.Standing.{stands-behind, stands-within, number-there}

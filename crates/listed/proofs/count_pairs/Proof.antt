@@ -5,12 +5,12 @@ use mathlib.Core.Path.{sym, ap}
 use lib.ListN.{length}
 use Rattle.bits.proofs.Laws.Reads.{at-place}
 use Rattle.outcome.specs.Refusals.{badIndex}
-use Rattle.lookup.specs.Counts.{entries}
+use Rattle.listed.specs.Counts.{entries}
 use Rattle.locate.proofs.Laws.Blocks.{no-index}
-use Rattle.lookup.proofs.Laws.Index.{Counted, counted-none, counted-next, counted-within, count-there, counted-all}
+use Rattle.listed.proofs.Laws.Index.{Counted, counted-none, counted-next, counted-within, count-there, counted-all}
 use borrow.Author.Needs.{needs}
-use Rattle.lookup.proofs.listing.count_pairs.Statement.{statement}
-use Rattle.lookup.proofs.listing.count_pairs.Tie as tie
+use Rattle.listed.proofs.count_pairs.Statement.{statement}
+use Rattle.listed.proofs.count_pairs.Tie as tie
 
 abbrev Inv-loop : tie.InvT-loop
 Inv-loop s lines w at₀ pairs₀ l₀ at pairs l =

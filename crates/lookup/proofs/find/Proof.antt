@@ -4,10 +4,10 @@ use mathlib.Core.Path.{subst}
 use Rattle.judge.specs.Judge.{Judges}
 use Rattle.judge.specs.declared.Verdict.{Verdict}
 use Rattle.judge.specs.declared.Verdict.the-variants.{Accepted}
-use Rattle.lookup.proofs.Laws.Segment.{not-accepted, view-not-there, view-there}
+use Rattle.lookup.proofs.Laws.{not-accepted, view-not-there, view-there}
 use borrow.Author.Needs.{needs}
-use Rattle.lookup.proofs.segment.find.Statement.{statement}
-use Rattle.lookup.proofs.segment.find.Tie as tie
+use Rattle.lookup.proofs.find.Statement.{statement}
+use Rattle.lookup.proofs.find.Tie as tie
 
 accepted : (c : tie.After-views) → Judges (c .before .before .before .before .args .bytes .now) (Accepted (c .views .given .0 .0) (c .views .given .0 .1 .0) (c .views .given .0 .1 .1 .0))
 accepted c = subst (λ (r : Verdict). Judges (c .before .before .before .before .args .bytes .now) r) (c .views .given .1) (c .before .before .judge .ensures)

@@ -1,6 +1,6 @@
 // The numbers of the listing for one view of an accepted record. The judge has accepted the view, so that its parts are counted by the
 // lengths and counts that it states.
-ghost use Rattle.lookup.specs.Counts.{IndexThere, PairsCounted, ListedThere, ListedAt};
+ghost use Rattle.listed.specs.Counts.{IndexThere, PairsCounted, ListedThere, ListedAt};
 use bits::Cursor;
 use format::ViewHeader;
 use format::Widths;

@@ -31,8 +31,8 @@ use Rattle.locate.specs.declared.Passed.{Passed}
 use Rattle.locate.proofs.Laws.Blocks.{cut, cut-long, lines-here, index-here, segments-here, no-index}
 use Rattle.locate.proofs.Laws.Lines.{none-left, lines-counted}
 use Rattle.locate.proofs.Laws.Segments.{segments-none}
-use Rattle.lookup.specs.Listing.{Listed, listed}
-use Rattle.lookup.specs.Counts.{entries, IndexThere, PairsCounted, ListedThere, pairsOf}
+use Rattle.listed.specs.Listing.{Listed, listed}
+use Rattle.listed.specs.Counts.{entries, IndexThere, PairsCounted, ListedThere, pairsOf}
 use Rattle.locate.proofs.Laws.Standing.{stands-behind, number-there}
 use Rattle.locate.proofs.Laws.Index.{an-index}
 

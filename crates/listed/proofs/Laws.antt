@@ -1,0 +1,3 @@
+-- The laws of the listing's numbers, by topic.
+pub mod Index
+pub mod Listing
