@@ -6,77 +6,16 @@ ghost use mathlib.Core.Bool.{true, false, not};
 ghost use Rattle.bits.specs.Choice.{pick};
 ghost use Rattle.outcome.specs.Outcome.{Answers};
 ghost use Rattle.orders.specs.Order.{order};
-ghost use Rattle.rebuild.specs.Rebuilt.{Placed};
-ghost use Rattle.ordering.specs.Orders.{removal, pairOrder, Finds, CarriedOut, PairThere, PairDone};
-use format::Header;
-use judge::Verdict;
-use judge::judge;
+ghost use Rattle.ordering.specs.Orders.{removal, pairOrder, PairThere, PairDone};
+use carry::carry_out;
+use named::Found;
+use named::find;
 use outcome::Answer;
-use rebuild::measure::measure;
-use rebuild::put::put;
+use outcome::refuse;
 use rebuild::site::Site;
-use rebuild::site::site_at;
 use relist::lists::Change;
 use relist::near::are_near;
 use survivors::lines_right;
-
-// Where the view stands that an order names and was made for; or the number of the refusal.
-pub enum Found {
-    Refused(u32),
-    At(Site),
-}
-
-fn refuse(number: u32) -> Answer
-    ensures { λ r. ⌜ r ≡ record { number = number; place = 0; length = 0 } ⌝ }
-{
-    Answer {
-        number,
-        place: 0,
-        length: 0,
-    }
-}
-
-// The view of any bytes: 1 to 12, 13, 14.
-fn find(bytes: &[u8], view: usize, count: usize) -> Found
-    ensures { λ r. ⌜ Finds (now (bytes .entry)) view count r ⌝ }
-{
-    match judge(bytes) {
-        Verdict::Refused(number, _) => Found::Refused(number),
-        Verdict::Accepted(header, views, _) => {
-            if view < views {
-                let scale = header.scale;
-                let site = site_at(bytes, view, scale.widths);
-                if site.lines == count {
-                    Found::At(site)
-                } else {
-                    Found::Refused(14)
-                }
-            } else {
-                Found::Refused(13)
-            }
-        }
-    }
-}
-
-// An order that has passed its own tests: 19, 20, and the new record.
-fn carry_out(bytes: &[u8], site: Site, change: Change, removal: &[u8], out: &mut [u8]) -> Answer
-    requires { ⌜ Placed (now bytes) site change (now removal) ⌝ }
-    ensures { λ r. ⌜ CarriedOut (now (bytes .entry)) site change (now (removal .entry)) (now (out .entry)) (now (out .exit)) r ⌝ }
-{
-    let sizes = measure(bytes, site, change, removal);
-    if Header::MOST_BYTES < sizes.bytes {
-        return refuse(19);
-    }
-    if out.len() < sizes.bytes {
-        return refuse(20);
-    }
-    let length = put(out, bytes, site, change, removal, sizes);
-    Answer {
-        number: 0,
-        place: 0,
-        length,
-    }
-}
 
 // Lines removed: the numbers of `lines`, two bytes each, high byte first. 15, 16 are its own.
 pub fn remove(bytes: &[u8], view: usize, count: usize, lines: &[u8], out: &mut [u8]) -> Answer

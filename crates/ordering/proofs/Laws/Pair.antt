@@ -28,7 +28,8 @@ use Rattle.relist.specs.Near.{NearThere, Near}
 use Rattle.rebuild.specs.Rebuilt.{Means}
 use Rattle.rebuild.specs.declared.site.Site.{Site}
 use Rattle.rebuild.proofs.Laws.Acts.{join-means, part-means}
-use Rattle.ordering.specs.Orders.{pairAct, pairOrder, Sought}
+use Rattle.named.specs.Named.{Sought}
+use Rattle.ordering.specs.Orders.{pairAct, pairOrder}
 use Rattle.ordering.proofs.Laws.View.{own-refused}
 
 -- no line is named

@@ -29,7 +29,9 @@ use Rattle.relist.specs.declared.lists.Change.{Change}
 use Rattle.rebuild.specs.Rebuilt.{Means, Placed}
 use Rattle.rebuild.specs.declared.site.Site.{Site}
 use Rattle.rebuild.proofs.Laws.Acts.{remove-means, keeps}
-use Rattle.ordering.specs.Orders.{removal, Sought, Tested}
+use Rattle.named.specs.Named.{Sought}
+use Rattle.carry.specs.Carried.{Tested}
+use Rattle.ordering.specs.Orders.{removal}
 
 -- ---- segments: an extended length of 0 has none
 

@@ -17,8 +17,8 @@ use Rattle.orders.proofs.Laws.Accept.{verdict-count}
 use Rattle.orders.proofs.Laws.Refuse.{verdict-view, order-refused}
 use Rattle.rebuild.specs.Site.{SiteOf}
 use Rattle.rebuild.specs.declared.site.Site.{Site}
-use Rattle.ordering.specs.Orders.{Finds}
-use Rattle.ordering.specs.declared.Found.the-variants as f
+use Rattle.named.specs.Named.{Finds}
+use Rattle.named.specs.declared.Found.the-variants as f
 
 pub judged : {s : List ℕ} (view n : ℕ) {e p : ℕ} → Judges s (Refused e p) → Finds s view n (f.Refused e)
 unfolding order

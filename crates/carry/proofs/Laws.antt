@@ -28,7 +28,7 @@ use Rattle.rebuild.specs.Rebuilt.{Means, newRecord, Measured, Rebuilt}
 use Rattle.rebuild.specs.declared.site.Site.{Site}
 use Rattle.rebuild.specs.declared.measure.Sizes.{Sizes}
 use Rattle.rebuild.proofs.Laws.Acts.{record-after}
-use Rattle.ordering.specs.Orders.{Tested, CarriedOut}
+use Rattle.carry.specs.Carried.{Tested, CarriedOut}
 
 module _ {s : List ℕ} {x : Site} {ch : Change} {removal : List ℕ} {m : Sizes} (D : Measured s x ch removal m) where
   module _ (o : Order) (r : Record) (e : read s ≡ got r []) (S : SiteOf r s (o .view) x) (T : Tested o r) (M : Means (o .act) (viewAt r (o .view)) removal ch) where

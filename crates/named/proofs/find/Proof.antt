@@ -6,10 +6,10 @@ use Rattle.judge.specs.Judge.{Judges}
 use Rattle.judge.specs.declared.Verdict.{Verdict}
 use Rattle.judge.specs.declared.Verdict.the-variants.{Accepted}
 use Rattle.judge.proofs.Laws.Calls.{record-read}
-use Rattle.ordering.proofs.Laws.Find.{judged, no-view, other-count}
+use Rattle.named.proofs.Laws.{judged, no-view, other-count}
 use borrow.Author.Needs.{needs}
-use Rattle.ordering.proofs.find.Statement.{statement}
-use Rattle.ordering.proofs.find.Tie as tie
+use Rattle.named.proofs.find.Statement.{statement}
+use Rattle.named.proofs.find.Tie as tie
 
 accepted : (c : tie.After-header) → Judges (c .before .before .before .before .args .bytes .now) (Accepted (c .header .given .0 .0) (c .header .given .0 .1 .0) (c .header .given .0 .1 .1 .0))
 accepted c = subst (λ (r : Verdict). Judges (c .before .before .before .before .args .bytes .now) r) (c .header .given .1) (c .before .before .judge .ensures)

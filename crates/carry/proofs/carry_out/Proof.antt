@@ -2,10 +2,10 @@
 use Rattle.bits.specs.Lists.{All}
 use Rattle.bits.specs.Bytes.{Byte}
 use Rattle.bits.proofs.Laws.Place.{all-bytes}
-use Rattle.ordering.proofs.Laws.Carry.{too-long, no-room, carried}
+use Rattle.carry.proofs.Laws.{too-long, no-room, carried}
 use borrow.Author.Needs.{needs}
-use Rattle.ordering.proofs.carry_out.Statement.{statement}
-use Rattle.ordering.proofs.carry_out.Tie as tie
+use Rattle.carry.proofs.carry_out.Statement.{statement}
+use Rattle.carry.proofs.carry_out.Tie as tie
 
 bytes : (c : tie.After-shared-slice-known) → All Byte (c .before .args .bytes .now)
 bytes c = all-bytes (c .before .args .bytes .now) (λ i. c .shared-slice-known .given i .fits)
