@@ -28,7 +28,7 @@ use Rattle.sheet.specs.Sheet.{readSheet, reading, writing}
 use Rattle.sheet.proofs.Laws.Calls as S
 use Rattle.sheet.proofs.Laws.BothWays as B
 use Rattle.sheet.proofs.Laws.Refuses as G
-use Rattle.to_sheet.proofs.Laws.Room as M
+use Rattle.rendered.proofs.Laws.Room as M
 use Rattle.orders.specs.Least.{leastWidth}
 use Rattle.orders.specs.Act.{remove}
 use Rattle.orders.specs.Order.{Order, edited, verdict, order, holds}

@@ -9,7 +9,7 @@ use Rattle.lay.specs.HighFirst.{two, joined}
 use Rattle.format.specs.View.{View}
 use Rattle.format.specs.Record.{Record, size, Allowed, Narrow}
 use Rattle.format.specs.declared.Widths.{Widths}
-use Rattle.to_sheet.specs.Bytes.{viewBytes, recordBytes}
+use Rattle.rendered.specs.Bytes.{viewBytes, recordBytes}
 use Rattle.locate.specs.Stored.{viewOut, recordOut}
 use Rattle.to_record.specs.Views.{RightView}
 

@@ -13,13 +13,13 @@ use Rattle.format.specs.Segments.{Segment, FitsSegment, segments}
 use Rattle.format.specs.View.{View}
 use Rattle.format.specs.declared.Widths.{Widths}
 use Rattle.format.specs.Record.{Narrow}
-use Rattle.to_sheet.specs.Bytes.{viewBytes}
+use Rattle.rendered.specs.Bytes.{viewBytes}
 use Rattle.locate.specs.Stored.{sizedOut, viewOut}
-use Rattle.to_record.specs.Puts.{LinesAt}
-use Rattle.to_record.specs.Lists.{IndexAt}
-use Rattle.to_record.specs.Outs.{SegmentsAt}
-use Rattle.to_record.specs.declared.Done.{Done}
-use Rattle.to_record.specs.declared.line.Lines.{Lines}
+use Rattle.blocks_to_record.specs.Puts.{LinesAt}
+use Rattle.blocks_to_record.specs.Lists.{IndexAt}
+use Rattle.blocks_to_record.specs.Outs.{SegmentsAt}
+use Rattle.blocks_to_record.specs.declared.Done.{Done}
+use Rattle.blocks_to_record.specs.declared.line.Lines.{Lines}
 
 -- ---- the skeleton block: fields 03 from byte a of the sheet s on
 

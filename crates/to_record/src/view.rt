@@ -1,11 +1,11 @@
 // A view of the record, from its fields in the sheet: the header's bytes as they stand, then the three blocks, each behind its length.
 // A block is written first, and its length in front of it when it is known.
 ghost use Rattle.to_record.specs.Views.{SkeletonThere, SkeletonOut, IndexSizedThere, IndexSized, SegmentsSizedThere, SegmentsSized, ViewThere, ViewPut};
-use crate::Done;
-use crate::index::index_out;
-use crate::line::Lines;
-use crate::line::lines_out;
-use crate::segments::segments_out;
+use blocks_to_record::Done;
+use blocks_to_record::index::index_out;
+use blocks_to_record::line::Lines;
+use blocks_to_record::line::lines_out;
+use blocks_to_record::segments::segments_out;
 use format::Widths;
 use lay::copy;
 use lay::put_two;

@@ -11,7 +11,7 @@ use Rattle.format.specs.Record.{Record, read}
 use Rattle.format.specs.SheetSize.{viewSize, sheetSize}
 use Rattle.format.specs.declared.Widths.{Widths}
 use Rattle.lay.specs.HighFirst.{start, joined}
-use Rattle.to_sheet.specs.Bytes.{viewBytes, recordBytes}
+use Rattle.rendered.specs.Bytes.{viewBytes, recordBytes}
 
 -- the 01 field: "record bytes 12-13, then 15 to 21"
 abbrev pub headerField : List ℕ → List ℕ

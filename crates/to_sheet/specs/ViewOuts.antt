@@ -10,7 +10,7 @@ use Rattle.format.specs.View.{View, view}
 use Rattle.format.specs.SheetSize.{lineSize, indexSize, segmentSize, viewSize}
 use Rattle.format.specs.declared.Widths.{Widths}
 use Rattle.lay.specs.HighFirst.{joined}
-use Rattle.to_sheet.specs.Bytes.{lineBytes, indexBytes, segmentBytes, viewBytes}
+use Rattle.rendered.specs.Bytes.{lineBytes, indexBytes, segmentBytes, viewBytes}
 use Rattle.format.specs.Record.{Narrow}
 use Rattle.locate.specs.Stands.{BlocksAt}
 use Rattle.to_sheet.specs.declared.view.ViewOut.{ViewOut}

@@ -2,9 +2,9 @@
 // that each of its blocks is where the lengths say.
 ghost use lib.ListN.{length};
 ghost use Rattle.to_sheet.specs.ViewOuts.{BlocksThere, BlocksOut, ViewThere, ViewWritten};
-use crate::index::index_out;
-use crate::line::lines_out;
-use crate::segments::segments_out;
+use blocks_to_sheet::index::index_out;
+use blocks_to_sheet::line::lines_out;
+use blocks_to_sheet::segments::segments_out;
 use format::Widths;
 use lay::copy;
 use lay::put_three;

@@ -25,8 +25,8 @@ use Rattle.sheet.proofs.Laws.Calls.{writing-is}
 use Rattle.fields.specs.Fields.{Fields, NoFields}
 use Rattle.shape.specs.Shape.{Shape}
 use Rattle.values.specs.Sheet.{ValuesThere, RecordRight, RecordWrong}
-use Rattle.to_sheet.specs.Bytes.{recordBytes}
-use Rattle.to_sheet.proofs.Laws.Rendered.{rendered}
+use Rattle.rendered.specs.Bytes.{recordBytes}
+use Rattle.rendered.proofs.Laws.Rendered.{rendered}
 use Rattle.locate.specs.Stored.{recordOut}
 use Rattle.to_record.specs.Records.{RecordThere, RecordPut}
 use Rattle.locate.proofs.Laws.Written.{stored-long, written}

@@ -19,11 +19,11 @@ use Rattle.format.specs.View.{View, viewHeader, view}
 use Rattle.format.specs.Record.{Record, tellSeen, size, Allowed}
 use Rattle.format.specs.declared.Widths.{Widths}
 use Rattle.format.proofs.Laws.Record.{narrow}
-use Rattle.to_sheet.specs.Bytes.{viewBytes, recordBytes}
+use Rattle.rendered.specs.Bytes.{viewBytes, recordBytes}
 use Rattle.locate.specs.Stored.{viewOut, headerOut, recordOut}
 use Rattle.to_record.specs.Views.{NextView, RightView, ViewPut}
 use Rattle.to_record.specs.Records.{deviceFrom, scaleFrom, ViewsThere, ViewsPut}
-use Rattle.to_record.specs.declared.Done.{Done}
+use Rattle.blocks_to_record.specs.declared.Done.{Done}
 use Rattle.locate.proofs.Laws.Written.{stored-long}
 
 -- ---- the loop over the views: those passed are laid, and the others stand from byte p on

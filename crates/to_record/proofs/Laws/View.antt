@@ -23,18 +23,18 @@ use Rattle.locate.proofs.Laws.InBytes.{in-spelled, spells-all}
 use Rattle.locate.proofs.Laws.Lists.{all-long}
 use Rattle.locate.proofs.Laws.Blocks.{block-long, skeleton-is}
 use Rattle.locate.proofs.Laws.Segments.{segment-spells}
-use Rattle.to_sheet.proofs.Laws.Sizes.{joined-size}
-use Rattle.to_sheet.specs.Bytes.{lineBytes, indexBytes, segmentBytes, viewBytes}
+use Rattle.rendered.proofs.Laws.Sizes.{joined-size}
+use Rattle.rendered.specs.Bytes.{lineBytes, indexBytes, segmentBytes, viewBytes}
 use Rattle.locate.specs.Finds.{segmentStored}
-use Rattle.to_record.specs.Run.{Other, fieldOf, RunAt}
-use Rattle.to_record.specs.Puts.{lineHeld, LinesAt}
-use Rattle.to_record.specs.Outs.{segmentHeld, SegmentsAt}
-use Rattle.to_record.specs.Lists.{IndexAt}
+use Rattle.blocks_to_record.specs.Run.{Other, fieldOf, RunAt}
+use Rattle.blocks_to_record.specs.Puts.{lineHeld, LinesAt}
+use Rattle.blocks_to_record.specs.Outs.{segmentHeld, SegmentsAt}
+use Rattle.blocks_to_record.specs.Lists.{IndexAt}
 use Rattle.to_record.specs.Views.{SkeletonOut, IndexSized, SegmentsSized, NextView, RightView}
 use Rattle.locate.specs.Stored.{headBytes, sizedOut, viewOut}
-use Rattle.to_record.specs.declared.Done.{Done}
-use Rattle.to_record.specs.declared.line.Lines.{Lines}
-use Rattle.to_record.proofs.Laws.Line.{held-long}
+use Rattle.blocks_to_record.specs.declared.Done.{Done}
+use Rattle.blocks_to_record.specs.declared.line.Lines.{Lines}
+use Rattle.blocks_to_record.proofs.Laws.Line.{held-long}
 
 -- ---- a block behind its length
 

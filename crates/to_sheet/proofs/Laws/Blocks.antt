@@ -14,15 +14,15 @@ use Rattle.format.specs.View.{View}
 use Rattle.format.specs.SheetSize.{lineSize, indexSize, segmentSize}
 use Rattle.format.specs.declared.Widths.{Widths}
 use Rattle.lay.specs.HighFirst.{joined}
-use Rattle.to_sheet.specs.Bytes.{lineBytes, indexBytes, segmentBytes}
-use Rattle.to_sheet.specs.LineOuts.{LinesOut}
-use Rattle.to_sheet.specs.BlockOuts.{IndexOut, SegmentsOut}
+use Rattle.rendered.specs.Bytes.{lineBytes, indexBytes, segmentBytes}
+use Rattle.blocks_to_sheet.specs.LineOuts.{LinesOut}
+use Rattle.blocks_to_sheet.specs.BlockOuts.{IndexOut, SegmentsOut}
 use Rattle.locate.specs.Stands.{BlocksAt}
 use Rattle.locate.specs.Finds.{BlocksFound}
 use Rattle.locate.specs.declared.view.Blocks.{Blocks}
 use Rattle.locate.proofs.Laws.Blocks.{cut, few-lines, lines-here, index-here, segments-here, behind-is}
-use Rattle.to_sheet.specs.declared.line.Lines.{Lines}
-use Rattle.to_sheet.proofs.Laws.Sizes.{joined-size, line-size, index-size, segment-size}
+use Rattle.blocks_to_sheet.specs.declared.line.Lines.{Lines}
+use Rattle.rendered.proofs.Laws.Sizes.{joined-size, line-size, index-size, segment-size}
 
 -- ---- what the writers leave
 

@@ -17,12 +17,12 @@ use Rattle.format.specs.SheetSize.{viewSize, sheetSize}
 use Rattle.format.specs.declared.Widths.{Widths}
 use Rattle.format.specs.declared.Header.{Header}
 use Rattle.lay.specs.HighFirst.{start, two}
-use Rattle.to_sheet.specs.Bytes.{headerBytes, viewBytes, recordBytes}
+use Rattle.rendered.specs.Bytes.{headerBytes, viewBytes, recordBytes}
 use Rattle.locate.specs.Stored.{scaleBytes}
 use Rattle.to_sheet.specs.SheetOuts.{headerField, ViewsOut, SheetThere, SheetOut}
 use Rattle.locate.proofs.Laws.InBytes.{spells-two}
 use Rattle.locate.proofs.Laws.Written.{scale-spells}
-use Rattle.to_sheet.proofs.Laws.Sizes.{joined-size, view-size}
+use Rattle.rendered.proofs.Laws.Sizes.{joined-size, view-size}
 use Rattle.locate.proofs.Laws.Record.{behind, record-apart}
 use Rattle.locate.proofs.Laws.Front.{spelled-part}
 

@@ -15,12 +15,12 @@ use Rattle.format.specs.View.{View, headFields, view}
 use Rattle.format.specs.SheetSize.{viewSize}
 use Rattle.format.specs.declared.Widths.{Widths}
 use Rattle.lay.specs.HighFirst.{start}
-use Rattle.to_sheet.specs.Bytes.{viewBytes}
+use Rattle.rendered.specs.Bytes.{viewBytes}
 use Rattle.locate.specs.Stored.{headBytes}
 use Rattle.to_sheet.specs.ViewOuts.{BlocksOut}
 use Rattle.to_sheet.specs.declared.view.ViewOut.{ViewOut}
 use Rattle.locate.proofs.Laws.Written.{head-spells}
-use Rattle.to_sheet.proofs.Laws.Sizes.{view-size}
+use Rattle.rendered.proofs.Laws.Sizes.{view-size}
 use Rattle.locate.specs.Stands.{BlocksAt, ViewAt}
 use Rattle.locate.proofs.Laws.Front.{spelled-part}
 use Rattle.locate.proofs.Laws.View.{view-apart}

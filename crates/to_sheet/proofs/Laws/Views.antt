@@ -11,12 +11,12 @@ use Rattle.format.specs.Record.{Record, read}
 use Rattle.format.specs.SheetSize.{viewSize}
 use Rattle.format.specs.declared.Widths.{Widths}
 use Rattle.locate.proofs.Laws.Views.{ViewsLeft, ViewNext, views-first, views-none}
-use Rattle.to_sheet.specs.Bytes.{viewBytes}
+use Rattle.rendered.specs.Bytes.{viewBytes}
 use Rattle.to_sheet.specs.ViewOuts.{ViewWritten}
 use Rattle.to_sheet.specs.SheetOuts.{ViewsThere, ViewsOut}
 use Rattle.to_sheet.specs.declared.view.ViewOut.{ViewOut}
-use Rattle.to_sheet.proofs.Laws.Sizes.{view-size}
-use Rattle.to_sheet.proofs.Laws.Laying.{Laying, laying-none, laying-room, laying-more, laying-all}
+use Rattle.rendered.proofs.Laws.Sizes.{view-size}
+use Rattle.blocks_to_sheet.proofs.Laws.Laying.{Laying, laying-none, laying-room, laying-more, laying-all}
 
 -- ---- i views are laid; the next starts at byte p
 

@@ -8,7 +8,7 @@ use Rattle.bits.specs.Bytes.{inBytes}
 use Rattle.format.specs.Line.{skeleton}
 use Rattle.format.specs.Index.{indexBlock}
 use Rattle.lay.specs.HighFirst.{joined}
-use Rattle.to_sheet.specs.Bytes.{indexBytes, segmentBytes}
+use Rattle.rendered.specs.Bytes.{indexBytes, segmentBytes}
 use Rattle.locate.proofs.Laws.Written.{view-blocks}
 use Rattle.to_record.proofs.Laws.View.{head-there, lines-at, segments-at, head-laid, lines-laid, index-at, index-laid, segments-laid, view-laid}
 use borrow.Author.Needs.{needs}

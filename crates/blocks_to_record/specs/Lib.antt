@@ -1,0 +1,4 @@
+pub mod Run
+pub mod Puts
+pub mod Lists
+pub mod Outs

@@ -1,0 +1,4 @@
+pub mod LineOuts
+pub mod LineParts
+pub mod BlockOuts
+pub mod ListOuts
