@@ -1,4 +1,2 @@
-pub mod Run
-pub mod Index
 pub mod View
 pub mod Sheet

@@ -6,8 +6,6 @@ use crate::view::view_values;
 use worth::header::HeaderWorth;
 use worth::header::header_value;
 
-mod index; // a view's index
-mod run; // the lines, lists or segments that come one behind the other
 mod view; // a view
 
 // How many views there are, and the bytes of the record; or a value is wrong.

@@ -1,12 +1,12 @@
 // The values of one view: its header, its lines, its index, its segments. Each part stands where the one before has ended; the first
 // that is wrong is the answer.
 ghost use Rattle.format.specs.Record.{Narrow};
-ghost use Rattle.values.specs.Run.{Some};
+ghost use Rattle.block_values.specs.Run.{Some};
 ghost use Rattle.values.specs.View.{ViewThere, ViewIs};
-use crate::index::index_values;
-use crate::run::Counted;
-use crate::run::line_values;
-use crate::run::segment_sizes;
+use block_values::index::index_values;
+use block_values::run::Counted;
+use block_values::run::line_values;
+use block_values::run::segment_sizes;
 use format::Widths;
 use worth::header::HeadWorth;
 use worth::header::head_value;

@@ -21,10 +21,10 @@ use Rattle.fields.specs.Fields.{FieldsAt}
 use Rattle.fields.proofs.Laws.{field-there, its-value, fields-behind}
 use Rattle.shape.specs.Shape.{viewRest}
 use Rattle.shape.proofs.Laws.Views.{view-tests}
-use Rattle.values.specs.Run.{lineBits, segmentBytes, Lines, Segments, RunRight, RunWrong}
-use Rattle.values.specs.Index.{IndexThere, IndexRight, IndexWrong}
+use Rattle.block_values.specs.Run.{lineBits, segmentBytes, Lines, Segments, RunRight, RunWrong}
+use Rattle.block_values.specs.Index.{IndexThere, IndexRight, IndexWrong}
 use Rattle.values.specs.View.{ViewThere, rawIn, ViewRight, ViewWrong}
-use Rattle.values.proofs.Laws.Blocks.{skeleton-bytes, segments-bytes}
+use Rattle.block_values.proofs.Laws.Blocks.{skeleton-bytes, segments-bytes}
 
 -- an 02 at byte p, and the fields behind it
 pub record ViewParts (s : List ℕ) (p : ℕ) (fs : List Field) : Type 0 where

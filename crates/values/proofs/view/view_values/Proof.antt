@@ -14,9 +14,9 @@ use Rattle.sheet.specs.Grammar.{rest, indexRest}
 use Rattle.sheet.specs.Values.{viewHeadValue}
 use Rattle.worth.specs.Worth.{Told, headIs}
 use Rattle.worth.specs.declared.header.HeadWorth.{HeadWorth}
-use Rattle.values.specs.Run.{LinesAre}
-use Rattle.values.specs.Index.{IndexIs}
-use Rattle.values.specs.declared.run.Counted.{Counted}
+use Rattle.block_values.specs.Run.{LinesAre}
+use Rattle.block_values.specs.Index.{IndexIs}
+use Rattle.block_values.specs.declared.run.Counted.{Counted}
 use Rattle.values.proofs.Laws.Head.{head-seen, position-le}
 use Rattle.values.proofs.Laws.View.{ViewParts, view-parts, head-wrong, lines-wrong, index-wrong, view-right}
 use borrow.Author.Needs.{needs}

@@ -19,9 +19,9 @@ use Rattle.sheet.specs.Fields.{Field}
 use Rattle.sheet.specs.Values.{listValue}
 use Rattle.shape.specs.Shape.{starts}
 use Rattle.worth.specs.Worth.{Right, Wrong}
-use Rattle.values.specs.Run.{listLong, listBits, Lists, RunWrong, RunRight, RightAre}
-use Rattle.values.proofs.Laws.Stand.{Held, Next}
-use Rattle.values.proofs.Laws.Run.{Going, going-first, going-all, going-wrong, going-on, its-right, one-more}
+use Rattle.block_values.specs.Run.{listLong, listBits, Lists, RunWrong, RunRight, RightAre}
+use Rattle.block_values.proofs.Laws.Stand.{Held, Next}
+use Rattle.block_values.proofs.Laws.Run.{Going, going-first, going-all, going-wrong, going-on, its-right, one-more}
 
 -- of n neighbours
 differences-few : (w n : ℕ) → w ≤ 16 → n ≤ 32767 → w * n ≤ 524272

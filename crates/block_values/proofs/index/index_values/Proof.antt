@@ -12,13 +12,13 @@ use Rattle.sheet.specs.Values.{widthValue}
 use Rattle.shape.proofs.Laws.Stand.{told, denied}
 use Rattle.worth.specs.Worth.{Told, widthIs}
 use Rattle.worth.specs.declared.list.WidthWorth.{WidthWorth}
-use Rattle.values.specs.Run.{ListsAre}
-use Rattle.values.specs.Index.{IndexThere}
-use Rattle.values.specs.declared.run.Counted.{Counted}
-use Rattle.values.proofs.Laws.Index.{IndexParts, no-index, index-parts, width-most, width-wrong, lists-wrong, index-right}
+use Rattle.block_values.specs.Run.{ListsAre}
+use Rattle.block_values.specs.Index.{IndexThere}
+use Rattle.block_values.specs.declared.run.Counted.{Counted}
+use Rattle.block_values.proofs.Laws.Index.{IndexParts, no-index, index-parts, width-most, width-wrong, lists-wrong, index-right}
 use borrow.Author.Needs.{needs}
-use Rattle.values.proofs.index.index_values.Statement.{statement}
-use Rattle.values.proofs.index.index_values.Tie as tie
+use Rattle.block_values.proofs.index.index_values.Statement.{statement}
+use Rattle.block_values.proofs.index.index_values.Tie as tie
 
 parts : (c : tie.Else1) (fs : List Field) → IndexThere (c .before .before .before .args .s .now) (c .before .before .before .args .p) fs → IndexParts (c .before .before .before .args .s .now) (c .before .before .before .args .p) fs
 parts c fs h = index-parts fs h (told (not-false _ (c .if1 .left)) (c .before .starts .ensures .is fs (h .stand)))

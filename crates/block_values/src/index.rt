@@ -1,6 +1,6 @@
 // The values of a view's index: nothing, or the width and a list for each line. The lists are judged at the width, so it comes first.
-ghost use Rattle.values.specs.Run.{Some};
-ghost use Rattle.values.specs.Index.{IndexThere, IndexIs};
+ghost use Rattle.block_values.specs.Run.{Some};
+ghost use Rattle.block_values.specs.Index.{IndexThere, IndexIs};
 use crate::run::Counted;
 use crate::run::list_values;
 use shape::starts;

@@ -20,9 +20,9 @@ use Rattle.sheet.specs.Fields.{Field}
 use Rattle.sheet.specs.Values.{segmentValue}
 use Rattle.sheet.specs.Sheet.{alike}
 use Rattle.shape.specs.Shape.{starts}
-use Rattle.values.specs.Run.{segmentLong, segmentBytes, Segments, RunRight}
-use Rattle.values.proofs.Laws.Stand.{Next}
-use Rattle.values.proofs.Laws.Run.{Going, going-first, going-all, its-right, going-on}
+use Rattle.block_values.specs.Run.{segmentLong, segmentBytes, Segments, RunRight}
+use Rattle.block_values.proofs.Laws.Stand.{Next}
+use Rattle.block_values.proofs.Laws.Run.{Going, going-first, going-all, its-right, going-on}
 
 -- ---- one segment
 

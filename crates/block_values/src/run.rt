@@ -2,7 +2,7 @@
 // them as long as they come, and counts what they take in a record.
 ghost use Prim.Native.Nat.{_≤_};
 ghost use Rattle.format.specs.Record.{Narrow};
-ghost use Rattle.values.specs.Run.{Some, Lines, LinesAre, Lists, ListsAre, Segments, SegmentsAre};
+ghost use Rattle.block_values.specs.Run.{Some, Lines, LinesAre, Lists, ListsAre, Segments, SegmentsAre};
 use bits::two_at;
 use format::Widths;
 use shape::starts;

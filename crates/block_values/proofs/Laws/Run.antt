@@ -23,8 +23,8 @@ use Rattle.sheet.specs.Grammar.{front, rest}
 use Rattle.sheet.specs.Sheet.{eachDec}
 use Rattle.fields.specs.Fields.{FieldsAt}
 use Rattle.shape.specs.Shape.{starts}
-use Rattle.values.specs.Run.{Run, RunRight, RunWrong}
-use Rattle.values.proofs.Laws.Stand.{Next}
+use Rattle.block_values.specs.Run.{Run, RunRight, RunWrong}
+use Rattle.block_values.proofs.Laws.Stand.{Next}
 
 -- of the fields with tag t that fs starts with, n are passed, and what these take is z; the next one starts at byte p, and j is what
 -- the values so far say

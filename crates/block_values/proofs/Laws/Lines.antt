@@ -22,9 +22,9 @@ use Rattle.sheet.specs.Values.{lineValue}
 use Rattle.sheet.specs.Sheet.{alike}
 use Rattle.shape.specs.Shape.{starts}
 use Rattle.worth.specs.Worth.{Right, Wrong}
-use Rattle.values.specs.Run.{lineLong, lineBits, Lines, RunWrong, RunRight, RightAre}
-use Rattle.values.proofs.Laws.Stand.{Held, Next}
-use Rattle.values.proofs.Laws.Run.{Going, going-first, going-all, going-wrong, going-on, its-right, one-more}
+use Rattle.block_values.specs.Run.{lineLong, lineBits, Lines, RunWrong, RunRight, RightAre}
+use Rattle.block_values.proofs.Laws.Stand.{Held, Next}
+use Rattle.block_values.proofs.Laws.Run.{Going, going-first, going-all, going-wrong, going-on, its-right, one-more}
 
 -- ---- one line
 

@@ -26,9 +26,9 @@ use Rattle.fields.specs.Fields.{FieldsAt}
 use Rattle.fields.proofs.Laws.{field-there, its-value, fields-behind}
 use Rattle.shape.specs.Shape.{starts}
 use Rattle.worth.specs.Worth.{Wrong}
-use Rattle.values.specs.Run.{listLong, listBits, Lists, RunRight, RunWrong}
-use Rattle.values.specs.Index.{IndexThere, IndexRight, IndexWrong}
-use Rattle.values.proofs.Laws.Blocks.{index-bytes, no-index-bytes}
+use Rattle.block_values.specs.Run.{listLong, listBits, Lists, RunRight, RunWrong}
+use Rattle.block_values.specs.Index.{IndexThere, IndexRight, IndexWrong}
+use Rattle.block_values.proofs.Laws.Blocks.{index-bytes, no-index-bytes}
 
 pub no-index : {s : List ℕ} {p : ℕ} (fs : List Field) → FieldsAt s p fs → T (not (starts 4 fs)) → IndexRight s fs p 0
 no-index [] h t = record { behind = h; value = none; reads = refl; all = no-index-bytes }

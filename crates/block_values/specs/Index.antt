@@ -13,9 +13,9 @@ use Rattle.sheet.specs.Fields.{Field}
 use Rattle.sheet.specs.Grammar.{indexIn, indexRest, indexShape}
 use Rattle.sheet.specs.Sheet.{indexFrom}
 use Rattle.fields.specs.Fields.{FieldsAt}
-use Rattle.values.specs.Run.{RightAre}
-use Rattle.values.specs.declared.run.Counted.{Counted}
-use Rattle.values.specs.declared.run.Counted.the-variants as counted
+use Rattle.block_values.specs.Run.{RightAre}
+use Rattle.block_values.specs.declared.run.Counted.{Counted}
+use Rattle.block_values.specs.declared.run.Counted.the-variants as counted
 
 -- the index of a view with so many lines
 pub record IndexThere (s : List ℕ) (p : ℕ) (fs : List Field) : Type 0 where

@@ -5,11 +5,11 @@ use native.Mathlib.Omega.{arith}
 use mathlib.Core.Path.{ap, _∙_}
 use lib.ListN.{length}
 use Rattle.shape.proofs.Laws.Stand.{told, denied}
-use Rattle.values.proofs.Laws.Stand.{three, next-field}
-use Rattle.values.proofs.Laws.Told.{told-right, told-wrong}
-use Rattle.values.proofs.Laws.Lists.{ListsGoing, ListNext, lists-first, list-next, lists-wrong, lists-small, lists-on, lists-all}
-use Rattle.values.proofs.run.list_values.Statement.{statement}
-use Rattle.values.proofs.run.list_values.Tie as tie
+use Rattle.block_values.proofs.Laws.Stand.{three, next-field}
+use Rattle.block_values.proofs.Laws.Told.{told-right, told-wrong}
+use Rattle.block_values.proofs.Laws.Lists.{ListsGoing, ListNext, lists-first, list-next, lists-wrong, lists-small, lists-on, lists-all}
+use Rattle.block_values.proofs.run.list_values.Statement.{statement}
+use Rattle.block_values.proofs.run.list_values.Tie as tie
 
 abbrev Inv-loop : tie.InvT-loop
 Inv-loop s p w next₀ bits₀ l₀ next bits l =

@@ -6,11 +6,11 @@ use mathlib.Core.List.{List}
 use lib.ListN.{length}
 use Rattle.sheet.specs.Fields.{Field}
 use Rattle.shape.proofs.Laws.Stand.{told, denied}
-use Rattle.values.specs.Run.{Segments}
-use Rattle.values.proofs.Laws.Stand.{Next, three, next-field}
-use Rattle.values.proofs.Laws.Segments.{SegmentsGoing, segments-first, segments-next, segments-all}
-use Rattle.values.proofs.run.segment_sizes.Statement.{statement}
-use Rattle.values.proofs.run.segment_sizes.Tie as tie
+use Rattle.block_values.specs.Run.{Segments}
+use Rattle.block_values.proofs.Laws.Stand.{Next, three, next-field}
+use Rattle.block_values.proofs.Laws.Segments.{SegmentsGoing, segments-first, segments-next, segments-all}
+use Rattle.block_values.proofs.run.segment_sizes.Statement.{statement}
+use Rattle.block_values.proofs.run.segment_sizes.Tie as tie
 
 abbrev Inv-loop : tie.InvT-loop
 Inv-loop s p end₀ bytes₀ end bytes =

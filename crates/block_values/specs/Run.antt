@@ -20,9 +20,9 @@ use Rattle.sheet.specs.Grammar.{front, rest}
 use Rattle.sheet.specs.Values.{lineValue, listValue, segmentValue}
 use Rattle.sheet.specs.Sheet.{eachDec, alike}
 use Rattle.fields.specs.Fields.{FieldsAt}
-use Rattle.values.specs.declared.run.Counted.{Counted}
-use Rattle.values.specs.declared.run.Counted.the-variants as counted
-use Rattle.values.specs.declared.run.Extended.{Extended}
+use Rattle.block_values.specs.declared.run.Counted.{Counted}
+use Rattle.block_values.specs.declared.run.Counted.the-variants as counted
+use Rattle.block_values.specs.declared.run.Extended.{Extended}
 
 -- ---- what is asked
 

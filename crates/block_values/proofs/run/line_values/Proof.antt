@@ -4,11 +4,11 @@ use Prim.Native.Nat.{_+_, _-_, _≤_}
 use native.Mathlib.Omega.{arith}
 use lib.ListN.{length}
 use Rattle.shape.proofs.Laws.Stand.{told, denied}
-use Rattle.values.proofs.Laws.Stand.{three, next-field}
-use Rattle.values.proofs.Laws.Told.{told-right, told-wrong}
-use Rattle.values.proofs.Laws.Lines.{LinesGoing, LineNext, lines-first, line-next, lines-wrong, lines-small, lines-on, lines-all}
-use Rattle.values.proofs.run.line_values.Statement.{statement}
-use Rattle.values.proofs.run.line_values.Tie as tie
+use Rattle.block_values.proofs.Laws.Stand.{three, next-field}
+use Rattle.block_values.proofs.Laws.Told.{told-right, told-wrong}
+use Rattle.block_values.proofs.Laws.Lines.{LinesGoing, LineNext, lines-first, line-next, lines-wrong, lines-small, lines-on, lines-all}
+use Rattle.block_values.proofs.run.line_values.Statement.{statement}
+use Rattle.block_values.proofs.run.line_values.Tie as tie
 
 abbrev Inv-loop : tie.InvT-loop
 Inv-loop s p w ends next₀ bits₀ next bits =

@@ -16,7 +16,7 @@ use Rattle.format.specs.Segments.{Segment, segment, segment-length, segments}
 use Rattle.format.specs.declared.Widths.{Widths}
 use Rattle.locate.proofs.Laws.Index.{none-enc, index-long}
 use Rattle.locate.proofs.Laws.Lists.{all-long, along-long, list-bits}
-use Rattle.values.specs.Run.{lineBits, listBits, segmentBytes}
+use Rattle.block_values.specs.Run.{lineBits, listBits, segmentBytes}
 
 -- ---- lines
 
