@@ -4,6 +4,7 @@ ghost use Rattle.rebuild.specs.Rebuilt.{Placed};
 ghost use Rattle.carry.specs.Carried.{CarriedOut};
 use format::Header;
 use outcome::Answer;
+use outcome::accept;
 use outcome::refuse;
 use rebuild::measure::measure;
 use rebuild::put::put;
@@ -23,9 +24,5 @@ pub fn carry_out(bytes: &[u8], site: Site, change: Change, removal: &[u8], out: 
         return refuse(20);
     }
     let length = put(out, bytes, site, change, removal, sizes);
-    Answer {
-        number: 0,
-        place: 0,
-        length,
-    }
+    accept(length)
 }

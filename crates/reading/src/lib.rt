@@ -4,32 +4,22 @@ ghost use Rattle.sheet.specs.Sheet.{reading};
 use judge::Verdict;
 use judge::judge;
 use outcome::Answer;
+use outcome::accept;
+use outcome::refuse;
 use to_sheet::record::sheet_out;
 
 pub fn read(bytes: &[u8], sheet: &mut [u8]) -> Answer
     ensures { λ r. ⌜ Answers (reading (now (bytes .entry))) (now (sheet .entry)) (now (sheet .exit)) r ⌝ }
 {
     match judge(bytes) {
-        Verdict::Refused(number, _) => Answer {
-            number,
-            place: 0,
-            length: 0,
-        },
+        Verdict::Refused(number, _) => refuse(number),
         Verdict::Accepted(header, views, size) => {
             if sheet.len() < size {
-                Answer {
-                    number: 20,
-                    place: 0,
-                    length: 0,
-                }
+                refuse(20)
             } else {
                 let scale = header.scale;
                 let length = sheet_out(sheet, bytes, scale.widths, views);
-                Answer {
-                    number: 0,
-                    place: 0,
-                    length,
-                }
+                accept(length)
             }
         }
     }

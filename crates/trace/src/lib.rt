@@ -17,6 +17,8 @@ use locate::line::pass_lines;
 use locate::view::blocks_at;
 use locate::view::view_at;
 use outcome::Answer;
+use outcome::accept;
+use outcome::refuse;
 
 // The walk along the codes of a line: where they start, how many they are, bits of each, directions in a half turn, the first
 // heading, and how many elements they draw.
@@ -97,18 +99,10 @@ pub fn trail(bytes: &[u8], view: usize, line: usize, out: &mut [u16]) -> Answer
     ensures { λ r. ⌜ Answers (trailing view line (now (bytes .entry))) (now (out .entry)) (now (out .exit)) r ⌝ }
 {
     match find(bytes, view, line) {
-        Sought::Refused(number) => Answer {
-            number,
-            place: 0,
-            length: 0,
-        },
+        Sought::Refused(number) => refuse(number),
         Sought::At(from, to, w) => {
             if out.len() < w.drawn {
-                Answer {
-                    number: 20,
-                    place: 0,
-                    length: 0,
-                }
+                refuse(20)
             } else {
                 let length = trail_numbers(
                     out,
@@ -119,11 +113,7 @@ pub fn trail(bytes: &[u8], view: usize, line: usize, out: &mut [u16]) -> Answer
                     w.half,
                     w.heading,
                 );
-                Answer {
-                    number: 0,
-                    place: 0,
-                    length,
-                }
+                accept(length)
             }
         }
     }
@@ -134,18 +124,10 @@ pub fn trail_as_bytes(bytes: &[u8], view: usize, line: usize, out: &mut [u8]) ->
     ensures { λ r. ⌜ AnswersInBytes (trailing view line (now (bytes .entry))) (now (out .entry)) (now (out .exit)) r ⌝ }
 {
     match find(bytes, view, line) {
-        Sought::Refused(number) => Answer {
-            number,
-            place: 0,
-            length: 0,
-        },
+        Sought::Refused(number) => refuse(number),
         Sought::At(from, to, w) => {
             if out.len() / 2 < w.drawn {
-                Answer {
-                    number: 20,
-                    place: 0,
-                    length: 0,
-                }
+                refuse(20)
             } else {
                 let length = trail_bytes(
                     out,
@@ -156,11 +138,7 @@ pub fn trail_as_bytes(bytes: &[u8], view: usize, line: usize, out: &mut [u8]) ->
                     w.half,
                     w.heading,
                 );
-                Answer {
-                    number: 0,
-                    place: 0,
-                    length,
-                }
+                accept(length)
             }
         }
     }

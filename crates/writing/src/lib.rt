@@ -6,6 +6,8 @@ ghost use Rattle.writing.specs.Judged.{InOrder, SheetIs};
 use fields::whole;
 use format::Header;
 use outcome::Answer;
+use outcome::accept;
+use outcome::refuse;
 use shape::shape;
 use to_record::record::record_out;
 use values::Valued;
@@ -47,25 +49,13 @@ pub fn write(sheet: &[u8], bytes: &mut [u8]) -> Answer
     ensures { λ r. ⌜ Answers (writing (now (sheet .entry))) (now (bytes .entry)) (now (bytes .exit)) r ⌝ }
 {
     match judge_sheet(sheet) {
-        Judged::Refused(number) => Answer {
-            number,
-            place: 0,
-            length: 0,
-        },
+        Judged::Refused(number) => refuse(number),
         Judged::Right(views, size) => {
             if bytes.len() < size {
-                Answer {
-                    number: 20,
-                    place: 0,
-                    length: 0,
-                }
+                refuse(20)
             } else {
                 let length = record_out(bytes, sheet, size, views);
-                Answer {
-                    number: 0,
-                    place: 0,
-                    length,
-                }
+                accept(length)
             }
         }
     }

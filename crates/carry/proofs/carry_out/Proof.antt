@@ -33,12 +33,15 @@ put-requires c κs =
     let p = c .before .before .before .before .before .before .before .before .before .pre in
     record { placed = p; sizes = c .before .before .before .before .before .measure .ensures .is (p .value) (p .view) (p .reads) (p .at); small = c .before .before .before .if1 .left; room = c .before .if2 .left }
 
+accept-requires : tie.Need-accept-requires
+accept-requires c κs = search needs
+
 same-length : tie.Need-same-length
 same-length c = search needs
 
 returns-3 : tie.Need-returns-3
 returns-3 c =
-    carried (c .before .before .before .before .before .before .before .before .measure .ensures) (bytes (c .before .before .before .before .before .before .before .before .before .before .before)) (c .before .before .before .before .before .before .if1 .left) (c .before .before .before .before .if2 .left) (c .before .before .put .ensures)
+    rw (c .accept .ensures) (carried (c .before .before .before .before .before .before .before .before .before .measure .ensures) (bytes (c .before .before .before .before .before .before .before .before .before .before .before .before)) (c .before .before .before .before .before .before .before .if1 .left) (c .before .before .before .before .before .if2 .left) (c .before .before .before .put .ensures))
 
 pub carry-out-spec : {M : Type 1} → statement M
 carry-out-spec =
@@ -50,5 +53,6 @@ carry-out-spec =
     refuse-requires-2
     returns-2
     put-requires
+    accept-requires
     same-length
     returns-3)

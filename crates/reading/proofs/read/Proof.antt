@@ -18,27 +18,36 @@ judge-requires c κs = search needs
 enum-known-number : tie.Need-enum-known-number
 enum-known-number c = search needs
 
+refuse-requires : tie.Need-refuse-requires
+refuse-requires c κs = search needs
+
 enum-known-header : tie.Need-enum-known-header
 enum-known-header c = search needs
+
+refuse-requires-2 : tie.Need-refuse-requires-2
+refuse-requires-2 c κs = search needs
 
 sheet-out-requires : tie.Need-sheet-out-requires
 sheet-out-requires c κs =
     there (c .before .before .before .before .before .before .before .before .before .args .bytes .now) (c .before .before .before .before .before .before .before .before .before .args .sheet .now) (accepted (c .before .before .before .before)) (omega (arith, c .before .before .if1 .left))
 
+accept-requires : tie.Need-accept-requires
+accept-requires c κs = search needs
+
 returns : tie.Need-returns
 returns c =
-    refuses (c .before .before .before .before .before .before .args .bytes .now) (c .before .before .before .before .before .before .args .sheet .now) (subst (λ (r : Verdict). Judges (c .before .before .before .before .before .before .args .bytes .now) r) (c .before .number .given .1) (c .before .before .before .judge .ensures))
+    rw (c .refuse .ensures) (refuses (c .before .before .before .before .before .before .before .args .bytes .now) (c .before .before .before .before .before .before .before .args .sheet .now) (subst (λ (r : Verdict). Judges (c .before .before .before .before .before .before .before .args .bytes .now) r) (c .before .before .number .given .1) (c .before .before .before .before .judge .ensures)))
 
 returns-2 : tie.Need-returns-2
 returns-2 c =
-    no-room (c .before .before .before .before .before .before .before .args .bytes .now) (c .before .before .before .before .before .before .before .args .sheet .now) (accepted (c .before .before)) (omega (arith, c .if1 .taken))
+    rw (c .refuse2 .ensures) (no-room (c .before .before .before .before .before .before .before .before .args .bytes .now) (c .before .before .before .before .before .before .before .before .args .sheet .now) (accepted (c .before .before .before)) (omega (arith, c .before .if1 .taken)))
 
 same-length : tie.Need-same-length
 same-length c = search needs
 
 returns-3 : tie.Need-returns-3
 returns-3 c =
-    written (c .before .before .before .before .before .before .before .before .before .before .before .before .args .bytes .now) (c .before .before .before .before .before .before .before .before .before .before .before .before .args .sheet .now) (accepted (c .before .before .before .before .before .before .before)) (omega (arith, c .before .before .before .before .before .if1 .left)) (c .before .before .sheet-out .ensures)
+    rw (c .accept .ensures) (written (c .before .before .before .before .before .before .before .before .before .before .before .before .before .args .bytes .now) (c .before .before .before .before .before .before .before .before .before .before .before .before .before .args .sheet .now) (accepted (c .before .before .before .before .before .before .before .before)) (omega (arith, c .before .before .before .before .before .before .if1 .left)) (c .before .before .before .sheet-out .ensures))
 
 pub read-spec : {M : Type 1} → statement M
 read-spec =
@@ -46,8 +55,11 @@ read-spec =
     (tie.spec
     judge-requires
     enum-known-number
+    refuse-requires
     enum-known-header
+    refuse-requires-2
     sheet-out-requires
+    accept-requires
     returns
     returns-2
     same-length

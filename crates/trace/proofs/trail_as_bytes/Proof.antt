@@ -21,8 +21,14 @@ find-requires c κs = search needs
 enum-known-number : tie.Need-enum-known-number
 enum-known-number c = search needs
 
+refuse-requires : tie.Need-refuse-requires
+refuse-requires c κs = search needs
+
 enum-known-from : tie.Need-enum-known-from
 enum-known-from c = search needs
+
+refuse-requires-2 : tie.Need-refuse-requires-2
+refuse-requires-2 c κs = search needs
 
 sub-trail-bytes : tie.Need-sub-trail-bytes
 sub-trail-bytes c =
@@ -40,21 +46,24 @@ trail-bytes-requires : tie.Need-trail-bytes-requires
 trail-bytes-requires c κs =
     can-draw (joined two) 2 (λ n m e. omega arith) twos-length (draws (c .before .before .before .before .before)) (c .before .before .before .before .before .before .before .before .before .before .args .out .now) (omega (arith, c .before .before .if1 .left))
 
+accept-requires : tie.Need-accept-requires
+accept-requires c κs = search needs
+
 returns : tie.Need-returns
 returns c =
-    let (p, e) = subst (λ (r : Sought). Finds (c .before .before .before .before .before .before .args .bytes .now) (trailing (c .before .before .before .before .before .before .args .view) (c .before .before .before .before .before .before .args .line) (c .before .before .before .before .before .before .args .bytes .now)) r) (c .before .number .given .1) (c .before .before .before .find .ensures) in
-    answer-refused (joined two) _ (c .before .before .before .before .before .before .args .out .now) e
+    rw (c .refuse .ensures) (let (p, e) = subst (λ (r : Sought). Finds (c .before .before .before .before .before .before .before .args .bytes .now) (trailing (c .before .before .before .before .before .before .before .args .view) (c .before .before .before .before .before .before .before .args .line) (c .before .before .before .before .before .before .before .args .bytes .now)) r) (c .before .before .number .given .1) (c .before .before .before .before .find .ensures) in
+    answer-refused (joined two) _ (c .before .before .before .before .before .before .before .args .out .now) e)
 
 returns-2 : tie.Need-returns-2
 returns-2 c =
-    full (joined two) 2 (λ n m e. omega arith) twos-length (draws (c .before .before .before)) (c .before .before .before .before .before .before .before .before .args .out .now) (c .if1 .taken)
+    rw (c .refuse2 .ensures) (full (joined two) 2 (λ n m e. omega arith) twos-length (draws (c .before .before .before .before)) (c .before .before .before .before .before .before .before .before .before .args .out .now) (c .before .if1 .taken))
 
 same-length : tie.Need-same-length
 same-length c = search needs
 
 returns-3 : tie.Need-returns-3
 returns-3 c =
-    given-out (joined two) 2 (λ n m e. omega arith) twos-length (draws (c .before .before .before .before .before .before .before .before)) (c .before .before .before .before .before .before .before .before .before .before .before .before .before .args .out .now) (c .before .before .before .before .before .if1 .left) (omega arith) (c .before .before .trail-bytes .ensures)
+    rw (c .accept .ensures) (given-out (joined two) 2 (λ n m e. omega arith) twos-length (draws (c .before .before .before .before .before .before .before .before .before)) (c .before .before .before .before .before .before .before .before .before .before .before .before .before .before .args .out .now) (c .before .before .before .before .before .before .if1 .left) (omega arith) (c .before .before .before .trail-bytes .ensures))
 
 pub trail-as-bytes-spec : {M : Type 1} → statement M
 trail-as-bytes-spec =
@@ -62,11 +71,14 @@ trail-as-bytes-spec =
     (tie.spec
     find-requires
     enum-known-number
+    refuse-requires
     enum-known-from
+    refuse-requires-2
     sub-trail-bytes
     part-trail-bytes-start
     part-trail-bytes-end
     trail-bytes-requires
+    accept-requires
     returns
     returns-2
     same-length

@@ -23,27 +23,36 @@ judge-sheet-requires c κs = search needs
 enum-known-number : tie.Need-enum-known-number
 enum-known-number c = search needs
 
+refuse-requires : tie.Need-refuse-requires
+refuse-requires c κs = search needs
+
 enum-known-views : tie.Need-enum-known-views
 enum-known-views c = search needs
+
+refuse-requires-2 : tie.Need-refuse-requires-2
+refuse-requires-2 c κs = search needs
 
 record-out-requires : tie.Need-record-out-requires
 record-out-requires c κs =
     record-there (c .before .before .before .before .before .before .before .before .args .sheet .now) (c .before .before .before .before .before .before .before .before .args .bytes .now) (sheet-bytes (c .before .before .before .before .before .before .before)) (right (c .before .before .before)) (omega (arith, c .before .if1 .left))
 
+accept-requires : tie.Need-accept-requires
+accept-requires c κs = search needs
+
 returns : tie.Need-returns
 returns c =
-    refuses (c .before .before .before .before .before .before .args .sheet .now) (c .before .before .before .before .before .before .args .bytes .now) (subst (λ (r : Judged). SheetIs (c .before .before .before .before .before .before .args .sheet .now) r) (c .before .number .given .1) (c .before .before .before .judge-sheet .ensures))
+    rw (c .refuse .ensures) (refuses (c .before .before .before .before .before .before .before .args .sheet .now) (c .before .before .before .before .before .before .before .args .bytes .now) (subst (λ (r : Judged). SheetIs (c .before .before .before .before .before .before .before .args .sheet .now) r) (c .before .before .number .given .1) (c .before .before .before .before .judge-sheet .ensures)))
 
 returns-2 : tie.Need-returns-2
 returns-2 c =
-    no-room (c .before .before .before .before .before .before .before .args .sheet .now) (c .before .before .before .before .before .before .before .args .bytes .now) (sheet-bytes (c .before .before .before .before .before .before)) (right (c .before .before)) (omega (arith, c .if1 .taken))
+    rw (c .refuse2 .ensures) (no-room (c .before .before .before .before .before .before .before .before .args .sheet .now) (c .before .before .before .before .before .before .before .before .args .bytes .now) (sheet-bytes (c .before .before .before .before .before .before .before)) (right (c .before .before .before)) (omega (arith, c .before .if1 .taken)))
 
 same-length : tie.Need-same-length
 same-length c = search needs
 
 returns-3 : tie.Need-returns-3
 returns-3 c =
-    laid (c .before .before .before .before .before .before .before .before .before .before .before .args .sheet .now) (c .before .before .before .before .before .before .before .before .before .before .before .args .bytes .now) (sheet-bytes (c .before .before .before .before .before .before .before .before .before .before)) (right (c .before .before .before .before .before .before)) (omega (arith, c .before .before .before .before .if1 .left)) (c .before .before .record-out .ensures)
+    rw (c .accept .ensures) (laid (c .before .before .before .before .before .before .before .before .before .before .before .before .args .sheet .now) (c .before .before .before .before .before .before .before .before .before .before .before .before .args .bytes .now) (sheet-bytes (c .before .before .before .before .before .before .before .before .before .before .before)) (right (c .before .before .before .before .before .before .before)) (omega (arith, c .before .before .before .before .before .if1 .left)) (c .before .before .before .record-out .ensures))
 
 pub write-spec : {M : Type 1} → statement M
 write-spec =
@@ -51,8 +60,11 @@ write-spec =
     (tie.spec
     judge-sheet-requires
     enum-known-number
+    refuse-requires
     enum-known-views
+    refuse-requires-2
     record-out-requires
+    accept-requires
     returns
     returns-2
     same-length
