@@ -2,6 +2,7 @@
 from its answers, names that are not used. They need no rt and take no time; that the loop fits the toolchain shows in
 every proof made with it.
 """
+import os
 import sys
 import tempfile
 import unittest
@@ -10,7 +11,7 @@ from pathlib import Path
 sys.dont_write_bytecode = True
 sys.path.insert(0, str(Path(__file__).resolve().parent))
 
-from proofloop import alike, answers, names, said, skeleton, tidy
+from proofloop import alike, answers, names, said, skeleton, tidy, times
 from proofloop.places import Places
 from proofloop.tree import Stop, Tree
 
@@ -258,6 +259,21 @@ class LawsThatEndAlike(unittest.TestCase):
         one, other = "a : (n m : ℕ) → n < m → length n ≤ size m\n", "module _ {k : ℕ} where\n  b : (i : ℕ) → length k ≤ size i\n"
         self.assertEqual(alike.found([("F", one), ("G", other)]), [("length x0 ≤ size x1", [("F", 1, "a"), ("G", 2, "b")])])
         self.assertEqual(alike.found([("F", one + "c : (n m : ℕ) → length n ≤ size m\n"), ("G", "b : (i : ℕ) → length i ≤ size i\n")]), [])
+
+
+class Times(unittest.TestCase):
+    def test_the_time_between_two_files_is_the_later_ones(self):
+        with tempfile.TemporaryDirectory() as folder:
+            for name, second in (("a.oantt", 10), ("b.Lts.oantt", 13), ("c.Proof.oantt", 14), ("records/d.oantt", 99)):
+                path = Path(folder, "build", name)
+                path.parent.mkdir(parents=True, exist_ok=True)
+                path.touch()
+                os.utime(path, (second, second))
+            self.assertEqual(times.modules(Path(folder)), [(3.0, "b.Lts"), (1.0, "c.Proof")])
+
+    def test_a_folder_that_is_not_there_has_none(self):
+        with tempfile.TemporaryDirectory() as folder:
+            self.assertEqual(times.modules(Path(folder, "none")), [])
 
 
 if __name__ == "__main__":

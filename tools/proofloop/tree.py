@@ -2,6 +2,7 @@
 from the toolchain goes through here, so that every path and every call of rt has one place.
 """
 import os
+import shutil
 import subprocess
 from pathlib import Path
 
@@ -39,6 +40,15 @@ class Tree:
     def kept(self, *parts):
         """A file of the loop's own; target/ is never committed."""
         return self.top.joinpath("target", "proof", *parts)
+
+    def incremental(self, crate):
+        """Where `rt dev` keeps what it has checked of a crate."""
+        self.crate(crate)
+        return self.top / "target" / "inc" / crate
+
+    def clear(self, crate):
+        """Has the next `rt dev` of a crate check it from nothing."""
+        shutil.rmtree(self.incremental(crate), ignore_errors=True)
 
     def short(self, path):
         return str(Path(path).relative_to(self.top))
