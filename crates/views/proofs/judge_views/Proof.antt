@@ -88,15 +88,15 @@ bad-view c e q l z =
     views-stop (c .before .before .before .before .before .before .before .before .before .before .args .w) (c .before .before .before .before .before .before .before .before .before .before .args .count) (c .before .before .before .before .before .before .before .before .before .before .args .s .now) (c .before .before .before .before .before .before .before .before .views .v) (c .before .before .before .before .before .before .before .before .views .size) (c .before .before .before .before .before .before .before .before .views .inv .4 .0) (c .before .before .before .before .before .before .before .before .views .a) (c .before .before .before .before .before .before .before .before .views .inv .4 .1 .2) (omega (arith, c .before .before .before .before .before .before .before .views-test .taken)) (skeleton-bad (c .before .before .before .before .before .before .before .before .before .before .args .w) (c .before .before .before .before .before .before .before .before .views .inv .4 .0) (c .before .before .before .before .before .before .before .before .before .before .args .s .now) (c .before .before .before .before .before .before .before .before .views .a) (c .before .before .before .h .given .0 .0) (c .before .before .before .h .given .0 .1 .0) (head (c .before .before .before)) (fits c) (omega (arith, long c)) z1)
 
 -- a line that does not fit is the answer
-bad-line : (c : tie.Else3 Inv-loop2 μ-loop2 Inv-loop μ-loop Inv-views μ-views) → Reads (line (c .before .before .before .before .before .before .before .before .before .before .before .before .before .before .before .args .w) .dec) (blk (c .before .before .before .before .before)) (c .before .before .before .loop .p .at) (fault 8 (c .before .before .before .loop .p .at)) → Reads (viewsDec (c .before .before .before .before .before .before .before .before .before .before .before .before .before .before .before .args .w) (c .before .before .before .before .before .before .before .before .before .before .before .before .before .before .before .args .count)) (c .before .before .before .before .before .before .before .before .before .before .before .before .before .before .before .args .s .now) 192 (fault 8 (8 * ((c .before .before .before .before .before .before .before .before .before .before .before .before .before .views .a) + 10) + c .before .before .before .loop .p .at))
+bad-line : (c : tie.Else3 Inv-loop2 μ-loop2 Inv-loop μ-loop Inv-views μ-views) → Reads (line (c .before .before .before .before .before .before .before .before .before .before .before .before .before .before .before .before .args .w) .dec) (blk (c .before .before .before .before .before .before)) (c .before .before .before .before .loop .p .at) (fault 8 (c .before .before .before .before .loop .p .at)) → Reads (viewsDec (c .before .before .before .before .before .before .before .before .before .before .before .before .before .before .before .before .args .w) (c .before .before .before .before .before .before .before .before .before .before .before .before .before .before .before .before .args .count)) (c .before .before .before .before .before .before .before .before .before .before .before .before .before .before .before .before .args .s .now) 192 (fault 8 (8 * ((c .before .before .before .before .before .before .before .before .before .before .before .before .before .before .views .a) + 10) + c .before .before .before .before .loop .p .at))
 bad-line c r =
-    bad-view (c .before .before .before .before .before) 8 (c .before .before .before .loop .p .at) (c .before .before .before .loop .inv .1)
-    (lines-stop (c .before .before .before .before .before .before .before .before .before .before .before .before .before .before .before .args .w) (blk (c .before .before .before .before .before)) (c .before .before .before .loop .n) (c .before .before .before .loop .lines) (c .before .before .before .loop .p .at) (c .before .before .before .loop .inv .4) (omega (arith, c .before .before .before .loop .inv .0, c .if3 .left)) (omega (arith, c .before .if2 .taken)) r)
+    bad-view (c .before .before .before .before .before .before) 8 (c .before .before .before .before .loop .p .at) (c .before .before .before .before .loop .inv .1)
+    (lines-stop (c .before .before .before .before .before .before .before .before .before .before .before .before .before .before .before .before .args .w) (blk (c .before .before .before .before .before .before)) (c .before .before .before .before .loop .n) (c .before .before .before .before .loop .lines) (c .before .before .before .before .loop .p .at) (c .before .before .before .before .loop .inv .4) (omega (arith, c .before .before .before .before .loop .inv .0, c .if3 .left)) (omega (arith, c .before .before .if2 .taken)) r)
 
-start-of : (c : tie.After-p1 Inv-loop2 μ-loop2 Inv-loop μ-loop Inv-views μ-views) → Reads (endDec (c .before .before .before .before .before .before .before .before .before .before .before .before .before .before .before .before .before .before .args .w)) (blk (c .before .before .before .before .before .before .before .before)) (c .before .before .before .before .before .before .loop .p .at) (found (c .p1 .given .0 .0) (c .p1 .given .0 .1 .0 .at))
+start-of : (c : tie.After-p1 Inv-loop2 μ-loop2 Inv-loop μ-loop Inv-views μ-views) → Reads (endDec (c .before .before .before .before .before .before .before .before .before .before .before .before .before .before .before .before .before .before .before .args .w)) (blk (c .before .before .before .before .before .before .before .before .before)) (c .before .before .before .before .before .before .before .loop .p .at) (found (c .p1 .given .0 .0) (c .p1 .given .0 .1 .0 .at))
 start-of c = known (ap ended (c .p1 .given .1)) (c .before .before .end-at .ensures)
 
-count-of : (c : tie.After-codes Inv-loop2 μ-loop2 Inv-loop μ-loop Inv-views μ-views) → Reads (fieldDec badLine 8) (blk (c .before .before .before .before .before .before .before .before .before .before .before .before)) (c .before .before .before .before .p1 .given .0 .1 .0 .at) (found (c .codes .given .0 .0) (c .codes .given .0 .1 .0 .at))
+count-of : (c : tie.After-codes Inv-loop2 μ-loop2 Inv-loop μ-loop Inv-views μ-views) → Reads (fieldDec badLine 8) (blk (c .before .before .before .before .before .before .before .before .before .before .before .before .before)) (c .before .before .before .before .p1 .given .0 .1 .0 .at) (found (c .codes .given .0 .0) (c .codes .given .0 .1 .0 .at))
 count-of c = known (ap (taken badLine) (c .codes .given .1)) (c .before .before .field .ensures badLine)
 
 -- the lines are read
@@ -137,24 +137,24 @@ left c =
     known (ap (exit (k .before .before .before .before .before .before .before .views .a) (k .before .before .before .before .before .before .before .views .size)) (sym (x .7))) (views-stop (k .before .before .before .before .before .before .before .before .before .args .w) (k .before .before .before .before .before .before .before .before .before .args .count) (k .before .before .before .before .before .before .before .before .before .args .s .now) (k .before .before .before .before .before .before .before .views .v) (k .before .before .before .before .before .before .before .views .size) (k .before .before .before .before .before .before .before .views .inv .4 .0) (k .before .before .before .before .before .before .before .views .a) (k .before .before .before .before .before .before .before .views .inv .4 .1 .2) (omega (arith, k .before .before .before .before .before .before .views-test .taken)) (skeleton-past (k .before .before .before .before .before .before .before .before .before .args .w) (k .before .before .before .before .before .before .before .views .inv .4 .0) (k .before .before .before .before .before .before .before .before .before .args .s .now) (k .before .before .before .before .before .before .before .views .a) (k .before .before .h .given .0 .0) (k .before .before .h .given .0 .1 .0) (head (k .before .before)) (omega (arith, head (k .before .before) .within)) (k .if1 .taken))))
     (⊎-elim
     (λ x.
-    let k : tie.Then3 Inv-loop2 μ-loop2 Inv-loop μ-loop Inv-views μ-views = record { before = record { before = record { before = record { before = record { before = record { before = record { before = record { before = record { before = record { before = record { before = record { before = record { before = c .before; views-test = x .0 }; seen = x .1 }; head-at = x .2 }; match = x .3 }; h = x .4 }; known-told = x .5 }; if1 = x .6 }; block = x .7 }; start = x .8 }; loop = x .9 }; struct-known = x .10 }; if2 = x .11 }; if3 = x .12 } in
-    known (ap (exit (k .before .before .before .before .before .before .before .before .before .before .before .before .before .views .a) (k .before .before .before .before .before .before .before .before .before .before .before .before .before .views .size)) (sym (x .13))) (bad-view (k .before .before .before .before .before) 9 (k .before .before .before .loop .p .at) (k .before .before .before .loop .inv .1) (lines-over (k .before .before .before .before .before .before .before .before .before .before .before .before .before .before .before .args .w) (blk (k .before .before .before .before .before)) (k .before .before .before .loop .n) (k .before .before .before .loop .lines) (k .before .before .before .loop .p .at) (k .before .before .before .loop .inv .4) (k .if3 .taken) (omega (arith, k .before .if2 .taken)))))
+    let k : tie.Then3 Inv-loop2 μ-loop2 Inv-loop μ-loop Inv-views μ-views = record { before = record { before = record { before = record { before = record { before = record { before = record { before = record { before = record { before = record { before = record { before = record { before = record { before = record { before = c .before; views-test = x .0 }; seen = x .1 }; head-at = x .2 }; match = x .3 }; h = x .4 }; known-told = x .5 }; if1 = x .6 }; block = x .7 }; start = x .8 }; loop = x .9 }; struct-known = x .10 }; if2 = x .11 }; struct-known2 = x .12 }; if3 = x .13 } in
+    known (ap (exit (k .before .before .before .before .before .before .before .before .before .before .before .before .before .before .views .a) (k .before .before .before .before .before .before .before .before .before .before .before .before .before .before .views .size)) (sym (x .14))) (bad-view (k .before .before .before .before .before .before) 9 (k .before .before .before .before .loop .p .at) (k .before .before .before .before .loop .inv .1) (lines-over (k .before .before .before .before .before .before .before .before .before .before .before .before .before .before .before .before .args .w) (blk (k .before .before .before .before .before .before)) (k .before .before .before .before .loop .n) (k .before .before .before .before .loop .lines) (k .before .before .before .before .loop .p .at) (k .before .before .before .before .loop .inv .4) (k .if3 .taken) (omega (arith, k .before .before .if2 .taken)))))
     (⊎-elim
     (λ x.
-    let k : tie.After-enum-told Inv-loop2 μ-loop2 Inv-loop μ-loop Inv-views μ-views = record { before = record { before = record { before = record { before = record { before = record { before = record { before = record { before = record { before = record { before = record { before = record { before = record { before = record { before = record { before = record { before = c .before; views-test = x .0 }; seen = x .1 }; head-at = x .2 }; match = x .3 }; h = x .4 }; known-told = x .5 }; if1 = x .6 }; block = x .7 }; start = x .8 }; loop = x .9 }; struct-known = x .10 }; if2 = x .11 }; if3 = x .12 }; end-at = x .13 }; match2 = x .14 }; enum-told = x .15 } in
-    known (ap (exit (k .before .before .before .before .before .before .before .before .before .before .before .before .before .before .before .before .views .a) (k .before .before .before .before .before .before .before .before .before .before .before .before .before .before .before .before .views .size)) (sym (x .16))) (bad-line (k .before .before .before) (no-start (k .before .before .before .before .before .before .before .before .before .before .before .before .before .before .before .before .before .before .args .w) (blk (k .before .before .before .before .before .before .before .before)) (k .before .before .before .before .before .before .loop .p .at) (k .before .before .before .before .before .before .loop .inv .1) (known (ap ended (k .enum-told .given .1)) (k .before .before .end-at .ensures)))))
+    let k : tie.After-enum-told Inv-loop2 μ-loop2 Inv-loop μ-loop Inv-views μ-views = record { before = record { before = record { before = record { before = record { before = record { before = record { before = record { before = record { before = record { before = record { before = record { before = record { before = record { before = record { before = record { before = record { before = c .before; views-test = x .0 }; seen = x .1 }; head-at = x .2 }; match = x .3 }; h = x .4 }; known-told = x .5 }; if1 = x .6 }; block = x .7 }; start = x .8 }; loop = x .9 }; struct-known = x .10 }; if2 = x .11 }; struct-known2 = x .12 }; if3 = x .13 }; end-at = x .14 }; match2 = x .15 }; enum-told = x .16 } in
+    known (ap (exit (k .before .before .before .before .before .before .before .before .before .before .before .before .before .before .before .before .before .views .a) (k .before .before .before .before .before .before .before .before .before .before .before .before .before .before .before .before .before .views .size)) (sym (x .17))) (bad-line (k .before .before .before) (no-start (k .before .before .before .before .before .before .before .before .before .before .before .before .before .before .before .before .before .before .before .args .w) (blk (k .before .before .before .before .before .before .before .before .before)) (k .before .before .before .before .before .before .before .loop .p .at) (k .before .before .before .before .before .before .before .loop .inv .1) (known (ap ended (k .enum-told .given .1)) (k .before .before .end-at .ensures)))))
     (⊎-elim
     (λ x.
-    let k : tie.After-enum-told2 Inv-loop2 μ-loop2 Inv-loop μ-loop Inv-views μ-views = record { before = record { before = record { before = record { before = record { before = record { before = record { before = record { before = record { before = record { before = record { before = record { before = record { before = record { before = record { before = record { before = record { before = record { before = record { before = record { before = c .before; views-test = x .0 }; seen = x .1 }; head-at = x .2 }; match = x .3 }; h = x .4 }; known-told = x .5 }; if1 = x .6 }; block = x .7 }; start = x .8 }; loop = x .9 }; struct-known = x .10 }; if2 = x .11 }; if3 = x .12 }; end-at = x .13 }; match2 = x .14 }; p1 = x .15 }; known-told3 = x .16 }; field = x .17 }; match3 = x .18 }; enum-told2 = x .19 } in
-    known (ap (exit (k .before .before .before .before .before .before .before .before .before .before .before .before .before .before .before .before .before .before .before .before .views .a) (k .before .before .before .before .before .before .before .before .before .before .before .before .before .before .before .before .before .before .before .before .views .size)) (sym (x .20))) (bad-line (k .before .before .before .before .before .before .before) (no-count (k .before .before .before .before .before .before .before .before .before .before .before .before .before .before .before .before .before .before .before .before .before .before .args .w) (blk (k .before .before .before .before .before .before .before .before .before .before .before .before)) (k .before .before .before .before .before .before .before .before .before .before .loop .p .at) (k .before .before .before .before .before .before .before .before .before .before .loop .inv .1) (start-of (k .before .before .before .before)) (known (ap (taken badLine) (k .enum-told2 .given .1)) (k .before .before .field .ensures badLine)))))
+    let k : tie.After-enum-told2 Inv-loop2 μ-loop2 Inv-loop μ-loop Inv-views μ-views = record { before = record { before = record { before = record { before = record { before = record { before = record { before = record { before = record { before = record { before = record { before = record { before = record { before = record { before = record { before = record { before = record { before = record { before = record { before = record { before = record { before = c .before; views-test = x .0 }; seen = x .1 }; head-at = x .2 }; match = x .3 }; h = x .4 }; known-told = x .5 }; if1 = x .6 }; block = x .7 }; start = x .8 }; loop = x .9 }; struct-known = x .10 }; if2 = x .11 }; struct-known2 = x .12 }; if3 = x .13 }; end-at = x .14 }; match2 = x .15 }; p1 = x .16 }; known-told3 = x .17 }; field = x .18 }; match3 = x .19 }; enum-told2 = x .20 } in
+    known (ap (exit (k .before .before .before .before .before .before .before .before .before .before .before .before .before .before .before .before .before .before .before .before .before .views .a) (k .before .before .before .before .before .before .before .before .before .before .before .before .before .before .before .before .before .before .before .before .before .views .size)) (sym (x .21))) (bad-line (k .before .before .before .before .before .before .before) (no-count (k .before .before .before .before .before .before .before .before .before .before .before .before .before .before .before .before .before .before .before .before .before .before .before .args .w) (blk (k .before .before .before .before .before .before .before .before .before .before .before .before .before)) (k .before .before .before .before .before .before .before .before .before .before .before .loop .p .at) (k .before .before .before .before .before .before .before .before .before .before .before .loop .inv .1) (start-of (k .before .before .before .before)) (known (ap (taken badLine) (k .enum-told2 .given .1)) (k .before .before .field .ensures badLine)))))
     (⊎-elim
     (λ x.
-    let k : tie.After-enum-told3 Inv-loop2 μ-loop2 Inv-loop μ-loop Inv-views μ-views = record { before = record { before = record { before = record { before = record { before = record { before = record { before = record { before = record { before = record { before = record { before = record { before = record { before = record { before = record { before = record { before = record { before = record { before = record { before = record { before = record { before = record { before = record { before = record { before = record { before = record { before = c .before; views-test = x .0 }; seen = x .1 }; head-at = x .2 }; match = x .3 }; h = x .4 }; known-told = x .5 }; if1 = x .6 }; block = x .7 }; start = x .8 }; loop = x .9 }; struct-known = x .10 }; if2 = x .11 }; if3 = x .12 }; end-at = x .13 }; match2 = x .14 }; p1 = x .15 }; known-told3 = x .16 }; field = x .17 }; match3 = x .18 }; codes = x .19 }; known-told4 = x .20 }; loop2 = x .21 }; loop2-test = x .22 }; field2 = x .23 }; match4 = x .24 }; enum-told3 = x .25 } in
-    known (ap (exit (k .before .before .before .before .before .before .before .before .before .before .before .before .before .before .before .before .before .before .before .before .before .before .before .before .before .before .views .a) (k .before .before .before .before .before .before .before .before .before .before .before .before .before .before .before .before .before .before .before .before .before .before .before .before .before .before .views .size)) (sym (x .26))) (bad-line (k .before .before .before .before .before .before .before .before .before .before .before .before .before) (no-code (k .before .before .before .before .before .before .before .before .before .before .before .before .before .before .before .before .before .before .before .before .before .before .before .before .before .before .before .before .args .w) (blk (k .before .before .before .before .before .before .before .before .before .before .before .before .before .before .before .before .before .before)) (k .before .before .before .before .before .before .before .before .before .before .before .before .before .before .before .before .loop .p .at) (k .before .before .before .before .before .before .before .before .before .before .before .before .before .before .before .before .loop .inv .1) (start-of (k .before .before .before .before .before .before .before .before .before .before)) (count-of (k .before .before .before .before .before .before)) (k .before .before .before .before .loop2 .i) (k .before .before .before .before .loop2 .p .at) (k .before .before .before .before .loop2 .inv .3) (omega (arith, k .before .before .before .loop2-test .taken)) (known (ap (taken badLine) (k .enum-told3 .given .1)) (k .before .before .field2 .ensures badLine)))))
+    let k : tie.After-enum-told3 Inv-loop2 μ-loop2 Inv-loop μ-loop Inv-views μ-views = record { before = record { before = record { before = record { before = record { before = record { before = record { before = record { before = record { before = record { before = record { before = record { before = record { before = record { before = record { before = record { before = record { before = record { before = record { before = record { before = record { before = record { before = record { before = record { before = record { before = record { before = record { before = c .before; views-test = x .0 }; seen = x .1 }; head-at = x .2 }; match = x .3 }; h = x .4 }; known-told = x .5 }; if1 = x .6 }; block = x .7 }; start = x .8 }; loop = x .9 }; struct-known = x .10 }; if2 = x .11 }; struct-known2 = x .12 }; if3 = x .13 }; end-at = x .14 }; match2 = x .15 }; p1 = x .16 }; known-told3 = x .17 }; field = x .18 }; match3 = x .19 }; codes = x .20 }; known-told4 = x .21 }; loop2 = x .22 }; loop2-test = x .23 }; field2 = x .24 }; match4 = x .25 }; enum-told3 = x .26 } in
+    known (ap (exit (k .before .before .before .before .before .before .before .before .before .before .before .before .before .before .before .before .before .before .before .before .before .before .before .before .before .before .before .views .a) (k .before .before .before .before .before .before .before .before .before .before .before .before .before .before .before .before .before .before .before .before .before .before .before .before .before .before .before .views .size)) (sym (x .27))) (bad-line (k .before .before .before .before .before .before .before .before .before .before .before .before .before) (no-code (k .before .before .before .before .before .before .before .before .before .before .before .before .before .before .before .before .before .before .before .before .before .before .before .before .before .before .before .before .before .args .w) (blk (k .before .before .before .before .before .before .before .before .before .before .before .before .before .before .before .before .before .before .before)) (k .before .before .before .before .before .before .before .before .before .before .before .before .before .before .before .before .before .loop .p .at) (k .before .before .before .before .before .before .before .before .before .before .before .before .before .before .before .before .before .loop .inv .1) (start-of (k .before .before .before .before .before .before .before .before .before .before)) (count-of (k .before .before .before .before .before .before)) (k .before .before .before .before .loop2 .i) (k .before .before .before .before .loop2 .p .at) (k .before .before .before .before .loop2 .inv .3) (omega (arith, k .before .before .before .loop2-test .taken)) (known (ap (taken badLine) (k .enum-told3 .given .1)) (k .before .before .field2 .ensures badLine)))))
     (⊎-elim
     (λ x.
-    let k : tie.After-enum-told4 Inv-loop2 μ-loop2 Inv-loop μ-loop Inv-views μ-views = record { before = record { before = record { before = record { before = record { before = record { before = record { before = record { before = record { before = record { before = record { before = record { before = record { before = record { before = record { before = record { before = record { before = record { before = record { before = record { before = record { before = record { before = record { before = record { before = record { before = record { before = c .before; views-test = x .0 }; seen = x .1 }; head-at = x .2 }; match = x .3 }; h = x .4 }; known-told = x .5 }; if1 = x .6 }; block = x .7 }; start = x .8 }; loop = x .9 }; struct-known = x .10 }; if2 = x .11 }; if3 = x .12 }; end-at = x .13 }; match2 = x .14 }; p1 = x .15 }; known-told3 = x .16 }; field = x .17 }; match3 = x .18 }; codes = x .19 }; known-told4 = x .20 }; loop2 = x .21 }; loop2-test = x .22 }; end-at2 = x .23 }; match5 = x .24 }; enum-told4 = x .25 } in
-    known (ap (exit (k .before .before .before .before .before .before .before .before .before .before .before .before .before .before .before .before .before .before .before .before .before .before .before .before .before .before .views .a) (k .before .before .before .before .before .before .before .before .before .before .before .before .before .before .before .before .before .before .before .before .before .before .before .before .before .before .views .size)) (sym (x .26))) (bad-line (k .before .before .before .before .before .before .before .before .before .before .before .before .before) (no-finish (k .before .before .before .before .before .before .before .before .before .before .before .before .before .before .before .before .before .before .before .before .before .before .before .before .before .before .before .before .args .w) (blk (k .before .before .before .before .before .before .before .before .before .before .before .before .before .before .before .before .before .before)) (k .before .before .before .before .before .before .before .before .before .before .before .before .before .before .before .before .loop .p .at) (k .before .before .before .before .before .before .before .before .before .before .before .before .before .before .before .before .loop .inv .1) (start-of (k .before .before .before .before .before .before .before .before .before .before)) (count-of (k .before .before .before .before .before .before)) (k .before .before .before .before .loop2 .i) (k .before .before .before .before .loop2 .p .at) (k .before .before .before .before .loop2 .inv .3) (k .before .before .before .before .loop2 .inv .1) (omega (arith, k .before .before .before .loop2-test .left)) (known (ap ended (k .enum-told4 .given .1)) (k .before .before .end-at2 .ensures)))))
+    let k : tie.After-enum-told4 Inv-loop2 μ-loop2 Inv-loop μ-loop Inv-views μ-views = record { before = record { before = record { before = record { before = record { before = record { before = record { before = record { before = record { before = record { before = record { before = record { before = record { before = record { before = record { before = record { before = record { before = record { before = record { before = record { before = record { before = record { before = record { before = record { before = record { before = record { before = record { before = c .before; views-test = x .0 }; seen = x .1 }; head-at = x .2 }; match = x .3 }; h = x .4 }; known-told = x .5 }; if1 = x .6 }; block = x .7 }; start = x .8 }; loop = x .9 }; struct-known = x .10 }; if2 = x .11 }; struct-known2 = x .12 }; if3 = x .13 }; end-at = x .14 }; match2 = x .15 }; p1 = x .16 }; known-told3 = x .17 }; field = x .18 }; match3 = x .19 }; codes = x .20 }; known-told4 = x .21 }; loop2 = x .22 }; loop2-test = x .23 }; end-at2 = x .24 }; match5 = x .25 }; enum-told4 = x .26 } in
+    known (ap (exit (k .before .before .before .before .before .before .before .before .before .before .before .before .before .before .before .before .before .before .before .before .before .before .before .before .before .before .before .views .a) (k .before .before .before .before .before .before .before .before .before .before .before .before .before .before .before .before .before .before .before .before .before .before .before .before .before .before .before .views .size)) (sym (x .27))) (bad-line (k .before .before .before .before .before .before .before .before .before .before .before .before .before) (no-finish (k .before .before .before .before .before .before .before .before .before .before .before .before .before .before .before .before .before .before .before .before .before .before .before .before .before .before .before .before .before .args .w) (blk (k .before .before .before .before .before .before .before .before .before .before .before .before .before .before .before .before .before .before .before)) (k .before .before .before .before .before .before .before .before .before .before .before .before .before .before .before .before .before .loop .p .at) (k .before .before .before .before .before .before .before .before .before .before .before .before .before .before .before .before .before .loop .inv .1) (start-of (k .before .before .before .before .before .before .before .before .before .before)) (count-of (k .before .before .before .before .before .before)) (k .before .before .before .before .loop2 .i) (k .before .before .before .before .loop2 .p .at) (k .before .before .before .before .loop2 .inv .3) (k .before .before .before .before .loop2 .inv .1) (omega (arith, k .before .before .before .loop2-test .left)) (known (ap ended (k .enum-told4 .given .1)) (k .before .before .end-at2 .ensures)))))
     (⊎-elim
     (λ x.
     let k : tie.After-known-told7 Inv-loop2 μ-loop2 Inv-loop μ-loop Inv-views μ-views = record { before = record { before = record { before = record { before = record { before = record { before = record { before = record { before = record { before = record { before = record { before = record { before = record { before = record { before = record { before = record { before = c .before; views-test = x .0 }; seen = x .1 }; head-at = x .2 }; match = x .3 }; h = x .4 }; known-told = x .5 }; if1 = x .6 }; block = x .7 }; start = x .8 }; loop = x .9 }; struct-known = x .10 }; if2 = x .11 }; zeros-at = x .12 }; match6 = x .13 }; q = x .14 }; known-told7 = x .15 } in
@@ -228,17 +228,17 @@ sub-if2 : tie.Need-sub-if2 Inv-loop2 μ-loop2 Inv-loop μ-loop Inv-views μ-view
 sub-if2 c =
     omega (arith, c .before .loop .inv .1)
 
-mul-t50 : tie.Need-mul-t50 Inv-loop2 μ-loop2 Inv-loop μ-loop Inv-views μ-views
-mul-t50 c =
-    omega (arith, c .before .before .before .before .before .before .before .before .before .before .before .before .before .views .inv .1, c .before .before .before .before .before .before .before .before .before .before .before .before .before .before .before .pre)
+mul-line : tie.Need-mul-line Inv-loop2 μ-loop2 Inv-loop μ-loop Inv-views μ-views
+mul-line c =
+    omega (arith, c .before .before .before .before .before .before .before .before .before .before .before .before .views .inv .1, c .before .before .before .before .before .before .before .before .before .before .before .before .before .before .pre)
 
-add-t51 : tie.Need-add-t51 Inv-loop2 μ-loop2 Inv-loop μ-loop Inv-views μ-views
-add-t51 c =
+add-line : tie.Need-add-line Inv-loop2 μ-loop2 Inv-loop μ-loop Inv-views μ-views
+add-line c =
     omega (arith, c .before .before .before .before .before .before .before .before .before .before .before .before .before .views .inv .1, c .before .before .before .before .before .before .before .before .before .before .before .before .before .before .before .pre, c .before .before .before .loop .inv .1, small (c .before .before .before .before .before))
 
 end-at-requires : tie.Need-end-at-requires Inv-loop2 μ-loop2 Inv-loop μ-loop Inv-views μ-views
 end-at-requires c κs =
-    omega (arith, c .before .before .before .loop .inv .1, small (c .before .before .before .before .before), c .before .before .before .before .before .before .before .before .before .before .before .before .before .before .before .pre)
+    omega (arith, c .before .before .before .before .loop .inv .1, small (c .before .before .before .before .before .before), c .before .before .before .before .before .before .before .before .before .before .before .before .before .before .before .before .pre)
 
 enum-known-p1 : tie.Need-enum-known-p1 Inv-loop2 μ-loop2 Inv-loop μ-loop Inv-views μ-views
 enum-known-p1 c = search needs
@@ -246,17 +246,9 @@ enum-known-p1 c = search needs
 enum-told : tie.Need-enum-told Inv-loop2 μ-loop2 Inv-loop μ-loop Inv-views μ-views
 enum-told c = search needs
 
-mul-t53 : tie.Need-mul-t53 Inv-loop2 μ-loop2 Inv-loop μ-loop Inv-views μ-views
-mul-t53 c =
-    omega (arith, c .before .before .before .before .before .before .before .before .before .before .before .before .before .before .before .before .views .inv .1, c .before .before .before .before .before .before .before .before .before .before .before .before .before .before .before .before .before .before .pre)
-
-add-t54 : tie.Need-add-t54 Inv-loop2 μ-loop2 Inv-loop μ-loop Inv-views μ-views
-add-t54 c =
-    omega (arith, c .before .before .before .before .before .before .before .before .before .before .before .before .before .before .before .before .views .inv .1, c .before .before .before .before .before .before .before .before .before .before .before .before .before .before .before .before .before .before .pre, c .before .before .before .before .before .before .loop .inv .1, small (c .before .before .before .before .before .before .before .before))
-
 field-requires : tie.Need-field-requires Inv-loop2 μ-loop2 Inv-loop μ-loop Inv-views μ-views
 field-requires c κs =
-    omega (arith, start-of (c .before) .within, small (c .before .before .before .before .before .before .before .before .before), c .before .before .before .before .before .before .before .before .before .before .before .before .before .before .before .before .before .before .before .pre)
+    omega (arith, start-of (c .before) .within, small (c .before .before .before .before .before .before .before .before .before .before), c .before .before .before .before .before .before .before .before .before .before .before .before .before .before .before .before .before .before .before .before .pre)
 
 enum-known-codes : tie.Need-enum-known-codes Inv-loop2 μ-loop2 Inv-loop μ-loop Inv-views μ-views
 enum-known-codes c = search needs
@@ -264,35 +256,19 @@ enum-known-codes c = search needs
 enum-told-2 : tie.Need-enum-told-2 Inv-loop2 μ-loop2 Inv-loop μ-loop Inv-views μ-views
 enum-told-2 c = search needs
 
-mul-t56 : tie.Need-mul-t56 Inv-loop2 μ-loop2 Inv-loop μ-loop Inv-views μ-views
-mul-t56 c =
-    omega (arith, c .before .before .before .before .before .before .before .before .before .before .before .before .before .before .before .before .before .before .before .before .views .inv .1, c .before .before .before .before .before .before .before .before .before .before .before .before .before .before .before .before .before .before .before .before .before .before .pre)
-
-add-t57 : tie.Need-add-t57 Inv-loop2 μ-loop2 Inv-loop μ-loop Inv-views μ-views
-add-t57 c =
-    omega (arith, c .before .before .before .before .before .before .before .before .before .before .before .before .before .before .before .before .before .before .before .before .views .inv .1, c .before .before .before .before .before .before .before .before .before .before .before .before .before .before .before .before .before .before .before .before .before .before .pre, c .before .before .before .before .before .before .before .before .before .before .loop .inv .1, small (c .before .before .before .before .before .before .before .before .before .before .before .before))
-
 loop2-holds : tie.Need-loop2-holds Inv-loop2 μ-loop2 Inv-loop μ-loop Inv-views μ-views
 loop2-holds c =
-    (omega arith, count-of (c .before) .within, refl, ap (λ (m : ℕ). after (timesDec (field badLine ((c .before .before .before .before .before .before .before .before .before .before .before .before .before .before .before .before .before .before .before .before .before .before .before .args .w) .k)) m (drop (c .before .codes .given .0 .1 .0 .at) (bitsOf (blk (c .before .before .before .before .before .before .before .before .before .before .before .before .before)))))) (sub-zero (c .before .codes .given .0 .0)))
+    (omega arith, count-of (c .before) .within, refl, ap (λ (m : ℕ). after (timesDec (field badLine ((c .before .before .before .before .before .before .before .before .before .before .before .before .before .before .before .before .before .before .before .before .before .before .before .before .args .w) .k)) m (drop (c .before .codes .given .0 .1 .0 .at) (bitsOf (blk (c .before .before .before .before .before .before .before .before .before .before .before .before .before .before)))))) (sub-zero (c .before .codes .given .0 .0)))
 
 field-requires-2 : tie.Need-field-requires-2 Inv-loop2 μ-loop2 Inv-loop μ-loop Inv-views μ-views
 field-requires-2 c κs =
-    omega (arith, c .before .loop2 .inv .1, small (c .before .before .before .before .before .before .before .before .before .before .before .before .before .before .before), c .before .before .before .before .before .before .before .before .before .before .before .before .before .before .before .before .before .before .before .before .before .before .before .before .before .pre)
+    omega (arith, c .before .loop2 .inv .1, small (c .before .before .before .before .before .before .before .before .before .before .before .before .before .before .before .before), c .before .before .before .before .before .before .before .before .before .before .before .before .before .before .before .before .before .before .before .before .before .before .before .before .before .before .pre)
 
 enum-known-p3 : tie.Need-enum-known-p3 Inv-loop2 μ-loop2 Inv-loop μ-loop Inv-views μ-views
 enum-known-p3 c = search needs
 
 enum-told-3 : tie.Need-enum-told-3 Inv-loop2 μ-loop2 Inv-loop μ-loop Inv-views μ-views
 enum-told-3 c = search needs
-
-mul-t60 : tie.Need-mul-t60 Inv-loop2 μ-loop2 Inv-loop μ-loop Inv-views μ-views
-mul-t60 c =
-    omega (arith, c .before .before .before .before .before .before .before .before .before .before .before .before .before .before .before .before .before .before .before .before .before .before .before .before .before .before .views .inv .1, c .before .before .before .before .before .before .before .before .before .before .before .before .before .before .before .before .before .before .before .before .before .before .before .before .before .before .before .before .pre)
-
-add-t61 : tie.Need-add-t61 Inv-loop2 μ-loop2 Inv-loop μ-loop Inv-views μ-views
-add-t61 c =
-    omega (arith, c .before .before .before .before .before .before .before .before .before .before .before .before .before .before .before .before .before .before .before .before .before .before .before .before .before .before .views .inv .1, c .before .before .before .before .before .before .before .before .before .before .before .before .before .before .before .before .before .before .before .before .before .before .before .before .before .before .before .before .pre, c .before .before .before .before .before .before .before .before .before .before .before .before .before .before .before .before .loop .inv .1, small (c .before .before .before .before .before .before .before .before .before .before .before .before .before .before .before .before .before .before))
 
 add-i : tie.Need-add-i Inv-loop2 μ-loop2 Inv-loop μ-loop Inv-views μ-views
 add-i c = search needs
@@ -304,11 +280,11 @@ loop2-again : tie.Need-loop2-again Inv-loop2 μ-loop2 Inv-loop μ-loop Inv-views
 loop2-again c =
     let g = known (ap (taken badLine) (c .before .p3 .given .1)) (c .before .before .before .field2 .ensures badLine) in
     let m = c .before .before .before .before .before .loop2 in
-    (omega (arith, c .before .before .before .before .loop2-test .taken), g .within, m .inv .2, sym (times-turn (field badLine ((c .before .before .before .before .before .before .before .before .before .before .before .before .before .before .before .before .before .before .before .before .before .before .before .before .before .before .before .before .before .args .w) .k)) (c .before .before .before .before .before .before .before .codes .given .0 .0) (m .i) (drop (m .p .at) (bitsOf (blk (c .before .before .before .before .before .before .before .before .before .before .before .before .before .before .before .before .before .before .before)))) (λ cs. tt) (omega (arith, c .before .before .before .before .loop2-test .taken)) (g .is)) ∙ m .inv .3)
+    (omega (arith, c .before .before .before .before .loop2-test .taken), g .within, m .inv .2, sym (times-turn (field badLine ((c .before .before .before .before .before .before .before .before .before .before .before .before .before .before .before .before .before .before .before .before .before .before .before .before .before .before .before .before .before .before .args .w) .k)) (c .before .before .before .before .before .before .before .codes .given .0 .0) (m .i) (drop (m .p .at) (bitsOf (blk (c .before .before .before .before .before .before .before .before .before .before .before .before .before .before .before .before .before .before .before .before)))) (λ cs. tt) (omega (arith, c .before .before .before .before .loop2-test .taken)) (g .is)) ∙ m .inv .3)
 
 end-at-requires-2 : tie.Need-end-at-requires-2 Inv-loop2 μ-loop2 Inv-loop μ-loop Inv-views μ-views
 end-at-requires-2 c κs =
-    omega (arith, c .before .loop2 .inv .1, small (c .before .before .before .before .before .before .before .before .before .before .before .before .before .before .before), c .before .before .before .before .before .before .before .before .before .before .before .before .before .before .before .before .before .before .before .before .before .before .before .before .before .pre)
+    omega (arith, c .before .loop2 .inv .1, small (c .before .before .before .before .before .before .before .before .before .before .before .before .before .before .before .before), c .before .before .before .before .before .before .before .before .before .before .before .before .before .before .before .before .before .before .before .before .before .before .before .before .before .before .pre)
 
 enum-known-p4 : tie.Need-enum-known-p4 Inv-loop2 μ-loop2 Inv-loop μ-loop Inv-views μ-views
 enum-known-p4 c = search needs
@@ -316,37 +292,29 @@ enum-known-p4 c = search needs
 enum-told-4 : tie.Need-enum-told-4 Inv-loop2 μ-loop2 Inv-loop μ-loop Inv-views μ-views
 enum-told-4 c = search needs
 
-mul-t63 : tie.Need-mul-t63 Inv-loop2 μ-loop2 Inv-loop μ-loop Inv-views μ-views
-mul-t63 c =
-    omega (arith, c .before .before .before .before .before .before .before .before .before .before .before .before .before .before .before .before .before .before .before .before .before .before .before .before .before .before .views .inv .1, c .before .before .before .before .before .before .before .before .before .before .before .before .before .before .before .before .before .before .before .before .before .before .before .before .before .before .before .before .pre)
-
-add-t64 : tie.Need-add-t64 Inv-loop2 μ-loop2 Inv-loop μ-loop Inv-views μ-views
-add-t64 c =
-    omega (arith, c .before .before .before .before .before .before .before .before .before .before .before .before .before .before .before .before .before .before .before .before .before .before .before .before .before .before .views .inv .1, c .before .before .before .before .before .before .before .before .before .before .before .before .before .before .before .before .before .before .before .before .before .before .before .before .before .before .before .before .pre, c .before .before .before .before .before .before .before .before .before .before .before .before .before .before .before .before .loop .inv .1, small (c .before .before .before .before .before .before .before .before .before .before .before .before .before .before .before .before .before .before))
-
 add-lines : tie.Need-add-lines Inv-loop2 μ-loop2 Inv-loop μ-loop Inv-views μ-views
 add-lines c =
     omega (arith, below badLine 8 (count-of (c .before .before .before .before .before .before .before)))
 
 add-lines-2 : tie.Need-add-lines-2 Inv-loop2 μ-loop2 Inv-loop μ-loop Inv-views μ-views
 add-lines-2 c =
-    omega (arith, c .before .before .before .before .before .before .before .before .before .before .before .before .before .before .before .before .before .loop .inv .0, c .before .before .before .before .before .before .before .before .before .before .before .before .before .before .before .before .before .loop .inv .3, below badLine 8 (count-of (c .before .before .before .before .before .before .before)))
+    omega (arith, c .before .before .before .before .before .before .before .before .before .before .before .before .before .before .before .before .before .before .loop .inv .0, c .before .before .before .before .before .before .before .before .before .before .before .before .before .before .before .before .before .before .loop .inv .3, below badLine 8 (count-of (c .before .before .before .before .before .before .before)))
 
 add-n : tie.Need-add-n Inv-loop2 μ-loop2 Inv-loop μ-loop Inv-views μ-views
 add-n c =
-    omega (arith, c .before .before .before .before .before .before .before .before .before .before .before .before .before .before .before .before .before .loop .inv .0)
+    omega (arith, c .before .before .before .before .before .before .before .before .before .before .before .before .before .before .before .before .before .before .loop .inv .0)
 
 loop-less : tie.Need-loop-less Inv-loop2 μ-loop2 Inv-loop μ-loop Inv-views μ-views
 loop-less c =
-    omega (arith, c .before .before .before .before .before .before .before .before .before .before .before .before .before .before .before .before .before .loop .inv .0, c .before .before .before .before .before .before .before .before .before .before .before .before .before .before .if3 .left)
+    omega (arith, c .before .before .before .before .before .before .before .before .before .before .before .before .before .before .before .before .before .before .loop .inv .0, c .before .before .before .before .before .before .before .before .before .before .before .before .before .before .if3 .left)
 
 loop-again : tie.Need-loop-again Inv-loop2 μ-loop2 Inv-loop μ-loop Inv-views μ-views
 loop-again c =
     let g = known (ap ended (c .before .p4 .given .1)) (c .before .before .before .end-at2 .ensures) in
     let m = c .before .before .before .before .before .loop2 in
-    let o = c .before .before .before .before .before .before .before .before .before .before .before .before .before .before .before .before .before .loop in
-    line-is (c .before .before .before .before .before .before .before .before .before .before .before .before .before .before .before .before .before .before .before .before .before .before .before .before .before .before .before .before .before .args .w) (blk (c .before .before .before .before .before .before .before .before .before .before .before .before .before .before .before .before .before .before .before)) (o .p .at) (o .inv .1) (start-of (c .before .before .before .before .before .before .before .before .before .before .before)) (count-of (c .before .before .before .before .before .before .before)) (m .i) (m .p .at) (m .inv .3) (m .inv .1) (omega (arith, c .before .before .before .before .loop2-test .left)) g
-    λ l e r. (omega (arith, o .inv .0, c .before .before .before .before .before .before .before .before .before .before .before .before .before .before .if3 .left), g .within, m .inv .2 ∙ o .inv .2, omega (arith, o .inv .3, below badLine 8 (count-of (c .before .before .before .before .before .before .before))), lines-turn (c .before .before .before .before .before .before .before .before .before .before .before .before .before .before .before .before .before .before .before .before .before .before .before .before .before .before .before .before .before .args .w) (blk (c .before .before .before .before .before .before .before .before .before .before .before .before .before .before .before .before .before .before .before)) (o .n) (o .lines) (o .p .at) (o .inv .4) (omega (arith, o .inv .0, c .before .before .before .before .before .before .before .before .before .before .before .before .before .before .if3 .left)) (omega (arith, c .before .before .before .before .before .before .before .before .before .before .before .before .before .before .before .if2 .taken)) e r)
+    let o = c .before .before .before .before .before .before .before .before .before .before .before .before .before .before .before .before .before .before .loop in
+    line-is (c .before .before .before .before .before .before .before .before .before .before .before .before .before .before .before .before .before .before .before .before .before .before .before .before .before .before .before .before .before .before .args .w) (blk (c .before .before .before .before .before .before .before .before .before .before .before .before .before .before .before .before .before .before .before .before)) (o .p .at) (o .inv .1) (start-of (c .before .before .before .before .before .before .before .before .before .before .before)) (count-of (c .before .before .before .before .before .before .before)) (m .i) (m .p .at) (m .inv .3) (m .inv .1) (omega (arith, c .before .before .before .before .loop2-test .left)) g
+    λ l e r. (omega (arith, o .inv .0, c .before .before .before .before .before .before .before .before .before .before .before .before .before .before .if3 .left), g .within, m .inv .2 ∙ o .inv .2, omega (arith, o .inv .3, below badLine 8 (count-of (c .before .before .before .before .before .before .before))), lines-turn (c .before .before .before .before .before .before .before .before .before .before .before .before .before .before .before .before .before .before .before .before .before .before .before .before .before .before .before .before .before .before .args .w) (blk (c .before .before .before .before .before .before .before .before .before .before .before .before .before .before .before .before .before .before .before .before)) (o .n) (o .lines) (o .p .at) (o .inv .4) (omega (arith, o .inv .0, c .before .before .before .before .before .before .before .before .before .before .before .before .before .before .if3 .left)) (omega (arith, c .before .before .before .before .before .before .before .before .before .before .before .before .before .before .before .before .if2 .taken)) e r)
 
 zeros-at-requires : tie.Need-zeros-at-requires Inv-loop2 μ-loop2 Inv-loop μ-loop Inv-views μ-views
 zeros-at-requires c κs =
@@ -355,12 +323,12 @@ zeros-at-requires c κs =
 enum-known-q : tie.Need-enum-known-q Inv-loop2 μ-loop2 Inv-loop μ-loop Inv-views μ-views
 enum-known-q c = search needs
 
-mul-t66 : tie.Need-mul-t66 Inv-loop2 μ-loop2 Inv-loop μ-loop Inv-views μ-views
-mul-t66 c =
+mul-t56 : tie.Need-mul-t56 Inv-loop2 μ-loop2 Inv-loop μ-loop Inv-views μ-views
+mul-t56 c =
     omega (arith, c .before .before .before .before .before .before .before .before .before .before .before .before .before .before .before .before .views .inv .1, c .before .before .before .before .before .before .before .before .before .before .before .before .before .before .before .before .before .before .pre)
 
-add-t67 : tie.Need-add-t67 Inv-loop2 μ-loop2 Inv-loop μ-loop Inv-views μ-views
-add-t67 c =
+add-t57 : tie.Need-add-t57 Inv-loop2 μ-loop2 Inv-loop μ-loop Inv-views μ-views
+add-t57 c =
     omega (arith, c .before .before .before .before .before .before .before .before .before .before .before .before .before .before .before .before .views .inv .1, c .before .before .before .before .before .before .before .before .before .before .before .before .before .before .before .before .before .before .pre, known (ap (cleared badLine (blk (c .before .before .before .before .before .before .before .before))) (c .before .q .given .1)) (c .before .before .before .zeros-at .ensures badLine) .within, small (c .before .before .before .before .before .before .before .before))
 
 enum-told-5 : tie.Need-enum-told-5 Inv-loop2 μ-loop2 Inv-loop μ-loop Inv-views μ-views
@@ -483,32 +451,24 @@ judge-views-spec =
     start-requires
     loop-holds
     sub-if2
-    mul-t50
-    add-t51
+    mul-line
+    add-line
     end-at-requires
     enum-known-p1
     enum-told
-    mul-t53
-    add-t54
     field-requires
     enum-known-codes
     enum-told-2
-    mul-t56
-    add-t57
     loop2-holds
     field-requires-2
     enum-known-p3
     enum-told-3
-    mul-t60
-    add-t61
     add-i
     loop2-less
     loop2-again
     end-at-requires-2
     enum-known-p4
     enum-told-4
-    mul-t63
-    add-t64
     add-lines
     add-lines-2
     add-n
@@ -516,8 +476,8 @@ judge-views-spec =
     loop-again
     zeros-at-requires
     enum-known-q
-    mul-t66
-    add-t67
+    mul-t56
+    add-t57
     enum-told-5
     index-at-requires
     enum-known-index
