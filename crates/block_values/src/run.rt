@@ -5,8 +5,8 @@ ghost use Rattle.format.specs.Record.{Narrow};
 ghost use Rattle.block_values.specs.Run.{Some, Lines, LinesAre, Lists, ListsAre, Segments, SegmentsAre};
 use bits::two_at;
 use format::Widths;
+use line_worth::line_value;
 use shape::starts;
-use worth::line::line_value;
 use worth::list::list_value;
 
 // The byte behind them, and what they take in a record: bits, or for a whole index the bytes of its block; or a value is wrong.

@@ -1,4 +1,3 @@
 -- The laws of the values, by topic.
 pub mod Ended
-pub mod Line
 pub mod List

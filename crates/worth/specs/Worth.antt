@@ -5,16 +5,12 @@ use Prim.Native.Nat.{ℕ}
 use mathlib.Core.Bool.{Bool, true, false}
 use mathlib.Core.Option.{Option, none, some}
 use mathlib.Core.List.{List, []}
-use lib.ListN.{length}
-use Rattle.bits.specs.Bits.{Bits}
 use Rattle.bits.specs.Bytes.{bitsOf}
-use Rattle.bits.specs.Codec.{Read, got, refused}
-use Rattle.bits.specs.Block.{Block, fillDec}
-use Rattle.bits.specs.Reads.{found, fault, Reads}
+use Rattle.bits.specs.Codec.{got, refused}
+use Rattle.bits.specs.Block.{Block}
 use Rattle.outcome.specs.Refusals.{badValue}
 use Rattle.format.specs.declared.Header.{Header}
 use Rattle.format.specs.declared.ViewHeader.{ViewHeader}
-use Rattle.sheet.specs.Values.{codeValue}
 use Rattle.worth.specs.declared.header.HeaderWorth.{HeaderWorth}
 use Rattle.worth.specs.declared.header.HeaderWorth.the-variants as h
 use Rattle.worth.specs.declared.header.HeadWorth.{HeadWorth}
@@ -58,23 +54,3 @@ headIs v.Wrong = none
 abbrev pub widthIs : WidthWorth → Option ℕ
 widthIs (w.Right x) = some x
 widthIs w.Wrong = none
-
--- ---- a part of a value: reading with d from place p
-
-module _ {A : Type 0} (d : Bits → Read Bool A) (s : List ℕ) (p : ℕ) where
-  pub record There (q : ℕ) : Type 0 where
-    pub value : A
-    pub reads : Reads d s p (found value q)
-
-  pub record NotThere : Type 0 where
-    pub place : ℕ
-    pub reads : Reads d s p (fault badValue place)
-
-  -- q is the place behind it
-  abbrev pub Passes : ℕ → Bool → Type 0
-  Passes q true = There q
-  Passes q false = NotThere
-
--- codes of k bits, a byte each, up to the end
-unfoldable pub codesDec : ℕ → Bits → Read Bool (List ℕ)
-codesDec k s = fillDec (codeValue k) badValue (length s) s

@@ -1,10 +1,10 @@
 -- `worth::line::line_value` meets its contract: the start, the finish, then the codes up to the field's end.
 use Rattle.sheet.specs.Values.{endValue}
-use Rattle.worth.specs.Worth.{There}
-use Rattle.worth.proofs.Laws.Line.{passed, not-passed, bad-start, bad-finish, line-told}
+use Rattle.line_worth.specs.Parts.{There}
+use Rattle.line_worth.proofs.Laws.{passed, not-passed, bad-start, bad-finish, line-told}
 use borrow.Author.Needs.{needs}
-use Rattle.worth.proofs.line.line_value.Statement.{statement}
-use Rattle.worth.proofs.line.line_value.Tie as tie
+use Rattle.line_worth.proofs.line_value.Statement.{statement}
+use Rattle.line_worth.proofs.line_value.Tie as tie
 
 start : (c : tie.Else1) → There (endValue (c .before .before .before .args .w) .dec) (c .before .before .before .args .s .now) 0 48
 start c = passed (endValue (c .before .before .before .args .w) .dec) (c .before .before .before .args .s .now) 0 48 (c .before .end-right .result) (c .if1 .left) (c .before .end-right .ensures)

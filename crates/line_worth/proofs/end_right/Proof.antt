@@ -9,10 +9,10 @@ use Rattle.bits.specs.Codec.{fieldDec}
 use Rattle.bits.specs.Reads.{Reads, found}
 use Rattle.bits.proofs.Laws.Reads.{up-to}
 use Rattle.outcome.specs.Refusals.{badValue}
-use Rattle.worth.proofs.Laws.Line.{bad-kind, bad-direction, bad-x, last-y}
+use Rattle.line_worth.proofs.Laws.{bad-kind, bad-direction, bad-x, last-y}
 use borrow.Author.Needs.{needs}
-use Rattle.worth.proofs.line.end_right.Statement.{statement}
-use Rattle.worth.proofs.line.end_right.Tie as tie
+use Rattle.line_worth.proofs.end_right.Statement.{statement}
+use Rattle.line_worth.proofs.end_right.Tie as tie
 
 -- the last number, up to the end's last bit
 read-y : (c : tie.After-sure4) → Reads (fieldDec badValue 16) (c .before .before .before .before .before .args .s .now) (c .before .sure3 .result .next .at) (found (c .sure4 .result .value) (c .before .before .before .before .before .args .p .at + 48))

@@ -3,10 +3,10 @@ use native.Mathlib.Omega.{arith}
 use native.Mathlib.Nat.{mod-lt}
 use Prim.Native.Nat.{_<_}
 use lib.Pow.{pow-pos}
-use Rattle.worth.proofs.Laws.Line.{code-low, code-high}
+use Rattle.line_worth.proofs.Laws.{code-low, code-high}
 use borrow.Author.Needs.{needs}
-use Rattle.worth.proofs.line.code_right.Statement.{statement}
-use Rattle.worth.proofs.line.code_right.Tie as tie
+use Rattle.line_worth.proofs.code_right.Statement.{statement}
+use Rattle.line_worth.proofs.code_right.Tie as tie
 
 some : (c : tie.After-pow2) → 0 < c .pow2 .result
 some c = omega (arith, c .pow2 .ensures .0, pow-pos (c .before .args .k))

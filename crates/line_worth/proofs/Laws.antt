@@ -25,7 +25,8 @@ use Rattle.format.specs.declared.Widths.{Widths}
 use Rattle.sheet.specs.Code.{extended, codeOk}
 use Rattle.sheet.specs.Values.{below, endValue, codeValue, lineValue}
 use Rattle.sheet.proofs.Laws.Lengths.{length-line}
-use Rattle.worth.specs.Worth.{Wrong, Tested, There, NotThere, Passes, codesDec}
+use Rattle.worth.specs.Worth.{Wrong, Tested}
+use Rattle.line_worth.specs.Parts.{There, NotThere, Passes, codesDec}
 
 -- ---- a part, once its answer is known
 

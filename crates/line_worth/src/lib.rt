@@ -4,11 +4,12 @@ ghost use Prim.Native.Nat.{_+_, _-_, _*_, _≤_, _<_};
 ghost use lib.ListN.{length};
 ghost use Rattle.sheet.specs.Code.{codeOk};
 ghost use Rattle.sheet.specs.Values.{endValue, lineValue};
-ghost use Rattle.worth.specs.Worth.{Tested, Passes, codesDec};
-use crate::narrow::narrow;
+ghost use Rattle.worth.specs.Worth.{Tested};
+ghost use Rattle.line_worth.specs.Parts.{Passes, codesDec};
 use bits::Cursor;
 use bits::pow2;
 use format::Widths;
+use worth::narrow::narrow;
 
 // The six bytes of an end at the cursor: type, direction, x, y.
 fn end_right(p: Cursor, s: &[u8], w: Widths) -> bool

@@ -7,10 +7,10 @@ use lib.ListN.{length}
 use borrow.Author.Tests.{not-true, not-false}
 use Rattle.bits.proofs.Laws.Reads.{below}
 use Rattle.outcome.specs.Refusals.{badValue}
-use Rattle.worth.proofs.Laws.Line.{CodesFrom, codes-first, code-bad, code-good, codes-there}
+use Rattle.line_worth.proofs.Laws.{CodesFrom, codes-first, code-bad, code-good, codes-there}
 use borrow.Author.Needs.{needs}
-use Rattle.worth.proofs.line.codes_right.Statement.{statement}
-use Rattle.worth.proofs.line.codes_right.Tie as tie
+use Rattle.line_worth.proofs.codes_right.Statement.{statement}
+use Rattle.line_worth.proofs.codes_right.Tie as tie
 
 abbrev Inv-loop : tie.InvT-loop
 Inv-loop s k i₀ i =
