@@ -10,23 +10,16 @@ use Rattle.bits.specs.Codec.{Read, fieldDec}
 use Rattle.bits.specs.SizedLaws.{prefixed}
 use Rattle.bits.specs.Lists.{total}
 use Rattle.bits.specs.Reads.{Found, found, fault, Reads, kept}
-use Rattle.outcome.specs.Refusals.{past, badLine}
-use Rattle.format.specs.Line.{end}
+use Rattle.outcome.specs.Refusals.{past}
 use Rattle.format.specs.Index.{indexBlock}
 use Rattle.format.specs.Segments.{segments}
 use Rattle.format.specs.SheetSize.{indexSize, segmentSize}
-use Rattle.format.specs.declared.Widths.{Widths}
-use Rattle.format.specs.declared.End.{End}
 use Rattle.blocks.specs.declared.Judged.{Judged}
 use Rattle.blocks.specs.declared.Judged.the-variants as j
 use Rattle.blocks.specs.declared.Reached.{Reached}
 use Rattle.blocks.specs.declared.Reached.the-variants as r
 use Rattle.blocks.specs.declared.block.BlockAt.{BlockAt}
 use Rattle.blocks.specs.declared.block.BlockAt.the-variants as k
-use Rattle.blocks.specs.declared.line.Ended.{Ended}
-use Rattle.blocks.specs.declared.line.Ended.the-variants as e
-use Rattle.blocks.specs.declared.line.Cleared.{Cleared}
-use Rattle.blocks.specs.declared.line.Cleared.the-variants as c
 
 -- ---- answers
 
@@ -38,14 +31,6 @@ judged s (j.Refused e p) = fault e p
 abbrev pub reached : Reached → Found ℕ
 reached (r.At b n) = found n (8 * b)
 reached (r.Refused e p) = fault e p
-
-abbrev pub ended : Ended → Found End
-ended (e.At x p) = found x (p .at)
-ended (e.Short p) = fault badLine p
-
-abbrev pub cleared : ℕ → List ℕ → Cleared → Found (Unit {0})
-cleared n s c.All = found tt (8 * length s)
-cleared n s (c.One p) = fault n p
 
 -- ---- a block behind its length, a field of 16 bits at byte a
 
@@ -67,9 +52,6 @@ Behind s a (k.At b e) = Whole s a b e
 Behind s a (k.Past p) = Cut s a p
 
 -- ---- what is read
-
-unfoldable pub endDec : Widths → Bits → Read Bool End
-endDec w s = end w .dec s
 
 unfoldable pub indexDec : ℕ → Bits → Read Bool ℕ
 indexDec n s = kept indexSize (indexBlock n .dec s)

@@ -8,12 +8,12 @@ use crate::Judged;
 use crate::Reached;
 use crate::block::BlockAt;
 use crate::block::block_at;
-use crate::line::Cleared;
-use crate::line::zeros_at;
 use bits::Cursor;
 use bits::Taken;
 use bits::ranged::RangedAt;
 use bits::ranged::ranged_at;
+use ends::Cleared;
+use ends::zeros_at;
 
 // The block s, of a view with that many lines.
 pub fn judge_index(s: &[u8], lines: usize) -> Judged

@@ -1,8 +1,7 @@
-// Readers and judges of a view's blocks: the ends of a line, the neighbour index, the extended data. A judge says how many bytes its
-// block takes in the sheet, or the number of its refusal and the place, in bits.
+// Judges of a view's blocks: the neighbour index, the extended data. A judge says how many bytes its block takes in the sheet, or the
+// number of its refusal and the place, in bits.
 mod block; // a block behind its length
 pub mod index; // the neighbour index
-pub mod line; // the ends of a line, and zero bits
 pub mod segments; // the extended data
 
 // What the judge of a whole block answers.

@@ -78,7 +78,7 @@ module _ (s : List ℕ) (bytes : All Byte s) (p n : ℕ) (e : n ≡ getD s (p + 
         c0 ∙ ap (λ (t : List ℕ). getD s p 0 ∷ t) (c1 ∙ ap (λ (t : List ℕ). getD s (p + 1) 0 ∷ t) (c2 ∙ ap (λ (k : ℕ). getD s (p + 1 + 1) 0 ∷ drop k s) z)) in
         c ∙ (λ i. getD s p 0 ∷ a i ∷ b i ∷ v i)
 
-    pub here-reads : tagged .dec (drop (8 * p) (bitsOf s)) ≡ got (fieldHere s p n) (drop (8 * (p + (3 + n))) (bitsOf s))
+    here-reads : tagged .dec (drop (8 * p) (bitsOf s)) ≡ got (fieldHere s p n) (drop (8 * (p + (3 + n))) (bitsOf s))
     here-reads =
         let f : Field = fieldHere s p n in
         let b : drop (8 * p) (bitsOf s) ≡ tagged .enc f ++ drop (8 * (p + (3 + n))) (bitsOf s) =

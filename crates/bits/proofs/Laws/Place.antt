@@ -28,7 +28,7 @@ number-snoc (true ∷ s) b = omega (arith, number-snoc s b, length-append s (b �
 number-snoc (false ∷ s) b = omega (arith, number-snoc s b)
 
 -- the loop of a reader: j bits read, one more
-pub number-step : (s : Bits) (j : ℕ) → j < length s → numberOf (take (suc j) s) ≡ 2 * numberOf (take j s) + val (getD s j false)
+number-step : (s : Bits) (j : ℕ) → j < length s → numberOf (take (suc j) s) ≡ 2 * numberOf (take j s) + val (getD s j false)
 number-step s j h = ap numberOf (take-suc s j false h) ∙ number-snoc (take j s) (getD s j false)
 
 shift : (x : ℕ) (xs : List ℕ) (q : ℕ) → getD (bitsOfNumber 8 x ++ bitsOf xs) (8 + q) false ≡ getD (bitsOf xs) q false

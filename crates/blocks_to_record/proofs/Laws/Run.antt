@@ -63,7 +63,7 @@ module _ {A : Type 0} {t : ℕ} {value : A → List ℕ} where
         go [] k = absurd (stop rest (k .other) (k .is))
         go (x ∷ xs) k = field-here k
 
-    pub run-ends : (a < length s → getD s a 0 ≡ t → ⊥) → xs ≡ []
+    run-ends : (a < length s → getD s a 0 ≡ t → ⊥) → xs ≡ []
     run-ends k = go xs h
       where
         z : a + 0 ≡ a

@@ -16,7 +16,7 @@ use Rattle.format.proofs.Laws.Call.{on-record, given-record}
 use Rattle.sheet.specs.Sheet.{sheetOf, readSheet, writes, reading, writing}
 use Rattle.sheet.proofs.Laws.Sheet.{sheet-read, read-sheet}
 
-pub reading-is : (bytes : List ℕ) (r : Record) (rest : Bits) → read bytes ≡ got r rest → reading bytes ≡ given (sheetOf r)
+reading-is : (bytes : List ℕ) (r : Record) (rest : Bits) → read bytes ≡ got r rest → reading bytes ≡ given (sheetOf r)
 unfolding reading
 reading-is bytes r rest p = on-record (λ r. given (sheetOf r)) bytes r rest p
 

@@ -21,7 +21,7 @@ use Rattle.format.specs.Line.{Line, line, skeleton}
 use Rattle.format.specs.SheetSize.{lineSize}
 use Rattle.format.specs.declared.Widths.{Widths}
 use Rattle.format.specs.declared.End.{End}
-use Rattle.blocks.specs.Answers.{endDec}
+use Rattle.ends.specs.Ends.{endDec}
 
 -- ---- a line of the block s, at place p
 

@@ -23,7 +23,8 @@ use Rattle.format.specs.SheetSize.{lineSize}
 use Rattle.format.specs.declared.ViewHeader.{ViewHeader}
 use Rattle.blocks.specs.declared.Reached.the-variants.{At}
 use Rattle.heads.specs.Answers.{headAt, Seen}
-use Rattle.blocks.specs.Answers.{ended, cleared, reached, endDec, indexAtDec, segmentsAtDec}
+use Rattle.ends.specs.Ends.{ended, cleared, endDec}
+use Rattle.blocks.specs.Answers.{reached, indexAtDec, segmentsAtDec}
 use Rattle.views.specs.Views.{viewsDec}
 use Rattle.views.proofs.Laws.Bounds.{index-small, segments-small}
 use Rattle.views.proofs.Laws.Line.{no-start, no-count, no-code, no-finish, line-is, Lines, lines-start, lines-over, lines-stop, lines-turn, lines-dirt, lines-done}

@@ -3,7 +3,7 @@ ghost use Prim.Native.Nat.{ℕ, _*_, _≤_};
 ghost use lib.ListN.{length};
 ghost use Rattle.bits.specs.Block.{zerosDec};
 ghost use Rattle.bits.specs.Reads.{Reads};
-ghost use Rattle.blocks.specs.Answers.{ended, cleared, endDec};
+ghost use Rattle.ends.specs.Ends.{ended, cleared, endDec};
 use bits::Cursor;
 use bits::Taken;
 use format::End;

@@ -11,8 +11,8 @@ use Rattle.bits.proofs.Laws.Reads.{length-rest}
 use Rattle.bits.proofs.Laws.Loops.{bit-zero, bit-one}
 use Rattle.bits.proofs.Laws.Parts.{drop-end}
 use borrow.Author.Needs.{needs}
-use Rattle.blocks.proofs.line.zeros_at.Statement.{statement}
-use Rattle.blocks.proofs.line.zeros_at.Tie as tie
+use Rattle.ends.proofs.zeros_at.Statement.{statement}
+use Rattle.ends.proofs.zeros_at.Tie as tie
 
 abbrev Inv-loop : tie.InvT-loop
 Inv-loop s q₀ q =

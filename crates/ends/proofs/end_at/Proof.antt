@@ -7,10 +7,10 @@ use Rattle.bits.specs.Reads.{Reads, taken, found}
 use Rattle.bits.proofs.Laws.Reads.{known, own, go-on, stop, made}
 use Rattle.outcome.specs.Refusals.{badLine}
 use Rattle.format.specs.Line.{end}
-use Rattle.blocks.specs.Answers.{endDec}
+use Rattle.ends.specs.Ends.{endDec}
 use borrow.Author.Needs.{needs}
-use Rattle.blocks.proofs.line.end_at.Statement.{statement}
-use Rattle.blocks.proofs.line.end_at.Tie as tie
+use Rattle.ends.proofs.end_at.Statement.{statement}
+use Rattle.ends.proofs.end_at.Tie as tie
 
 read-kind : (c : tie.After-kind) → Reads (fieldDec badLine 2) (c .before .before .before .before .args .s .now) (c .before .before .before .before .args .p .at) (found (c .kind .given .0 .0) (c .kind .given .0 .1 .0 .at))
 read-kind c = known (ap (taken badLine) (c .kind .given .1)) (c .before .before .field .ensures badLine)
