@@ -1,5 +1,5 @@
-"""How long each module of a check took. antt writes a module's file as soon as it has checked it, one after another, so that the time
-between two files is the later one's.
+"""How long each module of a check took. antt writes a module's file as soon as it has checked it, one after another, so
+that the time between two files is the later one's.
 """
 
 

@@ -11,6 +11,7 @@ use locate::segments::pass_segments;
 use locate::view::blocks_at;
 use locate::view::view_at;
 use outcome::Answer;
+use outcome::refuse;
 
 // The payload's part of the record, from byte to byte; or the number of the refusal.
 enum Found {
@@ -61,11 +62,7 @@ pub fn segment(bytes: &[u8], view: usize, place: usize) -> Answer
     ensures { λ r. ⌜ r ≡ segmentAnswer view place (now (bytes .entry)) ⌝ }
 {
     match find(bytes, view, place) {
-        Found::Refused(number) => Answer {
-            number,
-            place: 0,
-            length: 0,
-        },
+        Found::Refused(number) => refuse(number),
         Found::At(from, to) => Answer {
             number: 0,
             place: (8 * from) as u32,

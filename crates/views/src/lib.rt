@@ -59,31 +59,31 @@ pub fn judge_views(s: &[u8], w: Widths, count: usize) -> Reached
         let mut lines: usize = 0;
         let mut n: usize = 0;
         while 8 <= end - p.at {
-            let line = 8 * b + p.at;
+            let place = 8 * b + p.at;
             if n == ViewHeader::MOST_LINES {
-                answer = Reached::Refused(9, line);
+                answer = Reached::Refused(9, place);
                 break 'views;
             }
             let Ended::At(_, p1) = end_at(p, block, w) else {
-                answer = Reached::Refused(8, line);
+                answer = Reached::Refused(8, place);
                 break 'views;
             };
             let Taken::Bits(codes, p2) = p1.field(block, 8) else {
-                answer = Reached::Refused(8, line);
+                answer = Reached::Refused(8, place);
                 break 'views;
             };
             p = p2;
             let mut i: usize = 0;
             while i < codes {
                 let Taken::Bits(_, p3) = p.field(block, w.k) else {
-                    answer = Reached::Refused(8, line);
+                    answer = Reached::Refused(8, place);
                     break 'views;
                 };
                 p = p3;
                 i = i + 1;
             }
             let Ended::At(_, p4) = end_at(p, block, w) else {
-                answer = Reached::Refused(8, line);
+                answer = Reached::Refused(8, place);
                 break 'views;
             };
             p = p4;

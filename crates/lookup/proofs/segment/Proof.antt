@@ -17,6 +17,9 @@ find-requires c κs = search needs
 enum-known-number : tie.Need-enum-known-number
 enum-known-number c = search needs
 
+refuse-requires : tie.Need-refuse-requires
+refuse-requires c κs = search needs
+
 enum-known-from : tie.Need-enum-known-from
 enum-known-from c = search needs
 
@@ -34,7 +37,7 @@ sub-t11 c =
 
 returns : tie.Need-returns
 returns c =
-    answer-refused (c .before .before .before .before .before .args .view) (c .before .before .before .before .before .args .place) (c .before .before .before .before .before .args .bytes .now) (subst (λ (r : Found). Finds (c .before .before .before .before .before .args .view) (c .before .before .before .before .before .args .place) (c .before .before .before .before .before .args .bytes .now) r) (c .before .number .given .1) (c .before .before .before .find .ensures))
+    rw (c .refuse .ensures) (answer-refused (c .before .before .before .before .before .before .args .view) (c .before .before .before .before .before .before .args .place) (c .before .before .before .before .before .before .args .bytes .now) (subst (λ (r : Found). Finds (c .before .before .before .before .before .before .args .view) (c .before .before .before .before .before .before .args .place) (c .before .before .before .before .before .before .args .bytes .now) r) (c .before .before .number .given .1) (c .before .before .before .before .find .ensures)))
 
 returns-2 : tie.Need-returns-2
 returns-2 c =
@@ -46,6 +49,7 @@ segment-spec =
     (tie.spec
     find-requires
     enum-known-number
+    refuse-requires
     enum-known-from
     mul-t9
     cast-t10

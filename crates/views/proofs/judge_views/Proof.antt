@@ -36,12 +36,12 @@ use Rattle.views.proofs.judge_views.Statement.{statement}
 use Rattle.views.proofs.judge_views.Tie as tie
 
 abbrev Inv-loop2 : tie.InvT-loop2
-Inv-loop2 s w count answer₀ seen a size v head len b e block end p₀ lines n line codes i₀ answer p i =
+Inv-loop2 s w count answer₀ seen a size v head len b e block end p₀ lines n place codes i₀ answer p i =
     (i ≤ codes) × (p .at ≤ 8 * length block) × (answer ≡ answer₀)
     × (after (timesDec (field badLine (w .k)) (codes - i) (drop (p .at) (bitsOf block))) ≡ after (timesDec (field badLine (w .k)) codes (drop (p₀ .at) (bitsOf block))))
 
 abbrev μ-loop2 : tie.MeasureT-loop2
-μ-loop2 s w count answer₀ seen a size v head len b e block end p₀ lines n line codes i₀ answer p i =
+μ-loop2 s w count answer₀ seen a size v head len b e block end p₀ lines n place codes i₀ answer p i =
     codes - i
 
 abbrev Inv-loop : tie.InvT-loop
@@ -229,12 +229,12 @@ sub-if2 : tie.Need-sub-if2 Inv-loop2 μ-loop2 Inv-loop μ-loop Inv-views μ-view
 sub-if2 c =
     omega (arith, c .before .loop .inv .1)
 
-mul-line : tie.Need-mul-line Inv-loop2 μ-loop2 Inv-loop μ-loop Inv-views μ-views
-mul-line c =
+mul-place : tie.Need-mul-place Inv-loop2 μ-loop2 Inv-loop μ-loop Inv-views μ-views
+mul-place c =
     omega (arith, c .before .before .before .before .before .before .before .before .before .before .before .before .views .inv .1, c .before .before .before .before .before .before .before .before .before .before .before .before .before .before .pre)
 
-add-line : tie.Need-add-line Inv-loop2 μ-loop2 Inv-loop μ-loop Inv-views μ-views
-add-line c =
+add-place : tie.Need-add-place Inv-loop2 μ-loop2 Inv-loop μ-loop Inv-views μ-views
+add-place c =
     omega (arith, c .before .before .before .before .before .before .before .before .before .before .before .before .before .views .inv .1, c .before .before .before .before .before .before .before .before .before .before .before .before .before .before .before .pre, c .before .before .before .loop .inv .1, small (c .before .before .before .before .before))
 
 end-at-requires : tie.Need-end-at-requires Inv-loop2 μ-loop2 Inv-loop μ-loop Inv-views μ-views
@@ -452,8 +452,8 @@ judge-views-spec =
     start-requires
     loop-holds
     sub-if2
-    mul-line
-    add-line
+    mul-place
+    add-place
     end-at-requires
     enum-known-p1
     enum-told
