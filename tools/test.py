@@ -16,8 +16,8 @@ from proofloop.places import Places
 from proofloop.tree import Stop, Tree
 
 PRINTED = """\
-use Rattle.lay.proofs.copy.Statement.{statement}
-use Rattle.lay.proofs.copy.Tie as tie
+use Rattle.put_bytes.proofs.copy.Statement.{statement}
+use Rattle.put_bytes.proofs.copy.Tie as tie
 use Rattle.bits.proofs.two_at.Reads as two-at-reads
 
 abbrev Inv-loop : tie.InvT-loop
@@ -96,18 +96,18 @@ LTS = """\
 SAID = """\
 rt: bits proved (unchanged since it was last proved)
 fn bits::wide: proved
-crates/lay/proofs/copy/Proof.antt:41:235: error: `returns`: the two types differ
+crates/put_bytes/proofs/copy/Proof.antt:41:235: error: `returns`: the two types differ
   expected type `A`
-crates/lay/proofs/copy/Proof.antt:53:1: `add-i` is not admitted: has-holes
-crates/lay/proofs/copy/Proof.antt:54:16: goal ? in `add-i`
+crates/put_bytes/proofs/copy/Proof.antt:53:1: `add-i` is not admitted: has-holes
+crates/put_bytes/proofs/copy/Proof.antt:54:16: goal ? in `add-i`
     c : lts.Else4
   ⊢ A
 note: antt's advice
   on a search
-struct lay::Rank: no holes
-fn lay::copy: not proved
-fn lay::put_two: no proof: expected `put-two-spec`
-help: write crates/lay/proofs/put_two/Proof.antt with these lines, and check again
+struct put_bytes::Rank: no holes
+fn put_bytes::copy: not proved
+fn put_bytes::put_two: no proof: expected `put-two-spec`
+help: write crates/put_bytes/proofs/put_two/Proof.antt with these lines, and check again
     use borrow.Author.Needs.{needs}
     
     returns : tie.Need-returns
@@ -118,18 +118,18 @@ holes=1
 
 class WhatRtSays(unittest.TestCase):
     def test_left(self):
-        self.assertEqual(said.unproved(SAID), ["lay::copy", "lay::put_two"])
+        self.assertEqual(said.unproved(SAID), ["put_bytes::copy", "put_bytes::put_two"])
         self.assertEqual(said.holes(SAID), ["copy.add-i"])
 
     def test_told(self):
         told = said.told(SAID, "the file")
-        self.assertIn("\nno file yet: crates/lay/proofs/put_two/Proof.antt\n", told)
+        self.assertIn("\nno file yet: crates/put_bytes/proofs/put_two/Proof.antt\n", told)
         self.assertIn("\n  ⊢ A\n", told)
         self.assertNotRegex(told, "bits::wide|advice|on a search")
 
     def test_short(self):
         short = said.short(SAID, "the file").split("\n")
-        self.assertEqual(short[1:], ["errors: 1", "functions not proved: lay::copy lay::put_two"])
+        self.assertEqual(short[1:], ["errors: 1", "functions not proved: put_bytes::copy put_bytes::put_two"])
         self.assertIn("cut here; the whole text is in the file", said.short(("x" * 400 + "\n") * 60, "the file"))
 
     def test_goal(self):
@@ -138,7 +138,7 @@ class WhatRtSays(unittest.TestCase):
         self.assertIsNone(said.goal(SAID, "wide"))
 
     def test_files(self):
-        text = said.files(SAID)["crates/lay/proofs/put_two/Proof.antt"]
+        text = said.files(SAID)["crates/put_bytes/proofs/put_two/Proof.antt"]
         self.assertEqual(text.split("\n")[1:3], ["", "returns : tie.Need-returns"])
         self.assertIn("returns c = search needs\n", skeleton.by_search(text))
 

@@ -4,18 +4,18 @@ ghost use mathlib.Core.Bool.{true, false};
 ghost use Rattle.outcome.specs.Outcome.{Answers};
 ghost use Rattle.sheet.specs.Sheet.{reading, writing};
 ghost use Rattle.trail.specs.Trail.{trailing};
-ghost use Rattle.trace.specs.Trace.{AnswersInBytes};
-ghost use Rattle.lookup.specs.Segment.{segmentAnswer};
+ghost use Rattle.trailing.specs.Trace.{AnswersInBytes};
+ghost use Rattle.segment.specs.Segment.{segmentAnswer};
 ghost use Rattle.orders.specs.Order.{order, heldAnswer};
 ghost use Rattle.ordering.specs.Orders.{removal, pairOrder};
-use holds::which_holds;
-use lookup::segment;
+use order_holds::which_holds;
 use ordering::join;
 use ordering::part;
 use ordering::remove;
 use outcome::Answer;
 use reading::read;
-use trace::trail_as_bytes;
+use segment::segment;
+use trailing::trail_as_bytes;
 use writing::write;
 
 #[no_mangle]

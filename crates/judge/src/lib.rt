@@ -1,10 +1,10 @@
 // The judge of a record: refused, by its number and place; or accepted, with what every call needs of it.
 ghost use Rattle.judge.specs.Judge.{Judges};
-use blocks::Reached;
 use format::Header;
-use heads::header::HeaderAt;
-use heads::header::header_at;
-use views::judge_views;
+use judge_blocks::Reached;
+use judge_heads::header::HeaderAt;
+use judge_heads::header::header_at;
+use judge_views::judge_views;
 
 // An accepted record's header, how many views it has, and the bytes of its sheet.
 pub enum Verdict {

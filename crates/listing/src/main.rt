@@ -4,5 +4,5 @@ use libc::STDIN_FILENO;
 fn main() {
     let mut buffer = [0u8; 32769];
     let n = io::read_full(STDIN_FILENO, &mut buffer);
-    print::listing(&buffer[..n]);
+    list_text::listing(&buffer[..n]);
 }

@@ -8,8 +8,8 @@ use Rattle.outcome.specs.declared.Answer.{Answer}
 use Rattle.orders.specs.Listed.{listed}
 use Rattle.orders.specs.Act.{Act, remove, join, part}
 use Rattle.orders.specs.Order.{Order, order}
-use Rattle.rebuild.specs.declared.site.Site.{Site}
-use Rattle.named.specs.Named.{Sought}
+use Rattle.order_record.specs.declared.site.Site.{Site}
+use Rattle.order_view.specs.Named.{Sought}
 
 -- ---- the orders of the calls
 

@@ -7,15 +7,15 @@ ghost use Rattle.bits.specs.Choice.{pick};
 ghost use Rattle.outcome.specs.Outcome.{Answers};
 ghost use Rattle.orders.specs.Order.{order};
 ghost use Rattle.ordering.specs.Orders.{removal, pairOrder, PairThere, PairDone};
-use carry::carry_out;
-use named::Found;
-use named::find;
+use order_carry::carry_out;
+use order_lists::lists::Change;
+use order_lists::near::are_near;
+use order_record::site::Site;
+use order_removal::lines_right;
+use order_view::Found;
+use order_view::find;
 use outcome::Answer;
 use outcome::refuse;
-use rebuild::site::Site;
-use relist::lists::Change;
-use relist::near::are_near;
-use survivors::lines_right;
 
 // Lines removed: the numbers of `lines`, two bytes each, high byte first. 15, 16 are its own.
 pub fn remove(bytes: &[u8], view: usize, count: usize, lines: &[u8], out: &mut [u8]) -> Answer

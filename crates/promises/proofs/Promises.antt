@@ -28,7 +28,7 @@ use Rattle.sheet.specs.Sheet.{readSheet, reading, writing}
 use Rattle.sheet.proofs.Laws.Calls as S
 use Rattle.sheet.proofs.Laws.BothWays as B
 use Rattle.sheet.proofs.Laws.Refuses as G
-use Rattle.rendered.proofs.Laws.Room as M
+use Rattle.sheet_bytes.proofs.Laws.Room as M
 use Rattle.orders.specs.Least.{leastWidth}
 use Rattle.orders.specs.Act.{remove}
 use Rattle.orders.specs.Order.{Order, edited, verdict, order, holds}
@@ -122,7 +122,7 @@ refused-stays = Q.refused-stays
 pub orders-follow : (cs : List Call) (bytes : List ℕ) (r : Record) → All Byte bytes → read bytes ≡ C.got r [] → Q.Kept cs r bytes
 orders-follow = Q.orders-follow
 
--- the calls themselves, whose contracts are `Answers (order o record)` (ordering/src) and `holds` (holds/src): made one behind the other,
+-- the calls themselves, whose contracts are `Answers (order o record)` (ordering/src) and `holds` (order_holds/src): made one behind the other,
 -- each lent the record that then holds, they come to the record of the sequence
 pub calls-run : (cs : List Call) (bytes last : List ℕ) → MadeAll cs bytes last → last ≡ run cs bytes
 calls-run = N.calls-run

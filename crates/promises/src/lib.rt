@@ -2,7 +2,7 @@
 // make calls one behind the other, as demands 2 and 3 have them, so that it is proved of what runs.
 ghost use Rattle.ordering.specs.Orders.{removal};
 ghost use Rattle.promises.specs.Calls.{RecordBack, SheetBack, OnlyOnce};
-use holds::now_holds;
+use order_holds::now_holds;
 use ordering::remove;
 use outcome::Answer;
 use reading::read;

@@ -16,10 +16,10 @@ use Rattle.judge.specs.declared.Verdict.the-variants.{Accepted, Refused}
 use Rattle.format.proofs.Laws.Call.{on-record}
 use Rattle.judge.proofs.Laws.Calls.{call-refused, record-read}
 use Rattle.sheet.specs.Sheet.{sheetOf, reading}
-use Rattle.rendered.specs.Bytes.{recordBytes}
-use Rattle.to_sheet.specs.SheetOuts.{SheetThere, SheetOut}
-use Rattle.rendered.proofs.Laws.Rendered.{rendered}
-use Rattle.rendered.proofs.Laws.Sizes.{rendered-size}
+use Rattle.sheet_bytes.specs.Bytes.{recordBytes}
+use Rattle.read_views.specs.SheetOuts.{SheetThere, SheetOut}
+use Rattle.sheet_bytes.proofs.Laws.Rendered.{rendered}
+use Rattle.sheet_bytes.proofs.Laws.Sizes.{rendered-size}
 
 module _ (s before : List ℕ) where
   pub refuses : {e p : ℕ} → Judges s (Refused e p) → Answers (reading s) before before (record { number = e; place = 0; length = 0 })

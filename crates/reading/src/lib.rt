@@ -6,7 +6,7 @@ use judge::judge;
 use outcome::Answer;
 use outcome::accept;
 use outcome::refuse;
-use to_sheet::record::sheet_out;
+use read_views::record::sheet_out;
 
 pub fn read(bytes: &[u8], sheet: &mut [u8]) -> Answer
     ensures { λ r. ⌜ Answers (reading (now (bytes .entry))) (now (sheet .entry)) (now (sheet .exit)) r ⌝ }

@@ -2,12 +2,12 @@
 // trails of the first lines of each view and the lengths of its first segments.
 use judge::Verdict;
 use judge::judge;
-use lookup::payload;
-use lookup::segment;
-use print::number;
-use print::text;
+use list_text::number;
+use list_text::text;
 use reading::read;
-use trace::trail;
+use segment::payload;
+use segment::segment;
+use trailing::trail;
 
 fn sheet(s: &[u8]) {
     let mut out = io::large_buffer();
@@ -17,7 +17,7 @@ fn sheet(s: &[u8]) {
         number(answer.length);
         text(b"\n");
     } else {
-        print::refused(answer.number);
+        list_text::refused(answer.number);
     }
 }
 
@@ -83,7 +83,7 @@ fn parts_of(s: &[u8], view: usize) {
 }
 
 fn of_record(s: &[u8]) {
-    print::listing(s);
+    list_text::listing(s);
     let Verdict::Accepted(_, views, _) = judge(s) else {
         return;
     };

@@ -22,14 +22,14 @@ use Rattle.sheet.specs.Grammar.{sheetIn, grammar}
 use Rattle.sheet.specs.Sheet.{recordFrom, readSheet, writes, writing}
 use Rattle.sheet.proofs.Laws.Sheet.{read-sheet}
 use Rattle.sheet.proofs.Laws.Calls.{writing-is}
-use Rattle.fields.specs.Fields.{Fields, NoFields}
-use Rattle.shape.specs.Shape.{Shape}
-use Rattle.values.specs.Sheet.{ValuesThere, RecordRight, RecordWrong}
-use Rattle.rendered.specs.Bytes.{recordBytes}
-use Rattle.rendered.proofs.Laws.Rendered.{rendered}
-use Rattle.locate.specs.Stored.{recordOut}
-use Rattle.to_record.specs.Records.{RecordThere, RecordPut}
-use Rattle.locate.proofs.Laws.Written.{stored-long, written}
+use Rattle.check_fields.specs.Fields.{Fields, NoFields}
+use Rattle.check_shape.specs.Shape.{Shape}
+use Rattle.check_values.specs.Sheet.{ValuesThere, RecordRight, RecordWrong}
+use Rattle.sheet_bytes.specs.Bytes.{recordBytes}
+use Rattle.sheet_bytes.proofs.Laws.Rendered.{rendered}
+use Rattle.find_parts.specs.Stored.{recordOut}
+use Rattle.write_views.specs.Records.{RecordThere, RecordPut}
+use Rattle.find_parts.proofs.Laws.Written.{stored-long, written}
 use Rattle.writing.specs.Judged.{SheetRight, SheetRefused, InOrder}
 
 -- ---- the sheet

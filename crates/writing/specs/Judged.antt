@@ -8,7 +8,7 @@ use Rattle.bits.specs.Codec.{got, refused}
 use Rattle.outcome.specs.Refusals.{badSheet}
 use Rattle.format.specs.Record.{Record, size}
 use Rattle.sheet.specs.Sheet.{readSheet}
-use Rattle.values.specs.Sheet.{ValuesThere}
+use Rattle.check_values.specs.Sheet.{ValuesThere}
 use Rattle.writing.specs.declared.Judged.{Judged}
 use Rattle.writing.specs.declared.Judged.the-variants as judged
 

@@ -3,15 +3,15 @@
 ghost use Rattle.outcome.specs.Outcome.{Answers};
 ghost use Rattle.sheet.specs.Sheet.{writing};
 ghost use Rattle.writing.specs.Judged.{InOrder, SheetIs};
-use fields::whole;
+use check_fields::whole;
+use check_shape::shape;
+use check_values::Valued;
+use check_values::values;
 use format::Header;
 use outcome::Answer;
 use outcome::accept;
 use outcome::refuse;
-use shape::shape;
-use to_record::record::record_out;
-use values::Valued;
-use values::values;
+use write_views::record::record_out;
 
 // The views and the bytes of the sheet's record; or the number of its refusal.
 enum Judged {

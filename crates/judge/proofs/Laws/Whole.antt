@@ -22,8 +22,8 @@ use Rattle.format.specs.View.{View}
 use Rattle.format.specs.Record.{Record, header, views, recordOf, allOf, read}
 use Rattle.format.specs.SheetSize.{viewSize, sheetSize}
 use Rattle.format.specs.declared.Header.{Header}
-use Rattle.heads.specs.Answers.{headerDec}
-use Rattle.views.specs.Views.{viewsDec}
+use Rattle.judge_heads.specs.Answers.{headerDec}
+use Rattle.judge_views.specs.Views.{viewsDec}
 use Rattle.judge.specs.Judge.{Summary, summary, Judges}
 use Rattle.judge.specs.declared.Verdict.{Verdict}
 use Rattle.judge.specs.declared.Verdict.the-variants.{Accepted, Refused}

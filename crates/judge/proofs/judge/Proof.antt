@@ -6,10 +6,10 @@ use lib.ListN.{length}
 use lib.Dec.{T}
 use Rattle.bits.specs.Reads.{Reads, found}
 use Rattle.bits.proofs.Laws.Reads.{known}
-use Rattle.heads.specs.Answers.{headerAt, headerDec}
-use Rattle.blocks.specs.Answers.{reached}
-use Rattle.blocks.specs.declared.Reached.{Reached}
-use Rattle.views.specs.Views.{sheetBytes}
+use Rattle.judge_heads.specs.Answers.{headerAt, headerDec}
+use Rattle.judge_blocks.specs.Answers.{reached}
+use Rattle.judge_blocks.specs.declared.Reached.{Reached}
+use Rattle.judge_views.specs.Views.{sheetBytes}
 use Rattle.judge.proofs.Laws.Whole.{sizeOk, too-short, too-long, size-ok, header-bad, views-bad, left-over, all-read, header-fits}
 use borrow.Author.Needs.{needs}
 use Rattle.judge.proofs.judge.Statement.{statement}

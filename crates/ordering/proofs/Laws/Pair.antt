@@ -21,14 +21,14 @@ use Rattle.orders.specs.Act.{indexed?, near}
 use Rattle.orders.specs.Order.{tests, order}
 use Rattle.orders.proofs.Laws.Accept.{Pass}
 use Rattle.orders.proofs.Laws.Right.{Right}
-use Rattle.survivors.specs.Rank.{Rising}
-use Rattle.locate.proofs.Laws.Blocks.{cut, cut-long, no-index}
-use Rattle.locate.proofs.Laws.Index.{an-index}
-use Rattle.relist.specs.Near.{NearThere, Near}
-use Rattle.rebuild.specs.Rebuilt.{Means}
-use Rattle.rebuild.specs.declared.site.Site.{Site}
-use Rattle.rebuild.proofs.Laws.Acts.{join-means, part-means}
-use Rattle.named.specs.Named.{Sought}
+use Rattle.order_removal.specs.Rank.{Rising}
+use Rattle.find_parts.proofs.Laws.Blocks.{cut, cut-long, no-index}
+use Rattle.find_parts.proofs.Laws.Index.{an-index}
+use Rattle.order_lists.specs.Near.{NearThere, Near}
+use Rattle.order_record.specs.Rebuilt.{Means}
+use Rattle.order_record.specs.declared.site.Site.{Site}
+use Rattle.order_record.proofs.Laws.Acts.{join-means, part-means}
+use Rattle.order_view.specs.Named.{Sought}
 use Rattle.ordering.specs.Orders.{pairAct, pairOrder}
 use Rattle.ordering.proofs.Laws.View.{own-refused}
 

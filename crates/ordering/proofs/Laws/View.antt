@@ -21,16 +21,16 @@ use Rattle.orders.proofs.Laws.Accept.{Pass}
 use Rattle.orders.proofs.Laws.Refuse.{verdict-own, order-refused}
 use Rattle.orders.proofs.Laws.Keep.{allowed-right}
 use Rattle.orders.proofs.Laws.Right.{Right}
-use Rattle.survivors.specs.Rank.{Rising}
-use Rattle.survivors.proofs.Laws.Listed.{lines-rise}
-use Rattle.locate.specs.Stands.{BlockAt}
-use Rattle.locate.proofs.Laws.Blocks.{block-bits, few-lines}
-use Rattle.relist.specs.declared.lists.Change.{Change}
-use Rattle.rebuild.specs.Rebuilt.{Means, Placed}
-use Rattle.rebuild.specs.declared.site.Site.{Site}
-use Rattle.rebuild.proofs.Laws.Acts.{remove-means, keeps}
-use Rattle.named.specs.Named.{Sought}
-use Rattle.carry.specs.Carried.{Tested}
+use Rattle.order_removal.specs.Rank.{Rising}
+use Rattle.order_removal.proofs.Laws.Listed.{lines-rise}
+use Rattle.find_parts.specs.Stands.{BlockAt}
+use Rattle.find_parts.proofs.Laws.Blocks.{block-bits, few-lines}
+use Rattle.order_lists.specs.declared.lists.Change.{Change}
+use Rattle.order_record.specs.Rebuilt.{Means, Placed}
+use Rattle.order_record.specs.declared.site.Site.{Site}
+use Rattle.order_record.proofs.Laws.Acts.{remove-means, keeps}
+use Rattle.order_view.specs.Named.{Sought}
+use Rattle.order_carry.specs.Carried.{Tested}
 use Rattle.ordering.specs.Orders.{removal}
 
 -- ---- segments: an extended length of 0 has none

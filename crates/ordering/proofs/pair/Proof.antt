@@ -1,9 +1,9 @@
 -- The view, then the order on it.
 use mathlib.Core.Path.{refl, subst}
 use Rattle.outcome.proofs.Laws.{answer-refused}
-use Rattle.named.specs.Named.{Sought, Finds}
+use Rattle.order_view.specs.Named.{Sought, Finds}
 use Rattle.ordering.specs.Orders.{pairAct}
-use Rattle.named.specs.declared.Found.{Found}
+use Rattle.order_view.specs.declared.Found.{Found}
 use borrow.Author.Needs.{needs}
 use Rattle.ordering.proofs.pair.Statement.{statement}
 use Rattle.ordering.proofs.pair.Tie as tie

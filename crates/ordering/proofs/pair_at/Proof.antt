@@ -6,9 +6,9 @@ use Rattle.bits.specs.Bytes.{Byte}
 use Rattle.bits.proofs.Laws.Place.{all-bytes}
 use Rattle.outcome.proofs.Laws.{answer-refused}
 use Rattle.format.specs.Places.{viewAt}
-use Rattle.locate.proofs.Laws.Blocks.{cut, few-lines}
-use Rattle.locate.proofs.Laws.Record.{record-apart}
-use Rattle.relist.specs.Near.{Near}
+use Rattle.find_parts.proofs.Laws.Blocks.{cut, few-lines}
+use Rattle.find_parts.proofs.Laws.Record.{record-apart}
+use Rattle.order_lists.specs.Near.{Near}
 use Rattle.ordering.specs.Orders.{pairAct, pairOrder}
 use Rattle.ordering.proofs.Laws.View.{right, few, tested, placed}
 use Rattle.ordering.proofs.Laws.Pair.{none-rise, pair-means, near-there, no-index-there, no-first, no-second, nothing-to-do, pair-passes}

@@ -9,10 +9,10 @@ use Rattle.outcome.proofs.Laws.{answer-refused}
 use Rattle.orders.specs.Listed.{listed}
 use Rattle.orders.specs.Act.{remove}
 use Rattle.orders.specs.Order.{linesOk}
-use Rattle.locate.proofs.Laws.Record.{record-apart}
-use Rattle.named.specs.Named.{Sought, Finds}
+use Rattle.find_parts.proofs.Laws.Record.{record-apart}
+use Rattle.order_view.specs.Named.{Sought, Finds}
 use Rattle.ordering.specs.Orders.{removal}
-use Rattle.named.specs.declared.Found.{Found}
+use Rattle.order_view.specs.declared.Found.{Found}
 use Rattle.ordering.proofs.Laws.View.{tested, placed, bad-lines, rises, has-segments, removal-passes, removal-means}
 use borrow.Author.Needs.{needs}
 use Rattle.ordering.proofs.remove.Statement.{statement}

@@ -1,7 +1,7 @@
 -- The fields, then the grammar over them.
 use mathlib.Core.Path.{_≡_, subst}
 use mathlib.Core.Bool.{Bool}
-use Rattle.fields.specs.Fields.{Whole}
+use Rattle.check_fields.specs.Fields.{Whole}
 use Rattle.writing.proofs.Laws.{cut, in-order}
 use borrow.Author.Needs.{needs}
 use Rattle.writing.proofs.in_order.Statement.{statement}

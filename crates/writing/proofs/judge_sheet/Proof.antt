@@ -3,8 +3,8 @@ use borrow.Author.Tests.{not-true, not-false}
 use native.Mathlib.Omega.{arith}
 use mathlib.Core.Path.{_≡_, subst}
 use mathlib.Core.Bool.{Bool}
-use Rattle.values.specs.Sheet.{ValuesThere, RecordRight, ValuesAre}
-use Rattle.values.specs.declared.Valued.{Valued}
+use Rattle.check_values.specs.Sheet.{ValuesThere, RecordRight, ValuesAre}
+use Rattle.check_values.specs.declared.Valued.{Valued}
 use Rattle.writing.specs.Judged.{InOrder}
 use Rattle.writing.proofs.Laws.{not-right, over, right}
 use borrow.Author.Needs.{needs}

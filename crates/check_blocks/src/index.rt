@@ -1,0 +1,28 @@
+// The values of a view's index: nothing, or the width and a list for each line. The lists are judged at the width, so it comes first.
+ghost use Rattle.check_blocks.specs.Run.{Some};
+ghost use Rattle.check_blocks.specs.Index.{IndexThere, IndexIs};
+use crate::run::Counted;
+use crate::run::list_values;
+use check_shape::starts;
+use check_value::list::WidthWorth;
+use check_value::list::width_value;
+
+// The 04 at byte p and its 05s, if there is one. The answer is the byte behind them, and the bytes of the index block.
+pub fn index_values(s: &[u8], p: usize) -> Counted
+    requires { ⌜ Some (IndexThere (now s) p) ⌝ }
+    ensures { λ r. ⌜ IndexIs (now (s .entry)) p r ⌝ }
+{
+    if !starts(s, p, 4) {
+        return Counted::Right(p, 0);
+    }
+    let from = p + 3;
+    let end = p + 4;
+    let value = &s[from..end];
+    let WidthWorth::Right(w) = width_value(value) else {
+        return Counted::Wrong;
+    };
+    let Counted::Right(next, bits) = list_values(s, end, w) else {
+        return Counted::Wrong;
+    };
+    Counted::Right(next, (8 + bits + 7) / 8)
+}

@@ -1,0 +1,19 @@
+// Segments of an extended block: each is passed by its length.
+ghost use Rattle.find_parts.specs.Finds.{SegmentsThere, SegmentsPassed};
+use crate::Passed;
+use bits::Cursor;
+
+// The first segments of the block s: so many, or all where there are fewer.
+pub fn pass_segments(s: &[u8], most: usize) -> Passed
+    requires { ⌜ SegmentsThere (now s) ⌝ }
+    ensures { λ r. ⌜ SegmentsPassed (now (s .entry)) most r ⌝ }
+{
+    let mut next: usize = 0;
+    let mut count: usize = 0;
+    while count < most && next < s.len() {
+        let size = Cursor { at: 8 * next + 16 }.sure(s, 16);
+        next += size.value;
+        count += 1;
+    }
+    Passed { count, next }
+}

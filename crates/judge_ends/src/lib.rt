@@ -1,0 +1,65 @@
+// The ends of a line, and the zero bits behind the last.
+ghost use Prim.Native.Nat.{ℕ, _*_, _≤_};
+ghost use lib.ListN.{length};
+ghost use Rattle.bits.specs.Block.{zerosDec};
+ghost use Rattle.bits.specs.Reads.{Reads};
+ghost use Rattle.judge_ends.specs.Ends.{ended, cleared, endDec};
+use bits::Cursor;
+use bits::Taken;
+use format::End;
+use format::Widths;
+
+// An end and the cursor behind it, or the place of the field that passes the block's end.
+pub enum Ended {
+    At(End, Cursor),
+    Short(usize),
+}
+
+// All bits are zero, or the place of the first that is not.
+pub enum Cleared {
+    All,
+    One(usize),
+}
+
+pub fn end_at(p: Cursor, s: &[u8], w: Widths) -> Ended
+    requires { ⌜ (length (now s) ≤ 65535) × (p .at ≤ 8 * length (now s)) × (w .b ≤ 8) × (w .c ≤ 16) ⌝ }
+    ensures { λ r. ⌜ Reads (endDec w) (now (s .entry)) (p .at) (ended r) ⌝ }
+{
+    let Taken::Bits(kind, p1) = p.field(s, 2) else {
+        return Ended::Short(p.at);
+    };
+    let Taken::Bits(direction, p2) = p1.field(s, w.b) else {
+        return Ended::Short(p1.at);
+    };
+    let Taken::Bits(x, p3) = p2.field(s, w.c) else {
+        return Ended::Short(p2.at);
+    };
+    let Taken::Bits(y, p4) = p3.field(s, w.c) else {
+        return Ended::Short(p3.at);
+    };
+    Ended::At(
+        End {
+            kind,
+            direction,
+            x,
+            y,
+        },
+        p4,
+    )
+}
+
+// The bits from the cursor to the end of the block.
+pub fn zeros_at(p: Cursor, s: &[u8]) -> Cleared
+    requires { ⌜ (length (now s) ≤ 65535) × (p .at ≤ 8 * length (now s)) ⌝ }
+    ensures { λ r. ⌜ ((e : ℕ) → Reads (zerosDec e) (now (s .entry)) (p .at) (cleared e (now (s .entry)) r)) ⌝ }
+{
+    let mut q = p;
+    while q.at < 8 * s.len() {
+        let bit = q.sure(s, 1);
+        if bit.value != 0 {
+            return Cleared::One(q.at);
+        }
+        q = bit.next;
+    }
+    Cleared::All
+}

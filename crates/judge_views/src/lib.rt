@@ -1,0 +1,117 @@
+// The nest over views, lines and codes. A field that refuses leaves it by one label, from whatever depth.
+ghost use mathlib.Core.Path.{_≡_};
+ghost use Prim.Native.Nat.{_≤_};
+ghost use lib.ListN.{length};
+ghost use Rattle.bits.specs.Reads.{Reads};
+ghost use Rattle.judge_blocks.specs.Answers.{reached};
+ghost use Rattle.judge_views.specs.Views.{viewsDec, sheetBytes};
+use bits::Cursor;
+use bits::Taken;
+use format::ViewHeader;
+use format::Widths;
+use judge_blocks::Reached;
+use judge_blocks::index::index_at;
+use judge_blocks::segments::segments_at;
+use judge_ends::Cleared;
+use judge_ends::Ended;
+use judge_ends::end_at;
+use judge_ends::zeros_at;
+use judge_heads::view::Headed;
+use judge_heads::view::head_at;
+
+// What the nest needs of a view's header: its position, and the length of the skeleton block.
+struct Opened {
+    position: usize,
+    len: usize,
+}
+
+// The views, from byte 24 on; seen counts those of each position, size the bytes in the sheet.
+pub fn judge_views(s: &[u8], w: Widths, count: usize) -> Reached
+    requires { ⌜ (24 ≤ length (now s)) × (length (now s) ≤ 32768) × (count ≤ 255) × (w .b ≤ 8) × (w .c ≤ 16) × (w .k ≤ 8) ⌝ }
+    ensures { λ r. ⌜ Reads (viewsDec w count) (now (s .entry)) 192 (reached r) × (sheetBytes r ≤ 137438953472) ⌝ }
+{
+    let mut answer = Reached::At(0, 0);
+    let mut seen = [0u8; 11];
+    let mut a: usize = 24;
+    let mut size: usize = 0;
+    let mut v: usize = 0;
+    'views: while v < count {
+        let head = match head_at(s, a, &seen) {
+            Headed::At(h, len) => Opened {
+                position: h.position,
+                len,
+            },
+            Headed::Refused(e, p) => {
+                answer = Reached::Refused(e, p);
+                break 'views;
+            }
+        };
+        let len = head.len;
+        let b = a + 10;
+        if s.len() - b < len {
+            answer = Reached::Refused(6, 8 * b);
+            break 'views;
+        }
+        let e = b + len;
+        let block = &s[b..e];
+        let end = 8 * block.len();
+        let mut p = Cursor::start();
+        let mut lines: usize = 0;
+        let mut n: usize = 0;
+        while 8 <= end - p.at {
+            let place = 8 * b + p.at;
+            if n == ViewHeader::MOST_LINES {
+                answer = Reached::Refused(9, place);
+                break 'views;
+            }
+            let Ended::At(_, p1) = end_at(p, block, w) else {
+                answer = Reached::Refused(8, place);
+                break 'views;
+            };
+            let Taken::Bits(codes, p2) = p1.field(block, 8) else {
+                answer = Reached::Refused(8, place);
+                break 'views;
+            };
+            p = p2;
+            let mut i: usize = 0;
+            while i < codes {
+                let Taken::Bits(_, p3) = p.field(block, w.k) else {
+                    answer = Reached::Refused(8, place);
+                    break 'views;
+                };
+                p = p3;
+                i = i + 1;
+            }
+            let Ended::At(_, p4) = end_at(p, block, w) else {
+                answer = Reached::Refused(8, place);
+                break 'views;
+            };
+            p = p4;
+            lines = lines + (15 + codes);
+            n = n + 1;
+        }
+        if let Cleared::One(q) = zeros_at(p, block) {
+            answer = Reached::Refused(8, 8 * b + q);
+            break 'views;
+        }
+        let index = index_at(s, e, n);
+        let Reached::At(f, lists) = index else {
+            answer = index;
+            break 'views;
+        };
+        let segments = segments_at(s, f);
+        let Reached::At(g, payloads) = segments else {
+            answer = segments;
+            break 'views;
+        };
+        let position = head.position;
+        seen[position] = seen[position] + 1;
+        size = size + (11 + lines + lists + payloads);
+        a = g;
+        v = v + 1;
+    }
+    match answer {
+        Reached::At(_, _) => Reached::At(a, size),
+        Reached::Refused(x, q) => Reached::Refused(x, q),
+    }
+}

@@ -1,0 +1,144 @@
+-- The view is there, and code finds its header and its blocks; each count is that of what its block reads as.
+use native.Mathlib.Omega.{arith}
+use Rattle.bits.specs.Lists.{All}
+use Rattle.bits.specs.Bytes.{Byte}
+use Rattle.bits.proofs.Laws.Place.{all-bytes}
+use Rattle.outcome.specs.Refusals.{badView}
+use Rattle.find_parts.proofs.Laws.Blocks.{blocks-there, segments-there, behind-is}
+use Rattle.list_numbers.proofs.Laws.Listing.{head-there, lines-at, index-at, segments-at, lines-there, index-there, listed-is}
+use Rattle.list_numbers.proofs.listed_at.Statement.{statement}
+use Rattle.list_numbers.proofs.listed_at.Tie as tie
+
+bytes : (c : tie.After-shared-slice-known) → All Byte (c .before .args .s .now)
+bytes c = all-bytes (c .before .args .s .now) (λ i. c .shared-slice-known .given i .fits)
+
+mul-count-pairs : tie.Need-mul-count-pairs
+mul-count-pairs c =
+    omega (arith, c .before .pre .short, head-there (c .before .pre))
+
+sure-requires : tie.Need-sure-requires
+sure-requires c κs =
+    (omega (arith, c .before .pre .short), omega arith, omega (arith, head-there (c .before .pre)))
+
+mul-count-pairs-2 : tie.Need-mul-count-pairs-2
+mul-count-pairs-2 c =
+    omega (arith, c .before .before .pre .short, head-there (c .before .before .pre))
+
+add-count-pairs : tie.Need-add-count-pairs
+add-count-pairs c =
+    omega (arith, c .before .before .pre .short, head-there (c .before .before .pre))
+
+sure-requires-2 : tie.Need-sure-requires-2
+sure-requires-2 c κs =
+    (omega (arith, c .before .before .pre .short), omega arith, omega (arith, head-there (c .before .before .pre)))
+
+add-head : tie.Need-add-head
+add-head c =
+    omega (arith, c .before .before .before .pre .short, head-there (c .before .before .before .pre))
+
+blocks-at-requires : tie.Need-blocks-at-requires
+blocks-at-requires c κs =
+    blocks-there (c .before .before .before .pre .short) (c .before .before .before .pre .at)
+
+add-skeleton : tie.Need-add-skeleton
+add-skeleton c =
+    omega (arith, c .before .before .before .before .pre .short, head-there (c .before .before .before .before .pre))
+
+sub-pass-lines : tie.Need-sub-pass-lines
+sub-pass-lines c =
+    let here = lines-at (c .before .before .before .before .pre) (c .blocks-at .ensures) in omega (arith, here .from, here .within)
+
+part-pass-lines-start : tie.Need-part-pass-lines-start
+part-pass-lines-start c =
+    let here = lines-at (c .before .before .before .before .pre) (c .blocks-at .ensures) in omega (arith, here .from, here .within)
+
+part-pass-lines-end : tie.Need-part-pass-lines-end
+part-pass-lines-end c =
+    let here = lines-at (c .before .before .before .before .pre) (c .blocks-at .ensures) in omega (arith, here .from, here .within)
+
+pass-lines-requires : tie.Need-pass-lines-requires
+pass-lines-requires c κs =
+    lines-there (c .before .before .before .before .before .pre) (c .before .blocks-at .ensures)
+
+add-index : tie.Need-add-index
+add-index c =
+    let here = index-at (c .before .before .before .before .before .before .pre) (c .before .before .blocks-at .ensures) in omega (arith, c .before .before .before .before .before .before .pre .short, here .from, here .within)
+
+sub-count-pairs : tie.Need-sub-count-pairs
+sub-count-pairs c =
+    let here = index-at (c .before .before .before .before .before .before .pre) (c .before .before .blocks-at .ensures) in omega (arith, c .before .before .before .before .before .before .pre .short, here .from, here .within)
+
+part-count-pairs-start : tie.Need-part-count-pairs-start
+part-count-pairs-start c =
+    let here = index-at (c .before .before .before .before .before .before .pre) (c .before .before .blocks-at .ensures) in omega (arith, c .before .before .before .before .before .before .pre .short, here .from, here .within)
+
+part-count-pairs-end : tie.Need-part-count-pairs-end
+part-count-pairs-end c =
+    let here = index-at (c .before .before .before .before .before .before .pre) (c .before .before .blocks-at .ensures) in omega (arith, c .before .before .before .before .before .before .pre .short, here .from, here .within)
+
+count-pairs-requires : tie.Need-count-pairs-requires
+count-pairs-requires c κs =
+    index-there (c .before .before .before .before .before .before .before .pre) (c .before .before .before .blocks-at .ensures) (c .before .pass-lines .ensures)
+
+add-extended : tie.Need-add-extended
+add-extended c =
+    let here = segments-at (c .before .before .before .before .before .before .before .before .pre) (c .before .before .before .before .blocks-at .ensures) in omega (arith, c .before .before .before .before .before .before .before .before .pre .short, here .from, here .within)
+
+sub-pass-segments : tie.Need-sub-pass-segments
+sub-pass-segments c =
+    let here = segments-at (c .before .before .before .before .before .before .before .before .pre) (c .before .before .before .before .blocks-at .ensures) in omega (arith, c .before .before .before .before .before .before .before .before .pre .short, here .from, here .within)
+
+part-pass-segments-start : tie.Need-part-pass-segments-start
+part-pass-segments-start c =
+    let here = segments-at (c .before .before .before .before .before .before .before .before .pre) (c .before .before .before .before .blocks-at .ensures) in omega (arith, c .before .before .before .before .before .before .before .before .pre .short, here .from, here .within)
+
+part-pass-segments-end : tie.Need-part-pass-segments-end
+part-pass-segments-end c =
+    let here = segments-at (c .before .before .before .before .before .before .before .before .pre) (c .before .before .before .before .blocks-at .ensures) in omega (arith, c .before .before .before .before .before .before .before .before .pre .short, here .from, here .within)
+
+sub-pass-segments-2 : tie.Need-sub-pass-segments-2
+sub-pass-segments-2 c =
+    let here = segments-at (c .before .before .before .before .before .before .before .before .before .pre) (c .before .before .before .before .before .blocks-at .ensures) in omega (arith, c .before .before .before .before .before .before .before .before .before .pre .short, here .from, here .within)
+
+pass-segments-requires : tie.Need-pass-segments-requires
+pass-segments-requires c κs =
+    segments-there (blocks-there (c .before .before .before .before .before .before .before .before .before .pre .short) (c .before .before .before .before .before .before .before .before .before .pre .at)) (c .before .before .before .before .before .blocks-at .ensures)
+
+returns : tie.Need-returns
+returns c =
+    record {
+      is = λ v at. (
+        listed-is (bytes (c .before .before .before .before .before .before .before .before .before)) at (c .before .before .before .before .before .before .blocks-at .ensures) (c .before .before .before .before .before .before .before .before .sure .ensures .0 badView) (c .before .before .before .before .before .before .before .sure2 .ensures .0 badView)
+            (c .before .before .before .before .pass-lines .ensures) (c .before .before .count-pairs .ensures) (c .pass-segments .ensures),
+        behind-is (at .blocks) (c .before .before .before .before .before .before .blocks-at .ensures),
+      );
+    }
+
+pub listed-at-spec : {M : Type 1} → statement M
+listed-at-spec =
+    tie.close
+    (tie.spec
+    mul-count-pairs
+    sure-requires
+    mul-count-pairs-2
+    add-count-pairs
+    sure-requires-2
+    add-head
+    blocks-at-requires
+    add-skeleton
+    sub-pass-lines
+    part-pass-lines-start
+    part-pass-lines-end
+    pass-lines-requires
+    add-index
+    sub-count-pairs
+    part-count-pairs-start
+    part-count-pairs-end
+    count-pairs-requires
+    add-extended
+    sub-pass-segments
+    part-pass-segments-start
+    part-pass-segments-end
+    sub-pass-segments-2
+    pass-segments-requires
+    returns)

@@ -1,0 +1,28 @@
+// An order that has passed its own tests, carried out: the new record is measured, held against 32,768 bytes and the lent room, and
+// only then written.
+ghost use Rattle.order_record.specs.Rebuilt.{Placed};
+ghost use Rattle.order_carry.specs.Carried.{CarriedOut};
+use format::Header;
+use order_lists::lists::Change;
+use order_record::measure::measure;
+use order_record::put::put;
+use order_record::site::Site;
+use outcome::Answer;
+use outcome::accept;
+use outcome::refuse;
+
+// 19, 20, and the new record.
+pub fn carry_out(bytes: &[u8], site: Site, change: Change, removal: &[u8], out: &mut [u8]) -> Answer
+    requires { ⌜ Placed (now bytes) site change (now removal) ⌝ }
+    ensures { λ r. ⌜ CarriedOut (now (bytes .entry)) site change (now (removal .entry)) (now (out .entry)) (now (out .exit)) r ⌝ }
+{
+    let sizes = measure(bytes, site, change, removal);
+    if Header::MOST_BYTES < sizes.bytes {
+        return refuse(19);
+    }
+    if out.len() < sizes.bytes {
+        return refuse(20);
+    }
+    let length = put(out, bytes, site, change, removal, sizes);
+    accept(length)
+}

@@ -1,0 +1,155 @@
+-- The index block: what stands in it before the order, and how long it is and what is put after it.
+use mathlib.Core.Path.{_≡_, sym, ap, _∙_}
+use Prim.Native.Nat.{ℕ, suc, _+_, _*_, _/_, _≤_}
+use native.Mathlib.Omega.{arith}
+use native.Mathlib.Nat.{add-mul, mul-le-mul-left}
+use mathlib.Core.Option.{some}
+use mathlib.Core.List.{List, [], _∷_}
+use lib.ListN.{length}
+use Rattle.bits.specs.Lists.{Along, total}
+use Rattle.bits.specs.Bits.{Bits, bitsOfNumber}
+use Rattle.bits.specs.BitsLaws.{length-bits}
+use Rattle.bits.specs.Bytes.{bitsOf, inBytes}
+use Rattle.bits.specs.Codec.{got, fieldDec}
+use Rattle.bits.specs.CodecLaws.{encAlong}
+use Rattle.bits.specs.Reads.{found, Reads}
+use Rattle.outcome.specs.Refusals.{badIndex}
+use Rattle.put_bytes.specs.Laid.{Laid}
+use Rattle.format.specs.Limits.{mostLines}
+use Rattle.format.specs.Differences.{Falls}
+use Rattle.format.specs.DifferencesLaws.{falls-count}
+use Rattle.format.specs.Index.{Index, FitsIndex, neighbours, up, indexBlock}
+use Rattle.find_parts.proofs.Laws.Standing.{stands-behind, stands-within}
+use Rattle.find_parts.proofs.Laws.Blocks.{block-long}
+use Rattle.find_parts.proofs.Laws.Lists.{along-long, list-bits}
+use Rattle.find_parts.proofs.Laws.Index.{IndexAt, index-at, width-is, index-enc, index-long}
+use Rattle.put_bits.specs.Put.{PutMore, Puts, Room}
+use Rattle.put_bits.proofs.Laws.{put-none, put-laid}
+use Rattle.orders.specs.Least.{find, maxOf, numbersFrom, leastWidth, indexOf}
+use Rattle.orders.proofs.Laws.Least.{least-fits}
+use Rattle.order_lists.specs.Lists.{ListsAt, ListsNumbered, ListsPut}
+use Rattle.order_lists.specs.Index.{left, IndexSized, IndexPut}
+use Rattle.order_lists.specs.declared.lists.Change.{Change}
+use Rattle.order_lists.specs.declared.lists.Totals.{Totals}
+
+-- ---- the block before
+
+module _ (s : List ℕ) (lines : ℕ) {i : Index} {u : Bits} (e : indexBlock lines .dec (bitsOf s) ≡ got (some i) u) where
+  pub before : IndexAt lines s i
+  before = index-at lines s e
+
+  abbrev first : Bits
+  first = bitsOfNumber 8 (i .width)
+
+  pub width-there : 8 ≤ 8 * length s
+  width-there = omega (arith, stands-within s 0 first _ (before .bits) (omega arith), length-bits 8 (i .width))
+
+  pub width-narrow : i .width ≤ 16
+  width-narrow = before .fits .high
+
+  pub as-many : length (i .lists) ≡ lines
+  as-many = before .fits .count
+
+  pub lists-stand : ListsAt (i .width) s 0 8 (i .lists) (before .after)
+  lists-stand =
+      record { bits = stands-behind s 0 first _ (before .bits) 8 (length-bits 8 (i .width)); fits = before .fits .lists; within = width-there }
+
+-- ---- the block after
+
+-- so many numbers of w bits: a count and its differences for each list
+entries-long : (w : ℕ) (ls : List (List ℕ)) → total (λ ns. w + length ns * w) ls ≡ (length ls + total length ls) * w
+entries-long w [] = omega arith
+entries-long w (ns ∷ ls) =
+    let x : ℕ = length ls + total length ls in
+    let z : suc (length ls) + (length ns + total length ls) ≡ suc (length ns) + x = omega arith in
+    omega (arith, entries-long w ls, ap (λ (n : ℕ). n * w) z, add-mul (suc (length ns)) x w, add-mul 1 (length ns) w)
+
+lists-long : (w : ℕ) (ls : List (List ℕ)) → length (encAlong (neighbours w) up 0 ls) ≡ (length ls + total length ls) * w
+lists-long w ls = along-long (neighbours w) up (λ ns. w + length ns * w) (list-bits w) 0 ls ∙ entries-long w ls
+
+module _ (ls : List (List ℕ)) where
+  abbrev w : ℕ
+  w = leastWidth ls
+
+  pub new-long : length (inBytes (indexBlock 0 .enc (some (indexOf ls)))) ≡ (8 + (length ls + total length ls) * w + 7) / 8
+  new-long = omega (arith, block-long (indexBlock 0) (some (indexOf ls)), index-long 0 (indexOf ls), lists-long w ls)
+
+  -- room for the block is room for its lists
+  pub block-room : {out : List ℕ} → length (inBytes (indexBlock 0 .enc (some (indexOf ls)))) ≤ 65535
+      → length (inBytes (indexBlock 0 .enc (some (indexOf ls)))) ≤ length out → Room out 8 (length (encAlong (neighbours w) up 0 ls))
+  block-room s r = record { room = omega (arith, new-long, lists-long w ls); near = omega (arith, new-long, lists-long w ls) }
+
+  pub least-right : Along up (Falls 0) 0 ls → length ls ≤ 1024 → FitsIndex (length ls) (indexOf ls)
+  unfolding mostLines
+  least-right f n = least-fits ls n f
+
+  least-is : {m r : ℕ} → m ≡ maxOf (numbersFrom 0 ls) → r ≡ find 15 1 m → r ≡ w
+  unfolding leastWidth
+  least-is e f = f ∙ ap (find 15 1) e
+
+  block-laid : {old mid now : List ℕ} {p q r : ℕ} → PutMore old 0 w 8 mid p → Puts (encAlong (neighbours w) up 0 ls) mid p now q → r ≡ (q + 7) / 8
+      → Laid (inBytes (indexBlock 0 .enc (some (indexOf ls)))) old now r
+  block-laid {old} h P e = rw (index-enc 0 (indexOf ls)) (put-laid (P .is (bitsOfNumber 8 w) old (h .is [] old (put-none old))) e)
+
+  -- ---- how much there is
+
+  few-entries : Along up (Falls 0) 0 ls → length ls ≤ 1024 → total length ls ≤ 1025 * 1024
+  few-entries f n = omega (arith, go 0 ls (omega arith) f)
+    where
+      go : (l : ℕ) (ks : List (List ℕ)) → l + length ks ≤ 1024 → Along up (Falls 0) l ks → total length ks ≤ 1025 * length ks
+      go l [] n f = omega arith
+      go l (ns ∷ ks) n f = omega (arith, falls-count 0 l ns (omega arith) (f .0), go (suc l) ks (omega arith) (f .1))
+
+  pub small-block : Along up (Falls 0) 0 ls → length ls ≤ 1024 → (length ls + total length ls) * w ≤ 16 * (1024 + 1025 * 1024)
+  small-block f n =
+      let x : ℕ = length ls + total length ls in
+      omega (arith, mul-le-mul-left x (least-right f n .high), few-entries f n)
+
+-- ---- the answers of the code
+
+module _ (s : List ℕ) (lines : ℕ) (ch : Change) (removal : List ℕ) {v q : ℕ} (h : Reads (fieldDec badIndex 8) s 0 (found v q)) where
+  module _ {t : Totals} (N : ListsNumbered v s lines ch removal t) where
+    totals : {i : Index} {u : Bits} → indexBlock lines .dec (bitsOf s) ≡ got (some i) u → Along up (Falls 0) 0 (left removal ch i)
+        → (t .lists ≡ length (left removal ch i)) × (t .entries ≡ total length (left removal ch i)) × (t .most ≡ maxOf (numbersFrom 0 (left removal ch i)))
+    totals {i} e f = rw (width-is lines s e h) at N .is (i .lists) (before s lines e .after) (lists-stand s lines e) (as-many s lines e) f
+
+    module _ {i : Index} {u : Bits} (e : indexBlock lines .dec (bitsOf s) ≡ got (some i) u) (f : Along up (Falls 0) 0 (left removal ch i)) (n : length (left removal ch i) ≤ 1024) where
+      pub sizes-small : (t .lists ≤ 1024) × (t .entries ≤ 1025 * 1024)
+      sizes-small = let (a, b, c) = totals e f in (omega (arith, a), omega (arith, b, few-entries (left removal ch i) f n))
+
+      pub product-small : {width : ℕ} → width ≡ find 15 1 (t .most) → (t .lists + t .entries) * width ≤ 16 * (1024 + 1025 * 1024)
+      product-small k =
+          let (a, b, c) = totals e f in
+          let x = least-is (left removal ch i) c k in
+          rw (a, b, x) (small-block (left removal ch i) f n)
+
+    pub sized : {width : ℕ} → width ≡ find 15 1 (t .most) → IndexSized s lines ch removal (record { width = width; bytes = (8 + (t .lists + t .entries) * width + 7) / 8 })
+    sized k =
+        record {
+          is = λ i u e f n.
+              let (a, b, c) = totals e f in
+              let x = least-is (left removal ch i) c k in
+              (x, rw (a, b, x) (sym (new-long (left removal ch i))));
+        }
+
+  lists-are : {width : ℕ} {i : Index} {u : Bits} {mid now : List ℕ} {at p : ℕ} → indexBlock lines .dec (bitsOf s) ≡ got (some i) u → width ≡ leastWidth (left removal ch i)
+      → Along up (Falls 0) 0 (left removal ch i) → length (left removal ch i) ≤ 1024 → ListsPut v s lines ch removal width mid at now p
+      → Puts (encAlong (neighbours (leastWidth (left removal ch i))) up 0 (left removal ch i)) mid at now p
+  lists-are {i = i} e x f n L =
+      rw (width-is lines s e h, x) at L .is (i .lists) (before s lines e .after) (lists-stand s lines e) (as-many s lines e) (least-right (left removal ch i) f n .lists)
+
+  pub put-end : {width : ℕ} {i : Index} {u : Bits} {mid now : List ℕ} {at p : ℕ} → indexBlock lines .dec (bitsOf s) ≡ got (some i) u → width ≡ leastWidth (left removal ch i)
+      → Along up (Falls 0) 0 (left removal ch i) → length (left removal ch i) ≤ 1024 → ListsPut v s lines ch removal width mid at now p
+      → p ≡ at + length (encAlong (neighbours (leastWidth (left removal ch i))) up 0 (left removal ch i))
+  put-end e x f n L = lists-are e x f n L .place
+
+  pub put-index : {width : ℕ} {i : Index} {u : Bits} {old mid now : List ℕ} {at p r : ℕ} → indexBlock lines .dec (bitsOf s) ≡ got (some i) u → width ≡ leastWidth (left removal ch i)
+      → PutMore old 0 width 8 mid at → ListsPut v s lines ch removal width mid at now p → r ≡ (p + 7) / 8 → IndexPut s lines ch removal old now r
+  put-index {i = i} d k m L z =
+      record {
+        is = λ j u e f n.
+            let y : i ≡ j = let y : got (some i) _ ≡ got (some j) u = sym d ∙ e in cc in
+            let x = k ∙ ap (λ (x : Index). leastWidth (left removal ch x)) y in
+            let P = lists-are e x f n L in
+            block-laid (left removal ch j) (rw x at m) P z;
+      }

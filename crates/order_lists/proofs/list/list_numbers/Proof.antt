@@ -1,0 +1,108 @@
+-- Line by line. The invariant holds of whatever lines the list has: those that stay are counted so far, the others are to come.
+use native.Mathlib.Omega.{arith}
+use mathlib.Core.Path.{_≡_, subst}
+use Prim.Native.Nat.{_+_, _-_, _≤_}
+use mathlib.Core.Bool.{not}
+use lib.Dec.{T}
+use Rattle.orders.specs.Listed.{listed}
+use Rattle.order_removal.specs.Rank.{below}
+use Rattle.order_lists.specs.Walk.{gone, Fares}
+use Rattle.order_lists.specs.List.{become}
+use Rattle.order_lists.specs.declared.walk.Fate.{Fate}
+use Rattle.order_lists.proofs.Laws.List.{Measuring, MeasuringAll, measuring-first, measuring-gone, next-falls, measuring-stays, measured}
+use borrow.Author.Needs.{needs}
+use Rattle.order_lists.proofs.list.list_numbers.Statement.{statement}
+use Rattle.order_lists.proofs.list.list_numbers.Tie as tie
+
+abbrev Inv-loop : tie.InvT-loop
+Inv-loop s w low drop lines l k₀ before₀ count₀ most₀ k before count most =
+    (count + (k .left + k .waiting) ≤ 65536) × MeasuringAll w s low drop lines l k₀ k before count most
+
+abbrev μ-loop : tie.MeasureT-loop
+μ-loop s w low drop lines l k₀ before₀ count₀ most₀ k before count most =
+    k .left + k .waiting
+
+going : (c : tie.At-loop Inv-loop μ-loop) → Measuring (c .before .before .before .args .w) (c .before .before .before .args .s .now) (c .before .before .before .args .low) (c .before .before .before .args .drop) (c .before .before .before .args .lines .now) (become (c .before .before .before .args .from) (c .before .before .before .args .low) (c .before .before .before .args .drop) (c .before .before .before .args .lines .now) (c .before .before .before .pre .value)) (c .before .before .before .args .l) (c .loop .k) (c .before .before .before .pre .behind) (c .loop .before) (c .loop .count) (c .loop .most)
+going c = let p = c .before .before .before .pre in c .loop .inv .1 (p .value) (p .behind) (p .at) (p .falls)
+
+fares : (c : tie.After-fate-of Inv-loop μ-loop) (r : Fate) → c .fate-of .result ≡ r → Fares (listed (c .before .before .before .before .before .before .before .before .args .lines .now)) (c .before .before .before .before .before .before .before .before .args .drop) (c .before .before .step-on .result .line) r
+fares c r e = subst (λ (x : Fate). Fares (listed (c .before .before .before .before .before .before .before .before .args .lines .now)) (c .before .before .before .before .before .before .before .before .args .drop) (c .before .before .step-on .result .line) x) e (c .fate-of .ensures)
+
+stays : (c : tie.After-line Inv-loop μ-loop) → T (not (gone (listed (c .before .before .before .before .before .before .before .before .before .before .args .lines .now)) (c .before .before .before .before .before .before .before .before .before .before .args .drop) (c .before .before .before .before .step-on .result .line))) × (c .line .given .0 .0 ≡ c .before .before .before .before .step-on .result .line - below (listed (c .before .before .before .before .before .before .before .before .before .before .args .lines .now)) (c .before .before .before .before .step-on .result .line))
+stays c = fares (c .before .before) _ (c .line .given .1)
+
+loop-holds : tie.Need-loop-holds Inv-loop μ-loop
+loop-holds c =
+    (omega (arith, c .before .before .pre .few, c .before .before .pre .at .one), measuring-first)
+
+add-if1 : tie.Need-add-if1 Inv-loop μ-loop
+add-if1 c =
+    omega (arith, c .before .loop .inv .0)
+
+step-on-requires : tie.Need-step-on-requires Inv-loop μ-loop
+step-on-requires c κs =
+    let p = c .before .before .before .before .before .pre in
+    let m = going (c .before .before) in
+    record { narrow = p .narrow; short = p .short; more = omega (arith, c .if1 .taken); lines = m .ms; behind = p .behind; at = m .at }
+
+fate-of-requires : tie.Need-fate-of-requires Inv-loop μ-loop
+fate-of-requires c κs =
+    c .before .before .before .before .before .before .before .pre .rising
+
+enum-known-line : tie.Need-enum-known-line Inv-loop μ-loop
+enum-known-line c = search needs
+
+enum-told : tie.Need-enum-told Inv-loop μ-loop
+enum-told c = search needs
+
+loop-less : tie.Need-loop-less Inv-loop μ-loop
+loop-less c =
+    c .before .before .before .before .step-on .ensures .less
+
+loop-again : tie.Need-loop-again Inv-loop μ-loop
+loop-again c =
+    (omega (arith, c .before .before .before .before .before .before .before .loop .inv .0, c .before .before .before .before .step-on .ensures .less), measuring-gone (c .before .before .before .before .before .before .before .loop .inv .1) (c .before .before .before .before .step-on .ensures) (fares (c .before .before) _ (c .enum-told .given .1)))
+
+sub-larger : tie.Need-sub-larger Inv-loop μ-loop
+sub-larger c =
+    omega (arith, next-falls (c .before .before .before .before .before .before .before .before .loop .inv .1) (c .before .before .before .before .before .step-on .ensures) (c .before .line .given .0 .0) (stays (c .before) .1) (stays (c .before) .0) (going (c .before .before .before .before .before .before .before .before)))
+
+larger-requires : tie.Need-larger-requires Inv-loop μ-loop
+larger-requires c κs = search needs
+
+add-count : tie.Need-add-count Inv-loop μ-loop
+add-count c =
+    omega (arith, c .before .before .before .before .before .before .before .before .before .loop .inv .0, c .before .before .before .before .before .before .before .if1 .taken)
+
+loop-less-2 : tie.Need-loop-less-2 Inv-loop μ-loop
+loop-less-2 c =
+    c .before .before .before .before .before .before .step-on .ensures .less
+
+loop-again-2 : tie.Need-loop-again-2 Inv-loop μ-loop
+loop-again-2 c =
+    (omega (arith, c .before .before .before .before .before .before .before .before .before .loop .inv .0, c .before .before .before .before .before .before .step-on .ensures .less), measuring-stays (c .before .before .before .before .before .before .before .before .before .loop .inv .1) (c .before .before .before .before .before .before .step-on .ensures) (c .before .before .line .given .0 .0) (stays (c .before .before) .1) (stays (c .before .before) .0) (c .larger .ensures))
+
+returns : tie.Need-returns Inv-loop μ-loop
+returns c =
+    measured (c .before .before .loop .inv .1) (omega (arith, c .if1 .left))
+
+pub list-numbers-spec : {M : Type 1} → statement M
+list-numbers-spec =
+    tie.close
+    (tie.spec
+    Inv-loop
+    μ-loop
+    loop-holds
+    add-if1
+    step-on-requires
+    fate-of-requires
+    enum-known-line
+    enum-told
+    loop-less
+    loop-again
+    sub-larger
+    larger-requires
+    add-count
+    loop-less-2
+    loop-again-2
+    returns)

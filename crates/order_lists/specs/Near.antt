@@ -1,0 +1,57 @@
+-- Whether a line is in another's list: what the code that finds the list and looks through it asks and answers.
+use mathlib.Core.Path.{_≡_}
+use Prim.Native.Nat.{ℕ, _≤_, _<_}
+use mathlib.Core.Bool.{Bool}
+use mathlib.Core.Option.{some}
+use mathlib.Core.List.{List, []}
+use lib.ListN.{length, getD}
+use Rattle.bits.specs.Bits.{Bits}
+use Rattle.bits.specs.Bytes.{bitsOf}
+use Rattle.bits.specs.Codec.{got}
+use Rattle.format.specs.Index.{Index, indexBlock}
+use Rattle.orders.specs.Survive.{elem}
+use Rattle.order_lists.specs.Walk.{WalkAt}
+use Rattle.order_lists.specs.Lists.{ListsAt}
+use Rattle.order_lists.specs.declared.walk.Walk.{Walk}
+
+-- ---- one list
+
+pub record HasThere (w : ℕ) (s : List ℕ) (k : Walk) : Type 0 where
+  pub narrow : w ≤ 16
+  pub short : length s ≤ 65535
+  pub none : k .waiting ≡ 0
+  pub value : List ℕ
+  pub behind : Bits
+  pub at : WalkAt w s k value behind
+
+pub record Has (w : ℕ) (s : List ℕ) (k : Walk) (low : ℕ) (r : Bool) : Type 0 where
+  pub is : (ns : List ℕ) (u : Bits) → WalkAt w s k ns u → r ≡ elem low ns
+
+-- ---- a line's list
+
+pub record FindThere (w : ℕ) (s : List ℕ) (line : ℕ) : Type 0 where
+  pub narrow : w ≤ 16
+  pub short : length s ≤ 65535
+  pub value : List (List ℕ)
+  pub behind : Bits
+  pub at : ListsAt w s 0 8 value behind
+  pub there : line < length value
+  pub few : length value ≤ 1024
+
+pub record FoundAt (w : ℕ) (s : List ℕ) (line : ℕ) (r : Walk) : Type 0 where
+  pub none : r .waiting ≡ 0
+  pub is : (ls : List (List ℕ)) (u : Bits) → ListsAt w s 0 8 ls u → line < length ls → (v : Bits) × WalkAt w s r (getD ls line []) v
+
+-- ---- the index block, of a view with so many lines
+
+pub record NearThere (s : List ℕ) (high : ℕ) : Type 0 where
+  pub short : length s ≤ 65535
+  pub lines : ℕ
+  pub few : lines ≤ 1024
+  pub below : high < lines
+  pub value : Index
+  pub behind : Bits
+  pub reads : indexBlock lines .dec (bitsOf s) ≡ got (some value) behind
+
+pub record Near (s : List ℕ) (high low : ℕ) (r : Bool) : Type 0 where
+  pub is : (lines : ℕ) (i : Index) (u : Bits) → indexBlock lines .dec (bitsOf s) ≡ got (some i) u → high < lines → r ≡ elem low (getD (i .lists) high [])

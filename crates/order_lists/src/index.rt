@@ -1,0 +1,46 @@
+// The index block after an order: its width and size first, and then the block, put at that width.
+ghost use Rattle.order_lists.specs.Index.{IndexThere, IndexSized, IndexPutThere, IndexPut};
+use crate::lists::Change;
+use crate::lists::lists_numbers;
+use crate::lists::lists_put;
+use crate::width::least_width;
+use bits::Cursor;
+use put_bits::put_bits;
+
+// The width of the new index, and the bytes of its block.
+pub struct Size {
+    pub width: usize,
+    pub bytes: usize,
+}
+
+// Of the index block s of a view with so many lines.
+pub fn index_size(s: &[u8], lines: usize, change: Change, removal: &[u8]) -> Size
+    requires { ⌜ IndexThere (now s) lines change (now removal) ⌝ }
+    ensures { λ r. ⌜ IndexSized (now (s .entry)) lines change (now (removal .entry)) r ⌝ }
+{
+    let w = Cursor::start().sure(s, 8);
+    let totals = lists_numbers(s, w.value, lines, change, removal);
+    let width = least_width(totals.most);
+    Size {
+        width,
+        bytes: (8 + (totals.lists + totals.entries) * width + 7) / 8,
+    }
+}
+
+// The new index block at this width, at the start of the output; the answer is its bytes.
+pub fn index_put(
+    out: &mut [u8],
+    s: &[u8],
+    lines: usize,
+    change: Change,
+    removal: &[u8],
+    width: usize,
+) -> usize
+    requires { ⌜ IndexPutThere (now s) lines change (now removal) width (now out) ⌝ }
+    ensures { λ r. ⌜ IndexPut (now (s .entry)) lines change (now (removal .entry)) (now (out .entry)) (now (out .exit)) r ⌝ }
+{
+    let w = Cursor::start().sure(s, 8);
+    let at = put_bits(out, 0, width, 8);
+    let end = lists_put(out, at, s, w.value, lines, change, removal, width);
+    (end + 7) / 8
+}

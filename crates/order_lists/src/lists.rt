@@ -1,0 +1,148 @@
+// The lists of an index after an order, one behind the other: measured, or put at a width. Line by line the block's list is found, and
+// passed where the removal names its line.
+ghost use mathlib.Core.Path.{_≡_};
+ghost use Rattle.order_lists.specs.Lists.{waits, leaves, EntryThere, EntryAt, ListsThere, ListsNumbered, ListsPutThere, ListsPut};
+use crate::list::larger;
+use crate::list::list_numbers;
+use crate::list::list_put;
+use crate::walk::Walk;
+use bits::Cursor;
+use order_removal::rank_of;
+
+// What an order changes in the list of line `high`: line `low` is put in, or it is left out. A removal changes no list so, and its
+// `high` is no line.
+pub struct Change {
+    pub high: usize,
+    pub low: usize,
+    pub joins: bool,
+}
+
+// The lists: how many they are, how many neighbours they have, and the largest count or difference.
+pub struct Totals {
+    pub lists: usize,
+    pub entries: usize,
+    pub most: usize,
+}
+
+// A list that is found: the walk along it, and where the next list starts.
+pub struct Entry {
+    pub walk: Walk,
+    pub next: usize,
+}
+
+// How many lines are to be put into line l's list: one or none.
+fn waiting_at(change: Change, l: usize) -> usize
+    ensures { λ r. ⌜ r ≡ waits change l ⌝ }
+{
+    if l != change.high {
+        return 0;
+    }
+    if change.joins { 1 } else { 0 }
+}
+
+// The line that line l's list leaves out; 65,536 is no line.
+fn left_out_at(change: Change, l: usize) -> usize
+    ensures { λ r. ⌜ r ≡ leaves change l ⌝ }
+{
+    if l != change.high {
+        return 65536;
+    }
+    if change.joins { 65536 } else { change.low }
+}
+
+// Line l's list, at place p of the block s; so many lines are to be put into it.
+pub fn list_at(s: &[u8], w: usize, p: usize, l: usize, waiting: usize) -> Entry
+    requires { ⌜ EntryThere w (now s) p l waiting ⌝ }
+    ensures { λ r. ⌜ EntryAt w (now (s .entry)) p l waiting r ⌝ }
+{
+    let count = Cursor { at: p }.sure(s, w);
+    let at = p + w;
+    let left = count.value;
+    let walk = Walk {
+        at,
+        left,
+        base: l,
+        waiting,
+    };
+    Entry {
+        walk,
+        next: at + left * w,
+    }
+}
+
+// The lists of so many lines in the block s, at width w, after the order.
+pub fn lists_numbers(s: &[u8], w: usize, lines: usize, change: Change, removal: &[u8]) -> Totals
+    requires { ⌜ ListsThere w (now s) lines change (now removal) ⌝ }
+    ensures { λ r. ⌜ ListsNumbered w (now (s .entry)) lines change (now (removal .entry)) r ⌝ }
+{
+    let mut p: usize = 8;
+    let mut l: usize = 0;
+    let mut lists: usize = 0;
+    let mut entries: usize = 0;
+    let mut most: usize = 0;
+    while l < lines {
+        let waiting = waiting_at(change, l);
+        let drop = left_out_at(change, l);
+        let list = list_at(s, w, p, l, waiting);
+        let rank = rank_of(removal, l);
+        p = list.next;
+        l += 1;
+        if rank.gone {
+            continue;
+        }
+        let numbers = list_numbers(s, w, list.walk, change.low, drop, removal, lists);
+        entries += numbers.count;
+        most = larger(most, larger(numbers.count, numbers.most));
+        lists += 1;
+    }
+    Totals {
+        lists,
+        entries,
+        most,
+    }
+}
+
+// The same lists put at a width, from place `at` of the output on.
+pub fn lists_put(
+    out: &mut [u8],
+    at: usize,
+    s: &[u8],
+    w: usize,
+    lines: usize,
+    change: Change,
+    removal: &[u8],
+    width: usize,
+) -> usize
+    requires { ⌜ ListsPutThere w (now s) lines change (now removal) width (now out) at ⌝ }
+    ensures { λ r. ⌜ ListsPut w (now (s .entry)) lines change (now (removal .entry)) width (now (out .entry)) at (now (out .exit)) r ⌝ }
+{
+    let mut q = at;
+    let mut p: usize = 8;
+    let mut l: usize = 0;
+    let mut lists: usize = 0;
+    while l < lines {
+        let waiting = waiting_at(change, l);
+        let drop = left_out_at(change, l);
+        let list = list_at(s, w, p, l, waiting);
+        let rank = rank_of(removal, l);
+        p = list.next;
+        l += 1;
+        if rank.gone {
+            continue;
+        }
+        q = list_put(
+            out,
+            q,
+            s,
+            w,
+            list.walk,
+            change.low,
+            drop,
+            removal,
+            lists,
+            width,
+        );
+        lists += 1;
+    }
+    q
+}

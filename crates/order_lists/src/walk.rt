@@ -1,0 +1,84 @@
+// One list of neighbours as an order leaves it, line by line: what stands in the block, with a line put in or left out, and with the
+// lines that a removal names left out and the others renumbered.
+ghost use Rattle.orders.specs.Listed.{listed};
+ghost use Rattle.order_removal.specs.Rank.{Rising};
+ghost use Rattle.order_lists.specs.Walk.{WalkThere, Steps, Fares};
+use bits::Cursor;
+use order_removal::rank_of;
+
+// A list from here on: where its next difference stands and how many are left, the line before it, and how many lines are still to
+// be put in: one or none.
+pub struct Walk {
+    pub at: usize,
+    pub left: usize,
+    pub base: usize,
+    pub waiting: usize,
+}
+
+// A line of the list, by its old number, and the list behind it.
+pub struct Step {
+    pub line: usize,
+    pub next: Walk,
+}
+
+// What becomes of a line: it stays with its new number, or it is gone.
+pub enum Fate {
+    Stays(usize),
+    Gone,
+}
+
+// The next line of a list that is not at its end. Differences have w bits; `low` is the line to be put in.
+pub fn step_on(s: &[u8], w: usize, k: Walk, low: usize) -> Step
+    requires { ⌜ WalkThere w (now s) k ⌝ }
+    ensures { λ r. ⌜ Steps w (now (s .entry)) k low r ⌝ }
+{
+    let at = k.at;
+    let left = k.left;
+    let base = k.base;
+    let put = Walk {
+        at,
+        left,
+        base,
+        waiting: 0,
+    };
+    if left == 0 {
+        return Step {
+            line: low,
+            next: put,
+        };
+    }
+    let d = Cursor { at }.sure(s, w);
+    let line = base - d.value;
+    let next = Walk {
+        at: at + w,
+        left: left - 1,
+        base: line,
+        waiting: k.waiting,
+    };
+    if k.waiting == 0 {
+        return Step { line, next };
+    }
+    if line < low {
+        return Step {
+            line: low,
+            next: put,
+        };
+    }
+    Step { line, next }
+}
+
+// What becomes of a line of a list that leaves `drop` out, under the removal of these lines.
+pub fn fate_of(lines: &[u8], drop: usize, line: usize) -> Fate
+    requires { ⌜ Rising (now lines) ⌝ }
+    ensures { λ r. ⌜ Fares (listed (now (lines .entry))) drop line r ⌝ }
+{
+    if line == drop {
+        return Fate::Gone;
+    }
+    let rank = rank_of(lines, line);
+    if rank.gone {
+        Fate::Gone
+    } else {
+        Fate::Stays(line - rank.below)
+    }
+}

@@ -1,0 +1,108 @@
+-- The parts of the new record, laid one behind the other: each ends where the sizes say, so that there is room for the next, and all
+-- together are the record that the order leaves.
+use mathlib.Core.Path.{_≡_, sym, ap, _∙_, subst}
+use Prim.Native.Nat.{ℕ, _+_, _-_, _≤_}
+use native.Mathlib.Omega.{arith}
+use mathlib.Core.List.{List, _++_}
+use lib.ListN.{length, drop, length-take, length-drop}
+use lib.Seq.{take-all}
+use Rattle.bits.specs.Lists.{All}
+use Rattle.bits.specs.Bytes.{Byte}
+use Rattle.bits.proofs.Laws.Parts.{part}
+use Rattle.put_bytes.specs.Laid.{Laid}
+use Rattle.put_bytes.proofs.Laws.{laid-same, laid-next, lent, back}
+use Rattle.format.specs.Record.{size}
+use Rattle.format.specs.Places.{viewAt}
+use Rattle.find_parts.specs.Stored.{sized, recordOut}
+use Rattle.find_parts.proofs.Laws.Blocks.{cut}
+use Rattle.find_parts.proofs.Laws.Written.{stored-long}
+use Rattle.order_lists.specs.declared.lists.Change.{Change}
+use Rattle.order_lines.specs.Lines.{keptBlock}
+use Rattle.order_record.specs.Blocks.{headOf, HeadLaid, SkeletonRoom, SkeletonLaid, newIndexBlock, IndexRoom, IndexLaid}
+use Rattle.order_record.specs.Rebuilt.{newRecord, RebuildRoom, Rebuilt}
+use Rattle.order_record.specs.declared.site.Site.{Site}
+use Rattle.order_record.specs.declared.measure.Sizes.{Sizes}
+use Rattle.order_record.proofs.Laws.Site.{short, old-skeleton, old-index}
+use Rattle.order_record.proofs.Laws.Splice.{from-long, spliced, head-long, new-size, is-stored}
+
+-- the rest of s fits into the rest of o
+rest-into : (s o : List ℕ) (e a : ℕ) → length s - e + a ≤ length o → length (part s e (length s - e)) ≤ length (lent o a)
+rest-into s o e a h = simp (length-take, length-drop) (omega arith)
+
+module _ {s : List ℕ} {x : Site} {ch : Change} {removal : List ℕ} {m : Sizes} {out : List ℕ} (t : RebuildRoom s x ch removal m out) (f : All Byte s) where
+  stored : s ≡ recordOut (t .placed .value)
+  stored = is-stored f (t .placed .reads)
+
+  pub in-all : m .bytes ≡ x .skeleton + 4 + m .skeleton + m .index + (length s - x .extended)
+  in-all =
+      let z = t .sizes in
+      omega (arith, z .bytes, z .skeleton, z .index .bytes, new-size (t .placed .at) stored removal ch)
+
+  pub front : 32 ≤ x .skeleton
+  front = from-long (t .placed .at) stored
+
+  pub places : (x .skeleton + 2 ≤ x .index) × (x .index + 2 ≤ x .extended) × (x .extended + 2 ≤ length s) × (length s ≤ 32768)
+  places = let a = t .placed .at in (a .lines .from, a .index .from, omega (arith, a .segments .from, a .segments .within), short (t .placed))
+
+  pub head-end : {o o1 : List ℕ} {a : ℕ} → HeadLaid s (x .skeleton) (m .bytes) o o1 a → a ≡ x .skeleton
+  head-end h = h .count ∙ head-long (t .placed .at) stored (m .bytes)
+
+  pub skeleton-room : {rest : List ℕ} → 2 + m .skeleton ≤ length rest → SkeletonRoom (x .widths) (cut s (x .skeleton) (x .index)) (x .lines) removal (m .skeleton) rest
+  unfolding old-skeleton
+  skeleton-room h =
+      record { there = old-skeleton (t .placed) f; size = rw (t .placed .at .widths) (t .sizes .skeleton); small = omega (arith, in-all, t .small); room = h }
+
+  pub skeleton-end : {o o1 : List ℕ} {a : ℕ} → SkeletonLaid (x .widths) (cut s (x .skeleton) (x .index)) removal o o1 a → a ≡ 2 + m .skeleton
+  skeleton-end h =
+      let a = t .placed .at in
+      let v = viewAt (t .placed .value) (t .placed .view) in
+      let z : m .skeleton ≡ length (keptBlock (x .widths) removal (v .lines)) = rw (a .widths) (t .sizes .skeleton) in
+      omega (arith, h .is (v .lines) (a .lines .value) .count, z)
+
+  pub index-room : {rest : List ℕ} → 2 + m .index ≤ length rest → IndexRoom (cut s (x .index) (x .extended)) (x .lines) ch removal (m .width) (m .index) rest
+  unfolding old-index
+  index-room h = record { there = old-index (t .placed); size = t .sizes .index; small = omega (arith, in-all, t .small); room = h }
+
+  pub index-end : {o o1 : List ℕ} {a : ℕ} → IndexLaid (cut s (x .index) (x .extended)) (x .lines) ch removal o o1 a → a ≡ 2 + m .index
+  index-end h =
+      let a = t .placed .at in
+      let v = viewAt (t .placed .value) (t .placed .view) in
+      omega (arith, h .is (v .index) (a .index .value) .count, t .sizes .index .bytes)
+
+  -- there is room for what is left of the record behind its blocks
+  pub rest-fits : {o1 o2 o3 : List ℕ} {a b c : ℕ} → HeadLaid s (x .skeleton) (m .bytes) out o1 a → SkeletonLaid (x .widths) (cut s (x .skeleton) (x .index)) removal (lent o1 a) o2 b
+      → IndexLaid (cut s (x .index) (x .extended)) (x .lines) ch removal (lent (back o1 a o2) (a + b)) o3 c
+      → length (part s (x .extended) (length s - x .extended)) ≤ length (lent (back (back o1 a o2) (a + b) o3) (a + b + c))
+  rest-fits {o1} {o2} {o3} {a} {b} {c} H K I =
+      let p = t .placed .at in
+      let v = viewAt (t .placed .value) (t .placed .view) in
+      let L = laid-next (laid-next H (K .is (v .lines) (p .lines .value))) (I .is (v .index) (p .index .value)) in
+      let r : length s - x .extended + (a + b + c) ≤ length out = omega (arith, t .room, in-all, head-end H, skeleton-end K, index-end I) in
+      rest-into s (back (back o1 a o2) (a + b) o3) (x .extended) (a + b + c) (omega (arith, r, laid-same L (omega (arith, r))))
+
+  -- the whole, and the buffer behind it
+  pub whole : {after : List ℕ} {n : ℕ} → Rebuilt s x ch removal m out after n → (n ≡ m .bytes) × (length after ≡ length out)
+  whole R =
+      let p = t .placed in
+      let L = R .is (p .value) (p .view) (p .reads) (p .at) (t .sizes) in
+      let e : _ ≡ m .bytes = L .count ∙ stored-long _ ∙ sym (t .sizes .bytes) in
+      (e, laid-same L (omega (arith, e, t .room)))
+
+module _ {s : List ℕ} {x : Site} {ch : Change} {removal : List ℕ} {m : Sizes} (f : All Byte s) {o o1 : List ℕ} {a : ℕ} (H : HeadLaid s (x .skeleton) (m .bytes) o o1 a)
+    {o2 : List ℕ} {b : ℕ} (K : SkeletonLaid (x .widths) (cut s (x .skeleton) (x .index)) removal (lent o1 a) o2 b)
+    {o3 : List ℕ} {c : ℕ} (I : IndexLaid (cut s (x .index) (x .extended)) (x .lines) ch removal (lent (back o1 a o2) (a + b)) o3 c)
+    {o4 : List ℕ} {d : ℕ} (T : Laid (part s (x .extended) (length s - x .extended)) (lent (back (back o1 a o2) (a + b) o3) (a + b + c)) o4 d) where
+  pub rebuilt : Rebuilt s x ch removal m o (back (back (back o1 a o2) (a + b) o3) (a + b + c) o4) (a + b + c + d)
+  rebuilt =
+      record {
+        is = λ r i e S z.
+            let v = viewAt r i in
+            let k = rw (S .widths) at (K .is (v .lines) (S .lines .value)) in
+            let y = I .is (v .index) (S .index .value) in
+            let g : part s (x .extended) (length s - x .extended) ≡ drop (x .extended) s = take-all (length s - x .extended) (drop (x .extended) s) (omega (arith, length-drop (x .extended) s)) in
+            let all = laid-next (laid-next (laid-next H k) y) (rw g at T) in
+            let w = r .head .scale .widths in
+            let q : ((headOf s (x .skeleton) (m .bytes) ++ sized (keptBlock w removal (v .lines))) ++ sized (newIndexBlock removal ch (v .index))) ++ drop (x .extended) s ≡ recordOut (newRecord removal ch i r) =
+            ap (λ (n : ℕ). ((headOf s (x .skeleton) n ++ sized (keptBlock w removal (v .lines))) ++ sized (newIndexBlock removal ch (v .index))) ++ drop (x .extended) s) (z .bytes) ∙ sym (spliced S (is-stored f e) removal ch) in
+            subst (λ (ys : List ℕ). Laid ys o (back (back (back o1 a o2) (a + b) o3) (a + b + c) o4) (a + b + c + d)) q all;
+      }

@@ -1,0 +1,99 @@
+-- The blocks that an order leaves, and what the code that measures and puts them asks and answers. The order is known by a removal's
+-- bytes and a change of one list.
+use mathlib.Core.Path.{_≡_}
+use Prim.Native.Nat.{ℕ, _+_, _-_, _≤_, _<_}
+use mathlib.Core.Option.{Option, some, Option·map}
+use mathlib.Core.List.{List, [], _++_}
+use lib.ListN.{length, take, drop}
+use Rattle.bits.specs.Lists.{All, Along}
+use Rattle.bits.specs.Bytes.{Byte, bitsOf, inBytes}
+use Rattle.bits.specs.Codec.{got}
+use Rattle.put_bytes.specs.Laid.{Laid}
+use Rattle.put_bytes.specs.HighFirst.{two}
+use Rattle.format.specs.Line.{Line, skeleton}
+use Rattle.format.specs.Differences.{Falls}
+use Rattle.format.specs.Index.{Index, up, indexBlock}
+use Rattle.format.specs.Record.{Narrow}
+use Rattle.format.specs.declared.Widths.{Widths}
+use Rattle.orders.specs.Least.{leastWidth, indexOf}
+use Rattle.order_removal.specs.Rank.{Rising}
+use Rattle.find_parts.specs.Stored.{sized}
+use Rattle.order_lists.specs.Index.{left}
+use Rattle.order_lists.specs.declared.lists.Change.{Change}
+use Rattle.order_lists.specs.declared.index.Size.{Size}
+use Rattle.order_lines.specs.Lines.{keptBlock}
+
+-- ---- the record's first bytes, up to byte `to`, with another record length
+
+abbrev pub headOf : List ℕ → ℕ → ℕ → List ℕ
+headOf s to n = (take 10 s ++ two n) ++ take (to - 12) (drop 12 s)
+
+pub record HeadRoom (s : List ℕ) (to n : ℕ) (out : List ℕ) : Type 0 where
+  pub from : 12 ≤ to
+  pub within : to ≤ length s
+  pub small : n < 65536
+  pub room : to ≤ length out
+
+abbrev pub HeadLaid : List ℕ → ℕ → ℕ → (before after : List ℕ) → ℕ → Type 0
+HeadLaid s to n before after r = Laid (headOf s to n) before after r
+
+-- ---- the skeleton block, whose old bytes are s
+
+pub record OldSkeleton (w : Widths) (s : List ℕ) (lines : ℕ) (removal : List ℕ) : Type 0 where
+  pub narrow : Narrow w
+  pub bytes : All Byte s
+  pub short : length s ≤ 65535
+  pub rising : Rising removal
+  pub value : List Line
+  pub reads : skeleton w .dec (bitsOf s) ≡ got value []
+  pub count : lines ≡ length value
+
+pub record SkeletonMeasured (w : Widths) (s removal : List ℕ) (r : ℕ) : Type 0 where
+  pub is : (ls : List Line) → skeleton w .dec (bitsOf s) ≡ got ls [] → r ≡ length (keptBlock w removal ls)
+
+pub record SkeletonRoom (w : Widths) (s : List ℕ) (lines : ℕ) (removal : List ℕ) (n : ℕ) (out : List ℕ) : Type 0 where
+  pub there : OldSkeleton w s lines removal
+  pub size : n ≡ length (keptBlock w removal (there .value))
+  pub small : n < 65536
+  pub room : 2 + n ≤ length out
+
+pub record SkeletonLaid (w : Widths) (s removal before after : List ℕ) (r : ℕ) : Type 0 where
+  pub is : (ls : List Line) → skeleton w .dec (bitsOf s) ≡ got ls [] → Laid (sized (keptBlock w removal ls)) before after r
+
+-- ---- the index block of so many lines, whose old bytes are s
+
+abbrev pub newIndex : List ℕ → Change → Option Index → Option Index
+newIndex removal ch o = Option·map (λ i. indexOf (left removal ch i)) o
+
+-- its bytes; where there is one, relist's newBlock
+abbrev pub newIndexBlock : List ℕ → Change → Option Index → List ℕ
+newIndexBlock removal ch o = inBytes (indexBlock 0 .enc (newIndex removal ch o))
+
+-- the new lists are right
+abbrev pub Keeps : List ℕ → Change → Option Index → Type 0
+Keeps removal ch o = (i : Index) → o ≡ some i → Along up (Falls 0) 0 (left removal ch i) × (length (left removal ch i) ≤ 1024)
+
+pub record OldIndex (s : List ℕ) (lines : ℕ) (ch : Change) (removal : List ℕ) : Type 0 where
+  pub short : length s ≤ 65535
+  pub rising : Rising removal
+  pub few : lines ≤ 1024
+  pub value : Option Index
+  pub reads : indexBlock lines .dec (bitsOf s) ≡ got value []
+  pub keeps : Keeps removal ch value
+
+-- r says how wide and how long the new index is
+pub record SizeOf (removal : List ℕ) (ch : Change) (o : Option Index) (r : Size) : Type 0 where
+  pub width : (i : Index) → o ≡ some i → r .width ≡ leastWidth (left removal ch i)
+  pub bytes : r .bytes ≡ length (newIndexBlock removal ch o)
+
+pub record IndexMeasured (s : List ℕ) (lines : ℕ) (ch : Change) (removal : List ℕ) (r : Size) : Type 0 where
+  pub is : (o : Option Index) → indexBlock lines .dec (bitsOf s) ≡ got o [] → SizeOf removal ch o r
+
+pub record IndexRoom (s : List ℕ) (lines : ℕ) (ch : Change) (removal : List ℕ) (width n : ℕ) (out : List ℕ) : Type 0 where
+  pub there : OldIndex s lines ch removal
+  pub size : SizeOf removal ch (there .value) (record { width = width; bytes = n })
+  pub small : n < 65536
+  pub room : 2 + n ≤ length out
+
+pub record IndexLaid (s : List ℕ) (lines : ℕ) (ch : Change) (removal before after : List ℕ) (r : ℕ) : Type 0 where
+  pub is : (o : Option Index) → indexBlock lines .dec (bitsOf s) ≡ got o [] → Laid (sized (newIndexBlock removal ch o)) before after r

@@ -1,0 +1,101 @@
+// The new record, written to the lent buffer: each block is put together in the part that starts where the block before ended.
+ghost use Rattle.order_record.specs.Blocks.{HeadRoom, HeadLaid, SkeletonRoom, SkeletonLaid, IndexRoom, IndexLaid};
+ghost use Rattle.order_record.specs.Rebuilt.{RebuildRoom, Rebuilt};
+use crate::measure::Sizes;
+use crate::site::Site;
+use format::Widths;
+use order_lines::lines_put;
+use order_lists::index::index_put;
+use order_lists::lists::Change;
+use put_bytes::copy;
+use put_bytes::put_two;
+
+// The first bytes of the record s, up to byte `to`; the record length is another.
+fn head_put(out: &mut [u8], s: &[u8], to: usize, bytes: usize) -> usize
+    requires { ⌜ HeadRoom (now s) to bytes (now out) ⌝ }
+    ensures { λ r. ⌜ HeadLaid (now (s .entry)) to bytes (now (out .entry)) (now (out .exit)) r ⌝ }
+{
+    let mut at = copy(out, &s[0..10]);
+    at += put_two(&mut out[at..], bytes);
+    at += copy(&mut out[at..], &s[12..to]);
+    at
+}
+
+// The skeleton block behind its length, of so many bytes: a pair order copies the old one, s.
+fn skeleton_put(
+    out: &mut [u8],
+    s: &[u8],
+    w: Widths,
+    lines: usize,
+    removal: &[u8],
+    bytes: usize,
+) -> usize
+    requires { ⌜ SkeletonRoom w (now s) lines (now removal) bytes (now out) ⌝ }
+    ensures { λ r. ⌜ SkeletonLaid w (now (s .entry)) (now (removal .entry)) (now (out .entry)) (now (out .exit)) r ⌝ }
+{
+    let at = put_two(out, bytes);
+    if removal.len() == 0 {
+        at + copy(&mut out[at..], s)
+    } else {
+        at + lines_put(&mut out[at..], s, w, lines, removal)
+    }
+}
+
+// The index block behind its length, of so many bytes and at this width; s is the old one.
+fn lists_put(
+    out: &mut [u8],
+    s: &[u8],
+    lines: usize,
+    change: Change,
+    removal: &[u8],
+    width: usize,
+    bytes: usize,
+) -> usize
+    requires { ⌜ IndexRoom (now s) lines change (now removal) width bytes (now out) ⌝ }
+    ensures { λ r. ⌜ IndexLaid (now (s .entry)) lines change (now (removal .entry)) (now (out .entry)) (now (out .exit)) r ⌝ }
+{
+    let at = put_two(out, bytes);
+    if s.len() == 0 {
+        return at;
+    }
+    at + index_put(&mut out[at..], s, lines, change, removal, width)
+}
+
+// The new record of the record s, of these sizes.
+pub fn put(
+    out: &mut [u8],
+    s: &[u8],
+    site: Site,
+    change: Change,
+    removal: &[u8],
+    sizes: Sizes,
+) -> usize
+    requires { ⌜ RebuildRoom (now s) site change (now removal) sizes (now out) ⌝ }
+    ensures { λ r. ⌜ Rebuilt (now (s .entry)) site change (now (removal .entry)) sizes (now (out .entry)) (now (out .exit)) r ⌝ }
+{
+    let lines = site.lines;
+    let mut at = head_put(out, s, site.skeleton, sizes.bytes);
+    let from = site.skeleton + 2;
+    let index = site.index;
+    at += skeleton_put(
+        &mut out[at..],
+        &s[from..index],
+        site.widths,
+        lines,
+        removal,
+        sizes.skeleton,
+    );
+    let behind = index + 2;
+    let extended = site.extended;
+    at += lists_put(
+        &mut out[at..],
+        &s[behind..extended],
+        lines,
+        change,
+        removal,
+        sizes.width,
+        sizes.index,
+    );
+    at += copy(&mut out[at..], &s[extended..]);
+    at
+}

@@ -1,0 +1,25 @@
+-- What looking up a line in a removal list asks and answers. A line that stays is renumbered by how many lines of the list are
+-- before it.
+use mathlib.Core.Path.{_≡_}
+use Prim.Native.Nat.{ℕ, suc, _*_}
+use mathlib.Core.List.{List, [], _∷_}
+use lib.ListN.{length}
+use lib.Dec.{ltb}
+use Rattle.bits.specs.Choice.{pick}
+use Rattle.orders.specs.Survive.{elem, RisesFrom}
+use Rattle.orders.specs.Listed.{listed}
+use Rattle.order_removal.specs.declared.Rank.{Rank}
+
+-- how many of the numbers are below n
+abbrev pub below : List ℕ → ℕ → ℕ
+below [] n = 0
+below (r ∷ rs) n = pick (ltb r n) (suc (below rs n)) (below rs n)
+
+-- the bytes are a list that rises
+pub record Rising (lines : List ℕ) : Type 0 where
+  pub even : length lines ≡ 2 * length (listed lines)
+  pub rises : RisesFrom 0 (listed lines)
+
+pub record Ranked (rs : List ℕ) (n : ℕ) (r : Rank) : Type 0 where
+  pub below : r .below ≡ below rs n
+  pub gone : r .gone ≡ elem n rs

@@ -1,0 +1,23 @@
+-- The view that an order names: it stands there, with the count that the order was made for; or whatever is ordered is refused.
+use mathlib.Core.Path.{_≡_}
+use Prim.Native.Nat.{ℕ}
+use mathlib.Core.List.{List, []}
+use Rattle.bits.specs.Codec.{got}
+use Rattle.outcome.specs.Outcome.{refused}
+use Rattle.format.specs.Record.{Record, read}
+use Rattle.orders.specs.Act.{Act}
+use Rattle.orders.specs.Order.{order}
+use Rattle.order_record.specs.Site.{SiteOf}
+use Rattle.order_record.specs.declared.site.Site.{Site}
+use Rattle.order_view.specs.declared.Found.{Found}
+use Rattle.order_view.specs.declared.Found.the-variants as f
+
+pub record Sought (s : List ℕ) (view n : ℕ) (x : Site) : Type 0 where
+  pub value : Record
+  pub reads : read s ≡ got value []
+  pub at : SiteOf value s view x
+  pub count : x .lines ≡ n
+
+abbrev pub Finds : List ℕ → (view n : ℕ) → Found → Type 0
+Finds s view n (f.Refused e) = (a : Act) → (p : ℕ) × (order (record { view = view; count = n; act = a }) s ≡ refused e p)
+Finds s view n (f.At x) = Sought s view n x

@@ -1,0 +1,77 @@
+-- The laws of what is laid: bytes one by one, and blocks one behind the other.
+use mathlib.Core.Path.{_≡_, refl, sym, ap, _∙_}
+use mathlib.Core.List.{List, [], _∷_, _++_, append-assoc, append-nil}
+use Prim.Native.Nat.{ℕ, suc, _+_, _-_, _*_, _≤_, _<_}
+use native.Mathlib.Nat.{zero-add}
+use native.Mathlib.Numerals.{add-one}
+use native.Mathlib.Omega.{arith}
+use lib.ListN.{length, take, drop, getD, set, length-append, length-drop, drop-of-length-le}
+use lib.Seq.{set-split, paste-suc, sets, sets-eq, take-at, drop-at, drop-drop, take-all}
+use Rattle.put_bytes.specs.Laid.{Laid}
+use Rattle.put_bytes.specs.HighFirst.{two, joined}
+
+-- one more byte of a copy
+pub copied-more : (d s : List ℕ) (i : ℕ) → i < length d → i < length s
+    → set (take i s ++ drop i d) i (getD s i 0) ≡ take (i + 1) s ++ drop (i + 1) d
+copied-more d s i h k = rw add-one (simp zero-add at (paste-suc d 0 s i 0 (rw zero-add h) k))
+
+-- bytes stored one by one, from the first on; us are the numbers that were meant
+pub stored : (d us vs : List ℕ) → length vs ≤ length d → vs ≡ us → sets d 0 vs ≡ us ++ drop (length us) d
+stored d us vs h e = sets-eq vs d 0 (omega arith) ∙ rw e (ap (λ (n : ℕ). us ++ drop n d) (zero-add (length us)))
+
+-- ---- one behind the other
+
+-- nothing laid
+pub laid-none : (d : List ℕ) → Laid [] d d 0
+laid-none d = record { count = refl; is = refl }
+
+-- one number more, stored behind those that are laid
+pub laid-one : {d done xs : List ℕ} {a : ℕ} (x : ℕ) → Laid done d xs a → a < length xs → Laid (done ++ x ∷ []) d (set xs a x) (a + 1)
+laid-one {d} {done} {xs} {a} x h l =
+    let e1 : take a xs ≡ done = ap (take a) (h .is) ∙ take-at done (drop (length done) d) a (sym (h .count)) in
+    let e2 : drop (suc a) xs ≡ drop (length done + 1) d =
+    ap (λ (j : ℕ). drop j xs) (sym (add-one a)) ∙ sym (drop-drop 1 a xs)
+    ∙ ap (drop 1) (ap (drop a) (h .is) ∙ drop-at done (drop (length done) d) a (sym (h .count))) ∙ drop-drop 1 (length done) d in
+    record {
+      count = simp length-append (omega (arith, h .count));
+      is = set-split xs a x l ∙ rw (e1, e2) (simp (append-assoc, length-append));
+    }
+
+-- a buffer keeps its length
+pub laid-same : {new d xs : List ℕ} {a : ℕ} → Laid new d xs a → a ≤ length d → length xs ≡ length d
+laid-same h l = ap length (h .is) ∙ simp (length-append, length-drop) (omega (arith, h .count))
+
+-- the rest of a buffer from a on, lent and given back
+abbrev pub lent : List ℕ → ℕ → List ℕ
+lent xs a = take (length xs - a) (drop a xs)
+
+abbrev pub back : List ℕ → ℕ → List ℕ → List ℕ
+back xs a ys = take a xs ++ (ys ++ drop (length xs - a) (drop a xs))
+
+-- The rest of the buffer is lent from a on, where done ends, and comes back with new at its start: then both are laid. xs is the
+-- buffer when it is lent, ys its lent part afterwards.
+pub laid-next : {d done new xs ys : List ℕ} {a n : ℕ} → Laid done d xs a → Laid new (lent xs a) ys n
+    → Laid (done ++ new) d (back xs a ys) (a + n)
+laid-next {d} {done} {new} {xs} {ys} {a} {n} h k =
+    let e1 : take a xs ≡ done = ap (take a) (h .is) ∙ take-at done (drop (length done) d) a (sym (h .count)) in
+    let e2 : drop a xs ≡ drop (length done) d = ap (drop a) (h .is) ∙ drop-at done (drop (length done) d) a (sym (h .count)) in
+    let l : length (drop a xs) ≤ length xs - a = omega (arith, length-drop a xs) in
+    let e3 : drop (length xs - a) (drop a xs) ≡ [] = drop-of-length-le (drop a xs) l in
+    let e4 : take (length xs - a) (drop a xs) ≡ drop a xs = take-all (length xs - a) (drop a xs) l in
+    record {
+      count = simp length-append (omega (arith, h .count, k .count));
+      is = rw (e3, k .is, e4, e1, e2) (simp (append-nil, append-assoc, length-append, drop-drop));
+    }
+
+-- ---- lists, one element behind the other
+
+pub joined-append : {A : Type 0} (f : A → List ℕ) (xs ys : List A) → joined f (xs ++ ys) ≡ joined f xs ++ joined f ys
+joined-append f [] ys = refl
+joined-append f (x ∷ xs) ys = rw (append-assoc, joined-append f xs ys)
+
+pub joined-snoc : {A : Type 0} (f : A → List ℕ) (xs : List A) (x : A) → joined f (xs ++ x ∷ []) ≡ joined f xs ++ f x
+joined-snoc f xs x = joined-append f xs (x ∷ []) ∙ ap (λ (r : List ℕ). joined f xs ++ r) (append-nil (f x))
+
+pub twos-length : (ns : List ℕ) → length (joined two ns) ≡ 2 * length ns
+twos-length [] = refl
+twos-length (n ∷ ns) = omega (arith, twos-length ns)

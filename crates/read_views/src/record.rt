@@ -1,0 +1,48 @@
+// A record's sheet: 01, its header; then the fields of its views. The judge has accepted the record, and has counted what its
+// sheet takes.
+ghost use Prim.Native.Nat.{_≤_};
+ghost use lib.ListN.{length};
+ghost use Rattle.put_bytes.specs.Laid.{Laid};
+ghost use Rattle.read_views.specs.SheetOuts.{headerField, ViewsThere, ViewsOut, SheetThere, SheetOut};
+use crate::view::view_out;
+use format::Widths;
+use put_bytes::copy;
+use put_bytes::put_three;
+
+// The 01 field.
+fn header_out(out: &mut [u8], s: &[u8]) -> usize
+    requires { ⌜ (22 ≤ length (now s)) × (12 ≤ length (now out)) ⌝ }
+    ensures { λ r. ⌜ Laid (headerField (now (s .entry))) (now (out .entry)) (now (out .exit)) r ⌝ }
+{
+    let mut at = put_three(out, 1, 9);
+    at += copy(&mut out[at..], &s[12..14]);
+    at += copy(&mut out[at..], &s[15..22]);
+    at
+}
+
+// The fields of the views of the record s, which has the widths w and so many views.
+fn views_out(out: &mut [u8], s: &[u8], w: Widths, count: usize) -> usize
+    requires { ⌜ ViewsThere w count (now s) (length (now out)) ⌝ }
+    ensures { λ r. ⌜ ViewsOut (now (s .entry)) (now (out .entry)) (now (out .exit)) r ⌝ }
+{
+    let mut p: usize = 24;
+    let mut i: usize = 0;
+    let mut at: usize = 0;
+    while i < count {
+        let v = view_out(&mut out[at..], s, p, w);
+        at += v.written;
+        p = v.next;
+        i += 1;
+    }
+    at
+}
+
+// Its sheet.
+pub fn sheet_out(out: &mut [u8], s: &[u8], w: Widths, count: usize) -> usize
+    requires { ⌜ SheetThere w count (now s) (length (now out)) ⌝ }
+    ensures { λ r. ⌜ SheetOut (now (s .entry)) (now (out .entry)) (now (out .exit)) r ⌝ }
+{
+    let mut at = header_out(out, s);
+    at += views_out(&mut out[at..], s, w, count);
+    at
+}

@@ -1,0 +1,50 @@
+// The fields of a view: 02, its header; then those of its lines, its index and its segments. The judge has accepted the view, so
+// that each of its blocks is where the lengths say.
+ghost use lib.ListN.{length};
+ghost use Rattle.read_views.specs.ViewOuts.{BlocksThere, BlocksOut, ViewThere, ViewWritten};
+use find_parts::view::blocks_at;
+use format::Widths;
+use put_bytes::copy;
+use put_bytes::put_three;
+use read_blocks::index::index_out;
+use read_blocks::line::lines_out;
+use read_blocks::segments::segments_out;
+
+// The byte behind a view, and the bytes written for it.
+pub struct ViewOut {
+    pub next: usize,
+    pub written: usize,
+}
+
+// The fields of a view's blocks; the length of the first is at byte b.
+fn blocks_out(out: &mut [u8], s: &[u8], b: usize, w: Widths) -> ViewOut
+    requires { ⌜ BlocksThere w (now s) b (length (now out)) ⌝ }
+    ensures { λ r. ⌜ BlocksOut w (now (s .entry)) b (now (out .entry)) (now (out .exit)) r ⌝ }
+{
+    let blocks = blocks_at(s, b);
+    let skeleton = b + 2;
+    let index_at = blocks.index;
+    let lines = lines_out(out, &s[skeleton..index_at], w);
+    let mut at = lines.written;
+    let index = index_at + 2;
+    let extended_at = blocks.extended;
+    at += index_out(&mut out[at..], &s[index..extended_at], lines.count);
+    let extended = extended_at + 2;
+    let next = blocks.end;
+    at += segments_out(&mut out[at..], &s[extended..next]);
+    ViewOut { next, written: at }
+}
+
+// The fields of the view at byte a.
+pub fn view_out(out: &mut [u8], s: &[u8], a: usize, w: Widths) -> ViewOut
+    requires { ⌜ ViewThere w (now s) a (length (now out)) ⌝ }
+    ensures { λ r. ⌜ ViewWritten w (now (s .entry)) a (now (out .entry)) (now (out .exit)) r ⌝ }
+{
+    let mut at = put_three(out, 2, 8);
+    let b = a + 8;
+    at += copy(&mut out[at..], &s[a..b]);
+    let blocks = blocks_out(&mut out[at..], s, b, w);
+    at += blocks.written;
+    let next = blocks.next;
+    ViewOut { next, written: at }
+}
