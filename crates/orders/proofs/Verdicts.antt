@@ -14,7 +14,7 @@ use Rattle.format.specs.Index.{index, indexBlock}
 use Rattle.format.specs.Segments.{segment, segments}
 use Rattle.format.specs.View.{view, viewHeader}
 use Rattle.format.specs.Record.{header, views, recordOf, read, size, write}
-use Rattle.format.specs.Call.{onRecord}
+use Rattle.format.specs.Call.{onRecord, onView}
 use Rattle.format.specs.Sample.{sampleA, headerA, viewHeaderA, linesA, wide, wider}
 use Rattle.orders.specs.Least.{leastWidth}
 use Rattle.orders.specs.Act.{Act, remove, join, part, near, after}
@@ -78,5 +78,5 @@ abbrev expected : Row → Outcome ℕ
 expected r = r .gives
 
 verdicts : map computed table ≡ map expected table
-unfolding numberOf bitsOfNumber bitsOf bytesOf thenDec viaDec onlyDec judgedDec wholeDec roomDec endedDec sizedDec mostLines leastBytes mostBytes end line skeleton index indexBlock segment segments view viewHeader header views recordOf read size write onRecord leastWidth near after edited tests allTests verdict order
+unfolding numberOf bitsOfNumber bitsOf bytesOf thenDec viaDec onlyDec judgedDec wholeDec roomDec endedDec sizedDec mostLines leastBytes mostBytes end line skeleton index indexBlock segment segments view viewHeader header views recordOf read size write onRecord onView leastWidth near after edited tests allTests verdict order
 verdicts = refl

@@ -1,20 +1,21 @@
--- An order on a record: when it is refused (13 to 19), the record it leaves, the outcome of the call, and the record that then
+-- An order on a record: when it is refused (14 to 19; 13 is for the view that it names), the record it leaves, the outcome of the call, and the record that then
 -- holds. "An order names a view by its place (from 0) and the line count it was made for."
-use Prim.Native.Nat.{ℕ, suc}
+use mathlib.Core.Path.{_≡_}
+use Prim.Native.Nat.{ℕ, suc, _≤_, _<_}
 use mathlib.Core.Bool.{Bool, true, not, _&&_}
 use mathlib.Core.List.{List, [], _∷_, _++_}
 use lib.ListN.{length, set, take}
-use lib.Dec.{leb, ltb, eqb}
+use lib.Dec.{T, leb, ltb, eqb}
 use Rattle.bits.specs.Choice.{pick}
-use Rattle.bits.specs.Lists.{empty?}
-use Rattle.outcome.specs.Refusals.{noView, otherCount, badLines, extended, noIndex, alreadySo, tooLong}
+use Rattle.bits.specs.Lists.{All, empty?}
+use Rattle.outcome.specs.Refusals.{otherCount, badLines, extended, noIndex, alreadySo, tooLong}
 use Rattle.outcome.specs.Outcome.{Outcome, refused, given}
 use Rattle.outcome.specs.declared.Answer.{Answer}
 use Rattle.format.specs.Limits.{mostBytes}
 use Rattle.format.specs.View.{View}
 use Rattle.format.specs.Record.{Record, write, size}
 use Rattle.format.specs.Places.{viewAt, count}
-use Rattle.format.specs.Call.{onRecord}
+use Rattle.format.specs.Call.{onView}
 use Rattle.orders.specs.Act.{Act, remove, join, part, indexed?, near, after}
 
 pub record Order : Type 0 where
@@ -49,23 +50,34 @@ tests (remove rs) v = (linesOk (count v) rs, badLines) ∷ (empty? (v .segments)
 tests (join a b) v = (indexed? v, noIndex) ∷ (ltb a (count v) && ltb b (count v), badLines) ∷ (not (near v a b), alreadySo) ∷ []
 tests (part a b) v = (indexed? v, noIndex) ∷ (ltb a (count v) && ltb b (count v), badLines) ∷ (near v a b, alreadySo) ∷ []
 
--- "Orders: 13, 14, then removal 15, 16; pair 17, 15, 18; then 19"
+-- "Orders: 13, 14, then removal 15, 16; pair 17, 15, 18; then 19"; 13 is for the view
 unfoldable pub allTests : Order → Record → List (Bool × ℕ)
 allTests o r =
-    (ltb (o .view) (length (r .views)), noView) ∷ (eqb (count (viewAt r (o .view))) (o .count), otherCount)
-    ∷ tests (o .act) (viewAt r (o .view)) ++ (leb (size (edited o r)) mostBytes, tooLong) ∷ []
+    (eqb (count (viewAt r (o .view))) (o .count), otherCount) ∷ tests (o .act) (viewAt r (o .view)) ++ (leb (size (edited o r)) mostBytes, tooLong) ∷ []
 
 unfoldable pub verdict : Order → Record → ℕ
 verdict o r = firstBad (allTests o r)
+
+-- ---- when it is accepted
+
+abbrev pub Pass : List (Bool × ℕ) → Type 0
+Pass = All (λ t. T (t .0))
+
+-- its view is there and has the count that it was made for, its own tests pass, and the new record is not too long
+pub record Accepted (o : Order) (r : Record) : Type 0 where
+  pub place : o .view < length (r .views)
+  pub count : count (viewAt r (o .view)) ≡ o .count
+  pub passes : Pass (tests (o .act) (viewAt r (o .view)))
+  pub small : size (edited o r) ≤ mostBytes
 
 -- ---- the call
 
 abbrev pub ordered : Order → Record → Outcome ℕ
 ordered o r = pick (eqb (verdict o r) 0) (given (write (edited o r))) (refused (verdict o r) 0)
 
--- 20 comes with the room that is lent
+-- 13 where the view is not there; 20 comes with the room that is lent
 unfoldable pub order : Order → List ℕ → Outcome ℕ
-order o = onRecord (ordered o)
+order o = onView (o .view) (λ i. ordered o)
 
 -- "the second buffer's first bytes if the number is 0 and the length fits it, else the whole old record"
 abbrev pub secondHolds : List ℕ → ℕ → ℕ → Bool

@@ -11,7 +11,7 @@ use Rattle.format.specs.Index.{index, indexBlock}
 use Rattle.format.specs.Segments.{segment, segments}
 use Rattle.format.specs.View.{view, viewHeader}
 use Rattle.format.specs.Record.{header, views, recordOf, read, size, write}
-use Rattle.format.specs.Call.{onRecord}
+use Rattle.format.specs.Call.{onRecord, onView}
 use Rattle.sheet.specs.Fields.{tagged, fields}
 use Rattle.sheet.specs.Grammar.{grammar}
 use Rattle.sheet.specs.Code.{extended}
@@ -24,5 +24,5 @@ use Rattle.orders.specs.Order.{edited, tests, allTests, verdict, order}
 use Rattle.promises.specs.Samples.{result, expected, computed, table}
 
 pub samples : map computed table ≡ map expected table
-unfolding numberOf bitsOfNumber bitsOf bytesOf thenDec viaDec onlyDec judgedDec wholeDec roomDec endedDec sizedDec aheadDec passDec recastDec mostLines leastBytes mostBytes end line skeleton index indexBlock segment segments view viewHeader header views recordOf read size write onRecord tagged fields grammar headerValue viewHeadValue lineValue widthValue listValue segmentValue rawView rawOf sheetOf viewFrom recordFrom readSheet reading writing trail trailing leastWidth near after edited tests allTests verdict order extended result
+unfolding numberOf bitsOfNumber bitsOf bytesOf thenDec viaDec onlyDec judgedDec wholeDec roomDec endedDec sizedDec aheadDec passDec recastDec mostLines leastBytes mostBytes end line skeleton index indexBlock segment segments view viewHeader header views recordOf read size write onRecord onView tagged fields grammar headerValue viewHeadValue lineValue widthValue listValue segmentValue rawView rawOf sheetOf viewFrom recordFrom readSheet reading writing trail trailing leastWidth near after edited tests allTests verdict order extended result
 samples = refl

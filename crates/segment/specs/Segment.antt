@@ -7,7 +7,7 @@ use lib.ListN.{length, take}
 use lib.Dec.{ltb}
 use Rattle.bits.specs.Choice.{pick}
 use Rattle.bits.specs.Codec as C
-use Rattle.outcome.specs.Refusals.{noView, noSegment}
+use Rattle.outcome.specs.Refusals.{noSegment}
 use Rattle.outcome.specs.Outcome.{Outcome, refused, given, told}
 use Rattle.outcome.specs.declared.Answer.{Answer}
 use Rattle.format.specs.Line.{skeleton}
@@ -15,17 +15,15 @@ use Rattle.format.specs.Index.{indexBlock}
 use Rattle.format.specs.View.{View}
 use Rattle.format.specs.Record.{Record, read}
 use Rattle.format.specs.Places.{bitsBefore, viewAt, segmentAt, segmentBits}
-use Rattle.format.specs.Call.{onRecord}
+use Rattle.format.specs.Call.{onView}
 use Rattle.format.specs.declared.Widths.{Widths}
 
-abbrev pub payloadIn : (view place : ℕ) → Record → Outcome ℕ
-payloadIn view place r =
-    pick (ltb view (length (r .views)))
-    (pick (ltb place (length (viewAt r view .segments))) (given (segmentAt (viewAt r view) place .payload)) (refused noSegment 0))
-    (refused noView 0)
+abbrev pub payloadIn : (place view : ℕ) → Record → Outcome ℕ
+payloadIn place view r =
+    pick (ltb place (length (viewAt r view .segments))) (given (segmentAt (viewAt r view) place .payload)) (refused noSegment 0)
 
 unfoldable pub payload : (view place : ℕ) → List ℕ → Outcome ℕ
-payload view place = onRecord (payloadIn view place)
+payload view place = onView view (payloadIn place)
 
 -- what comes back
 abbrev pub payloadOf : Outcome ℕ → List ℕ

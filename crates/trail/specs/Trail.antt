@@ -4,16 +4,15 @@
 use Prim.Native.Nat.{ℕ, _+_, _-_, _*_, _/_, _%_, _^_}
 use mathlib.Core.Bool.{Bool, false, not}
 use mathlib.Core.List.{List, [], _∷_, _++_}
-use lib.ListN.{length}
 use lib.Dec.{ltb, eqb}
 use Rattle.bits.specs.Choice.{pick}
 use Rattle.bits.specs.Bits.{val}
-use Rattle.outcome.specs.Refusals.{noView, badLines}
+use Rattle.outcome.specs.Refusals.{badLines}
 use Rattle.outcome.specs.Outcome.{Outcome, refused, given}
 use Rattle.format.specs.Line.{Line}
 use Rattle.format.specs.Record.{Record}
 use Rattle.format.specs.Places.{viewAt, count, lineAt}
-use Rattle.format.specs.Call.{onRecord}
+use Rattle.format.specs.Call.{onView}
 use Rattle.format.specs.declared.Scale.{Scale}
 
 -- "The first heading is the start direction times 2N divided by 2 to the b, rounded down."
@@ -46,11 +45,9 @@ trail s l = follow (s .half) (s .widths .k) false (firstHeading (s .half) (s .wi
 
 -- ---- the call: "Trail: 13, 15, 20"
 
-abbrev pub trailIn : (view line : ℕ) → Record → Outcome ℕ
-trailIn view line r =
-    pick (ltb view (length (r .views)))
-    (pick (ltb line (count (viewAt r view))) (given (trail (r .head .scale) (lineAt (viewAt r view) line))) (refused badLines 0))
-    (refused noView 0)
+abbrev pub trailIn : (line view : ℕ) → Record → Outcome ℕ
+trailIn line view r =
+    pick (ltb line (count (viewAt r view))) (given (trail (r .head .scale) (lineAt (viewAt r view) line))) (refused badLines 0)
 
 unfoldable pub trailing : (view line : ℕ) → List ℕ → Outcome ℕ
-trailing view line = onRecord (trailIn view line)
+trailing view line = onView view (trailIn line)

@@ -2,12 +2,12 @@
 -- the new record is not too long. So the table of refusals leaves no other way to be refused.
 use mathlib.Core.Path.{_≡_, refl, _∙_}
 use mathlib.Core.Logic.{_≢_}
-use Prim.Native.Nat.{ℕ, _≤_, _<_}
+use Prim.Native.Nat.{ℕ, _<_}
 use native.Mathlib.Omega.{arith}
 use mathlib.Core.Bool.{Bool, _&&_}
 use mathlib.Core.List.{List, [], _∷_}
 use lib.ListN.{length}
-use lib.Dec.{T, leb, ltb, eqb, leb→le, le→leb, ltb→lt, lt→ltb, eqb→eq}
+use lib.Dec.{T, leb, ltb, eqb, leb→le, le→leb, ltb→lt, eqb→eq}
 use mir.Facts.{and-yes, yes-eqb, no-eqb}
 use Rattle.bits.specs.ChoiceLaws.{pick-yes, pick-no, pick-split}
 use Rattle.bits.specs.Lists.{All}
@@ -18,12 +18,9 @@ use Rattle.format.specs.View.{View}
 use Rattle.format.specs.Record.{Record, size}
 use Rattle.format.specs.Places.{count, viewAt}
 use Rattle.orders.specs.Act.{Act, remove, join, part}
-use Rattle.orders.specs.Order.{Order, edited, firstBad, tests, allTests, verdict}
+use Rattle.orders.specs.Order.{Order, edited, firstBad, tests, allTests, verdict, Pass, Accepted}
 
 -- ---- tests, one after another
-
-abbrev pub Pass : List (Bool × ℕ) → Type 0
-Pass = All (λ t. T (t .0))
 
 -- no test has the number 0, which says that all passed
 abbrev Numbered : List (Bool × ℕ) → Type 0
@@ -47,7 +44,7 @@ all-numbered : (o : Order) (r : Record) → Numbered (allTests o r)
 unfolding allTests
 all-numbered o r =
     let v : View = viewAt r (o .view) in
-    (omega arith, (omega arith, all-append (λ t. 0 < t .1) (tests (o .act) v) _ (tests-numbered (o .act) v) (omega arith, tt)))
+    (omega arith, all-append (λ t. 0 < t .1) (tests (o .act) v) _ (tests-numbered (o .act) v) (omega arith, tt))
 
 -- what the test of a pair's lines says
 pub both-lines : (a b n : ℕ) → T (ltb a n && ltb b n) → (a < n) × (b < n)
@@ -55,37 +52,25 @@ both-lines a b n t = let (h, k) = and-yes (ltb a n) (ltb b n) t in (ltb→lt a n
 
 -- ---- an order
 
-pub record Accepted (o : Order) (r : Record) : Type 0 where
-  pub place : o .view < length (r .views)
-  pub count : count (viewAt r (o .view)) ≡ o .count
-  pub passes : Pass (tests (o .act) (viewAt r (o .view)))
-  pub small : size (edited o r) ≤ mostBytes
-
-pub accepted : (o : Order) (r : Record) → verdict o r ≡ 0 → Accepted o r
+pub accepted : (o : Order) (r : Record) → o .view < length (r .views) → verdict o r ≡ 0 → Accepted o r
 unfolding verdict allTests
-accepted o r p =
+accepted o r l p =
     let h = zero-pass (allTests o r) (all-numbered o r) p in
     let v : View = viewAt r (o .view) in
     record {
-      place = ltb→lt (o .view) (length (r .views)) (h .0);
-      count = eqb→eq (count v) (o .count) (h .1 .0);
-      passes = all-front (λ t. T (t .0)) (tests (o .act) v) _ (h .1 .1);
-      small = leb→le (size (edited o r)) mostBytes (all-rest (λ t. T (t .0)) (tests (o .act) v) _ (h .1 .1) .0);
+      place = l;
+      count = eqb→eq (count v) (o .count) (h .0);
+      passes = all-front (λ t. T (t .0)) (tests (o .act) v) _ (h .1);
+      small = leb→le (size (edited o r)) mostBytes (all-rest (λ t. T (t .0)) (tests (o .act) v) _ (h .1) .0);
     }
 
 pub verdict-zero : (o : Order) (r : Record) → Accepted o r → verdict o r ≡ 0
 unfolding verdict allTests
 verdict-zero o r a =
     let small : T (leb (size (edited o r)) mostBytes) = le→leb (size (edited o r)) mostBytes (a .small) in
-    pass-zero (allTests o r) (
-      lt→ltb (o .view) (length (r .views)) (a .place),
-      (yes-eqb (a .count), all-append (λ t. T (t .0)) (tests (o .act) (viewAt r (o .view))) _ (a .passes) (small, tt)),
-    )
+    pass-zero (allTests o r) (yes-eqb (a .count), all-append (λ t. T (t .0)) (tests (o .act) (viewAt r (o .view))) _ (a .passes) (small, tt))
 
 -- an order made for another count
-pub verdict-count : (o : Order) (r : Record) → o .view < length (r .views) → count (viewAt r (o .view)) ≢ o .count
-    → verdict o r ≡ otherCount
+pub verdict-count : (o : Order) (r : Record) → count (viewAt r (o .view)) ≢ o .count → verdict o r ≡ otherCount
 unfolding verdict allTests
-verdict-count o r l n =
-    pick-yes (ltb (o .view) (length (r .views))) _ _ (lt→ltb (o .view) (length (r .views)) l)
-    ∙ pick-no (eqb (count (viewAt r (o .view))) (o .count)) _ _ (no-eqb n)
+verdict-count o r n = pick-no (eqb (count (viewAt r (o .view))) (o .count)) _ _ (no-eqb n)

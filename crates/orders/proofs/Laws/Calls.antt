@@ -12,7 +12,7 @@ use Rattle.outcome.specs.Outcome.{refused, room, numberOf, placeOf, lengthOf, l
 use Rattle.outcome.specs.declared.Answer.{Answer}
 use Rattle.outcome.proofs.Laws.{same-answer, answer-accepted}
 use Rattle.format.specs.Record.{Record, read}
-use Rattle.format.proofs.Laws.Call.{given-record}
+use Rattle.format.proofs.Laws.Call.{given-view}
 use Rattle.format.proofs.Laws.Record.{read-back}
 use Rattle.orders.specs.Act.{remove}
 use Rattle.orders.specs.Order.{Order, ordered, order, holds}
@@ -49,7 +49,7 @@ module _ (o : Order) {rs : List ℕ} (q : o .act ≡ remove rs) (bytes : List �
   unfolding order
   an-accepted k =
       answer-accepted h (λ e p. order-told o bytes e p) z λ xs d t.
-      given-record (ordered o) bytes xs d λ r rest e g.
+      given-view (o .view) (λ i. ordered o) bytes xs d λ r rest e l g.
       let (_, _, m) = read-back bytes r rest f e in
       k r (e ∙ ap (got r) m)
 

@@ -7,7 +7,7 @@ use native.Mathlib.Omega.{arith}
 use mathlib.Core.Bool.{Bool}
 use mathlib.Core.List.{List, _++_}
 use lib.ListN.{length, drop, length-append}
-use lib.Dec.{leb, eqb, le→leb}
+use lib.Dec.{leb, ltb, eqb, le→leb}
 use lib.Seq.{take-append-seam}
 use mir.Facts.{eqb-no}
 use Rattle.bits.specs.ChoiceLaws.{pick-yes, pick-case, eqb-false, within-low}
@@ -15,7 +15,7 @@ use Rattle.bits.specs.Codec.{Read}
 use Rattle.bits.specs.Codec as C
 use Rattle.outcome.specs.Outcome.{Outcome, refused, given, room, numberOf, lengthOf, laid}
 use Rattle.format.specs.Record.{Record, read}
-use Rattle.format.specs.Call.{fromRead, onRecord}
+use Rattle.format.specs.Call.{fromRead, onRecord, inView, onView}
 use Rattle.format.proofs.Laws.Refuses.{read-refuses}
 use Rattle.orders.specs.Order.{Order, verdict, ordered, order, holds}
 use Rattle.orders.specs.History.{Call, outcome, nowHolds}
@@ -26,8 +26,10 @@ abbrev Told : Outcome ℕ → Type 0
 Told (refused e p) = e ≢ 0
 Told (given xs) = Unit {0}
 
-read-told : (o : Order) (n : ℕ) (x : Read Bool Record) → ((e left : ℕ) → x ≡ C.refused e left → 1 ≤ e) → Told (fromRead n (ordered o) x)
-read-told o n (C.got r rest) h = pick-case Told (eqb (verdict o r) 0) _ _ (λ t. tt) (λ t. eqb-no t)
+read-told : (o : Order) (n : ℕ) (x : Read Bool Record) → ((e left : ℕ) → x ≡ C.refused e left → 1 ≤ e)
+    → Told (fromRead n (inView (o .view) (λ i. ordered o)) x)
+read-told o n (C.got r rest) h =
+    pick-case Told (ltb (o .view) (length (r .views))) _ _ (λ t. pick-case Told (eqb (verdict o r) 0) _ _ (λ u. tt) (λ u. eqb-no u)) (λ t. omega arith)
 read-told o n (C.refused e left) h = λ z. omega (arith, h e left refl)
 
 room-told : (n : ℕ) (o : Outcome ℕ) → Told o → Told (room n o)
@@ -35,7 +37,7 @@ room-told n (refused e p) h = h
 room-told n (given xs) h = pick-case Told (leb (length xs) n) _ _ (λ t. tt) (λ t. omega arith)
 
 all-told : (o : Order) (bytes : List ℕ) → Told (order o bytes)
-unfolding order onRecord
+unfolding order onView onRecord
 all-told o bytes = read-told o _ (read bytes) (λ e left p. within-low 1 12 e (read-refuses bytes e left p .0))
 
 pub order-told : (o : Order) (bytes : List ℕ) (e p : ℕ) → order o bytes ≡ refused e p → e ≢ 0

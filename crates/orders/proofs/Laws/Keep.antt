@@ -27,11 +27,10 @@ use Rattle.format.specs.Places.{count, noLine, lineAt, noViewThere, viewAt}
 use Rattle.orders.specs.Survive.{survivors}
 use Rattle.orders.specs.Least.{indexOf}
 use Rattle.orders.specs.Act.{Act, remove, join, part, lists, newLines, after}
-use Rattle.orders.specs.Order.{Order, edited, tests, verdict}
+use Rattle.orders.specs.Order.{Order, edited, tests, Pass, Accepted}
 use Rattle.orders.proofs.Laws.Survive.{survivors-le, survivors-below}
 use Rattle.orders.proofs.Laws.Near.{head-after, segments-after, lines-after, index-after}
 use Rattle.orders.proofs.Laws.Least.{least-fits}
-use Rattle.orders.proofs.Laws.Accept.{Pass, accepted}
 use Rattle.orders.proofs.Laws.Right.{RightLists, Right, after-right}
 
 -- ---- what fits is right, and what is right fits
@@ -114,10 +113,9 @@ pub edited-other : (o : Order) (r : Record) (i : ℕ) → i ≢ o .view → view
 unfolding edited
 edited-other o r i n = getD-set-other (r .views) (o .view) i _ noViewThere n
 
-pub order-keeps : (o : Order) (r : Record) → Allowed r → verdict o r ≡ 0 → Allowed (edited o r)
+pub order-keeps : (o : Order) (r : Record) → Allowed r → Accepted o r → Allowed (edited o r)
 unfolding edited
-order-keeps o r f p =
-    let a = accepted o r p in
+order-keeps o r f a =
     let w : Widths = r .head .scale .widths in
     let small : length (encAlong (view w) tellSeen [] (edited o r .views)) ≤ 8 * mostBytes = omega (arith, views-length (edited o r), a .small) in
     record {

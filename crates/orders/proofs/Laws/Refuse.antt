@@ -1,22 +1,22 @@
--- When an order is refused, and with which number: the first test that fails gives it. And what a call for the order then gives.
+-- When an order on a view that is there is refused, and with which number: the first test that fails gives it. And what a call for
+-- the order then gives.
 use mathlib.Core.Path.{_≡_, ap, _∙_}
-use Prim.Native.Nat.{ℕ, _≤_, _<_}
+use Prim.Native.Nat.{ℕ, _<_}
 use native.Mathlib.Omega.{arith}
 use mathlib.Core.Bool.{Bool, not}
 use mathlib.Core.List.{List, [], _∷_, _++_, append-assoc}
 use lib.ListN.{length}
-use lib.Dec.{T, leb, ltb, eqb}
-use mir.Facts.{yes-ltb, no-ltb, no-leb, yes-eqb, no-eqb}
+use lib.Dec.{T, leb, eqb}
+use mir.Facts.{no-leb, yes-eqb, no-eqb}
 use Rattle.bits.specs.ChoiceLaws.{pick-yes, pick-no}
 use Rattle.bits.specs.Codec.{got}
-use Rattle.outcome.specs.Refusals.{noView, tooLong}
+use Rattle.outcome.specs.Refusals.{tooLong}
 use Rattle.outcome.specs.Outcome.{refused, given}
 use Rattle.format.specs.Limits.{mostBytes}
 use Rattle.format.specs.Record.{Record, read, size, write}
 use Rattle.format.specs.Places.{viewAt, count}
-use Rattle.format.proofs.Laws.Call.{on-record}
-use Rattle.orders.specs.Order.{Order, edited, firstBad, tests, allTests, verdict, ordered, order}
-use Rattle.orders.proofs.Laws.Accept.{Pass}
+use Rattle.format.proofs.Laws.Call.{on-view}
+use Rattle.orders.specs.Order.{Order, edited, firstBad, tests, allTests, verdict, Pass, ordered, order}
 
 -- those before it pass
 first-fail : (ts : List (Bool × ℕ)) (b : Bool) (n : ℕ) (us : List (Bool × ℕ)) → Pass ts → T (not b) → firstBad (ts ++ (b, n) ∷ us) ≡ n
@@ -24,11 +24,7 @@ first-fail [] b n us h k = pick-no b _ _ k
 first-fail (t ∷ ts) b n us h k = pick-yes (t .0) _ _ (h .0) ∙ first-fail ts b n us (h .1) k
 
 module _ (o : Order) (r : Record) where
-  pub verdict-view : length (r .views) ≤ o .view → verdict o r ≡ noView
-  unfolding verdict allTests
-  verdict-view l = pick-no (ltb (o .view) (length (r .views))) _ _ (no-ltb {a = o .view} l)
-
-  module _ (l : o .view < length (r .views)) (c : count (viewAt r (o .view)) ≡ o .count) where
+  module _ (c : count (viewAt r (o .view)) ≡ o .count) where
     abbrev own : List (Bool × ℕ)
     own = tests (o .act) (viewAt r (o .view))
 
@@ -37,8 +33,7 @@ module _ (o : Order) (r : Record) where
 
     behind : verdict o r ≡ firstBad (own ++ (last, tooLong) ∷ [])
     unfolding verdict allTests
-    behind =
-        pick-yes (ltb (o .view) (length (r .views))) _ _ (yes-ltb {a = o .view} l) ∙ pick-yes (eqb (count (viewAt r (o .view))) (o .count)) _ _ (yes-eqb c)
+    behind = pick-yes (eqb (count (viewAt r (o .view))) (o .count)) _ _ (yes-eqb c)
 
     -- one of the order's own tests fails
     pub verdict-own : (ts : List (Bool × ℕ)) (b : Bool) (n : ℕ) (us : List (Bool × ℕ)) → tests (o .act) (viewAt r (o .view)) ≡ ts ++ (b, n) ∷ us → Pass ts → T (not b)
@@ -52,12 +47,12 @@ module _ (o : Order) (r : Record) where
 
 -- ---- the call on a record
 
-module _ (o : Order) (s : List ℕ) {r : Record} (e : read s ≡ got r []) where
+module _ (o : Order) (s : List ℕ) {r : Record} (e : read s ≡ got r []) (l : o .view < length (r .views)) where
   pub order-refused : (n : ℕ) → verdict o r ≡ n → 0 < n → order o s ≡ refused n 0
   unfolding order
-  order-refused n v l =
-      on-record (ordered o) s r [] e ∙ pick-no (eqb (verdict o r) 0) _ _ (no-eqb {a = verdict o r} {b = 0} (λ z. absurd (omega (arith, v, z)))) ∙ ap (λ (k : ℕ). refused k 0) v
+  order-refused n v k =
+      on-view (o .view) (λ i. ordered o) s e l ∙ pick-no (eqb (verdict o r) 0) _ _ (no-eqb {a = verdict o r} {b = 0} (λ z. absurd (omega (arith, v, z, k)))) ∙ ap (λ (k : ℕ). refused k 0) v
 
   pub order-given : verdict o r ≡ 0 → order o s ≡ given (write (edited o r))
   unfolding order
-  order-given v = on-record (ordered o) s r [] e ∙ pick-yes (eqb (verdict o r) 0) _ _ (yes-eqb v)
+  order-given v = on-view (o .view) (λ i. ordered o) s e l ∙ pick-yes (eqb (verdict o r) 0) _ _ (yes-eqb v)

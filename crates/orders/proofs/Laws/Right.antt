@@ -18,10 +18,10 @@ use Rattle.format.specs.View.{View}
 use Rattle.format.specs.Places.{count}
 use Rattle.orders.specs.Survive.{elem, at, survivors, renumber, RisesFrom}
 use Rattle.orders.specs.Act.{Act, remove, join, part, lists, near, insert, delete, change, newLists, newLines, after}
-use Rattle.orders.specs.Order.{tests}
+use Rattle.orders.specs.Order.{tests, Pass}
 use Rattle.orders.proofs.Laws.Survive.{rises-lt, rises-le, place-at, survivors-rise, survivors-below}
 use Rattle.orders.proofs.Laws.Near.{lines-after, lists-after}
-use Rattle.orders.proofs.Laws.Accept.{Pass, both-lines}
+use Rattle.orders.proofs.Laws.Accept.{both-lines}
 
 -- a list for each of n lines, each falling from at most its line's number
 pub record RightLists (n : ℕ) (ls : List (List ℕ)) : Type 0 where

@@ -1,50 +1,56 @@
 -- THE THEOREM on sequences of orders, in bytes: start from bytes that read as a record and feed each result to the next order.
 -- The bytes that hold at the end read as an allowed record, and each view of it is what the accepted orders on that view say.
-use mathlib.Core.Path.{_≡_, refl, sym, _∙_}
+use mathlib.Core.Path.{_≡_, refl, sym, ap, _∙_}
 use mathlib.Core.Logic.{_≢_}
-use Prim.Native.Nat.{ℕ, _<_}
+use Prim.Native.Nat.{ℕ, _≤_, _<_}
 use native.Mathlib.Omega.{arith}
 use mathlib.Core.List.{List, [], _∷_}
 use lib.ListN.{length}
 use lib.Dec.{eqb, leb, eqb→eq}
 use mir.Facts.{eqb-no}
-use Rattle.bits.specs.ChoiceLaws.{pick-case, eqb-true, eqb-false, eq-split}
+use Rattle.bits.specs.ChoiceLaws.{pick-case, eqb-true, eqb-false, split, eq-split}
 use Rattle.bits.specs.Lists.{All}
 use Rattle.bits.specs.Bytes.{Byte}
 use Rattle.bits.specs.Codec.{got}
-use Rattle.outcome.specs.Refusals.{otherCount, noRoom}
+use Rattle.outcome.specs.Refusals.{noView, otherCount, noRoom}
 use Rattle.outcome.specs.Outcome.{Outcome, refused, given, room, numberOf}
 use Rattle.format.specs.View.{View}
 use Rattle.format.specs.Record.{Record, read, write, Allowed}
-use Rattle.format.specs.Call.{onRecord}
+use Rattle.format.proofs.Laws.Call.{on-view, no-view}
 use Rattle.format.proofs.Laws.Record.{read-there, read-back}
 use Rattle.format.specs.Places.{count, viewAt}
 use Rattle.orders.specs.Act.{remove}
-use Rattle.orders.specs.Order.{Order, edited, verdict, ordered, order}
+use Rattle.orders.specs.Order.{Order, edited, verdict, Accepted, ordered, order}
 use Rattle.orders.specs.History.{Call, outcome, nowHolds, run, History, fresh, history, Follows}
-use Rattle.orders.proofs.Laws.Accept.{Accepted, accepted, verdict-count}
+use Rattle.orders.proofs.Laws.Accept.{accepted, verdict-count}
 use Rattle.orders.proofs.Laws.Keep.{edited-head, edited-count, edited-here, edited-other, order-keeps, allowed-right}
 use Rattle.orders.proofs.Laws.Story.{follows-fresh, follows-act, follows-count, removal-shortens}
 
 -- ---- one call
 
--- on bytes that read as a record
-outcome-is : (c : Call) (bytes : List ℕ) (r : Record) → read bytes ≡ got r [] → outcome c bytes ≡ room (c .lent) (ordered (c .order) r)
-unfolding outcome order onRecord
-outcome-is c bytes r p = rw p
+module _ (c : Call) (bytes : List ℕ) (r : Record) (p : read bytes ≡ got r []) where
+  -- the view is there
+  outcome-is : c .order .view < length (r .views) → outcome c bytes ≡ room (c .lent) (ordered (c .order) r)
+  unfolding outcome order
+  outcome-is l = ap (room (c .lent)) (on-view (c .order .view) (λ i. ordered (c .order)) bytes p l)
 
--- it gives the edited record, or is refused
-outcome-split : {X : Type 0} (c : Call) (bytes : List ℕ) (r : Record) → read bytes ≡ got r []
-    → (verdict (c .order) r ≡ 0 → outcome c bytes ≡ given (write (edited (c .order) r)) → X)
-    → ((e p : ℕ) → e ≢ 0 → outcome c bytes ≡ refused e p → X) → X
-outcome-split {X} c bytes r p f g =
-    let n : ℕ = verdict (c .order) r in
-    let new : List ℕ = write (edited (c .order) r) in
-    pick-case (λ (o : Outcome ℕ). outcome c bytes ≡ room (c .lent) o → X) (eqb n 0) _ _
-    (λ t. pick-case (λ (o : Outcome ℕ). outcome c bytes ≡ o → X) (leb (length new) (c .lent)) _ _
-    (λ u e. f (eqb→eq n 0 t) e) (λ u e. g noRoom 0 (omega arith) e))
-    (λ t e. g n 0 (eqb-no t) e)
-    (outcome-is c bytes r p)
+  outcome-none : length (r .views) ≤ c .order .view → outcome c bytes ≡ refused noView 0
+  unfolding outcome order
+  outcome-none l = ap (room (c .lent)) (no-view (c .order .view) (λ i. ordered (c .order)) bytes p l)
+
+  -- it gives the edited record, or is refused
+  outcome-split : {X : Type 0} → (Accepted (c .order) r → outcome c bytes ≡ given (write (edited (c .order) r)) → X)
+      → ((e p : ℕ) → e ≢ 0 → outcome c bytes ≡ refused e p → X) → X
+  outcome-split {X} f g =
+      let n : ℕ = verdict (c .order) r in
+      let new : List ℕ = write (edited (c .order) r) in
+      split (length (r .views)) (c .order .view)
+      (λ l. g noView 0 (omega arith) (outcome-none l))
+      (λ l. pick-case (λ (o : Outcome ℕ). outcome c bytes ≡ room (c .lent) o → X) (eqb n 0) _ _
+      (λ t. pick-case (λ (o : Outcome ℕ). outcome c bytes ≡ o → X) (leb (length new) (c .lent)) _ _
+      (λ u e. f (accepted (c .order) r l (eqb→eq n 0 t)) e) (λ u e. g noRoom 0 (omega arith) e))
+      (λ t e. g n 0 (eqb-no t) e)
+      (outcome-is l))
 
 -- a refused order changes nothing
 pub refused-stays : (c : Call) (bytes : List ℕ) → numberOf (outcome c bytes) ≢ 0 → nowHolds bytes (outcome c bytes) ≡ bytes
@@ -73,8 +79,7 @@ runs-one : (c : Call) (bytes : List ℕ) (r : Record) → Allowed r → read byt
 runs-one c bytes r a p =
     let o : Order = c .order in
     outcome-split c bytes r p
-    (λ z e. let k : Allowed (edited o r) = order-keeps o r a z in
-    let b : Accepted o r = accepted o r z in
+    (λ b e. let k : Allowed (edited o r) = order-keeps o r a b in
     record {
       last = edited o r;
       reads = rw e (read-there (edited o r) k);
@@ -135,20 +140,19 @@ orders-follow cs bytes r h p =
 
 -- ---- a removal comes only once
 
-removal-refused : (o : Order) (rs : List ℕ) (cs : List Call) (r : Record) (n : ℕ) → Allowed r → o .act ≡ remove rs → verdict o r ≡ 0
+removal-refused : (o : Order) (rs : List ℕ) (cs : List Call) (r : Record) (n : ℕ) → Allowed r → o .act ≡ remove rs → Accepted o r
     → outcome (record { order = o; lent = n }) (run cs (write (edited o r))) ≡ refused otherCount 0
-removal-refused o rs cs r n a e z =
+removal-refused o rs cs r n a e b =
     let i : ℕ = o .view in
     let v : View = viewAt r i in
     let x : Record = edited o r in
-    let k : Allowed x = order-keeps o r a z in
-    let b : Accepted o r = accepted o r z in
+    let k : Allowed x = order-keeps o r a b in
     let m : Runs cs x (write x) = runs-all cs (write x) x k (read-there x k) in
     let less : count (viewAt x i) < count v = rw (edited-here o r (b .place), e) (removal-shortens rs v (rw e at (b .passes))) in
     let f = m .follows i (omega (arith, edited-count o r, b .place)) (viewAt x i) (fresh (viewAt x i)) (follows-fresh (viewAt x i)) in
     let there : i < length (m .last .views) = omega (arith, edited-count o r, b .place, m .count) in
-    let other : verdict o (m .last) ≡ otherCount = verdict-count o (m .last) there (omega (arith, follows-count _ _ _ f, b .count)) in
-    outcome-is (record { order = o; lent = n }) (run cs (write x)) (m .last) (m .reads) ∙ rw other
+    let other : verdict o (m .last) ≡ otherCount = verdict-count o (m .last) (omega (arith, follows-count _ _ _ f, b .count)) in
+    outcome-is (record { order = o; lent = n }) (run cs (write x)) (m .last) (m .reads) there ∙ rw other
 
 -- a removal that was accepted is refused wherever it comes again: the count that it names is gone
 pub removal-again : (c : Call) (rs : List ℕ) (cs : List Call) (bytes : List ℕ) (r : Record) → All Byte bytes → read bytes ≡ got r []

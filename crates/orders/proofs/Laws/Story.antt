@@ -16,11 +16,11 @@ use Rattle.format.specs.View.{View}
 use Rattle.format.specs.Places.{count, noLine, lineAt}
 use Rattle.orders.specs.Survive.{at, upFrom, survivors, RisesFrom}
 use Rattle.orders.specs.Act.{Act, remove, join, part, lists, some?, indexed?, near, newLines, after}
-use Rattle.orders.specs.Order.{risesOk, tests}
+use Rattle.orders.specs.Order.{risesOk, tests, Pass}
 use Rattle.orders.specs.History.{History, fresh, tell, about, Follows}
 use Rattle.orders.proofs.Laws.Survive.{rises-lt, rises-make, rises-length, at-ends, at-eqb, upFrom-rises, length-upFrom, survivors-rise, survivors-below, survivors-lt}
 use Rattle.orders.proofs.Laws.Near.{head-after, segments-after, lines-after, indexed-after, least-after, near-remove, near-join, near-part}
-use Rattle.orders.proofs.Laws.Accept.{Pass, both-lines}
+use Rattle.orders.proofs.Laws.Accept.{both-lines}
 use Rattle.orders.proofs.Laws.Right.{Right}
 
 -- ---- at the start
