@@ -19,14 +19,16 @@ use Rattle.format.specs.Places.{segmentBits}
 use Rattle.format.specs.Record.{Record, read, Narrow}
 use Rattle.format.specs.declared.Widths.{Widths}
 use Rattle.find_parts.specs.Stands.{BlocksAt, ViewIn}
+use Rattle.find_parts.specs.declared.view.Part.{Part}
 use Rattle.find_parts.specs.declared.view.Blocks.{Blocks}
 use Rattle.find_parts.specs.declared.Passed.{Passed}
 
 -- ---- blocks
 
--- e is where the block ends whose length is at byte b, whatever it holds
-pub record BlockEnd (s : List ℕ) (b e : ℕ) : Type 0 where
-  pub is : (n q : ℕ) → Reads (fieldDec past 16) s (8 * b) (found n q) → e ≡ b + 2 + n
+-- x is the block whose length is at byte b, whatever it holds
+pub record BlockFound (s : List ℕ) (b : ℕ) (x : Part) : Type 0 where
+  pub from : x .from ≡ b + 2
+  pub is : (n q : ℕ) → Reads (fieldDec past 16) s (8 * b) (found n q) → x .to ≡ b + 2 + n
 
 pub record BlocksThere (s : List ℕ) (b : ℕ) : Type 0 where
   pub short : length s ≤ 32768
@@ -36,7 +38,10 @@ pub record BlocksThere (s : List ℕ) (b : ℕ) : Type 0 where
   pub blocks : BlocksAt widths s b value behind
 
 pub record BlocksFound (s : List ℕ) (b : ℕ) (x : Blocks) : Type 0 where
-  pub is : (w : Widths) (v : View) (d : ℕ) (B : BlocksAt w s b v d) → (x .index ≡ B .i) × (x .extended ≡ B .j) × (x .end ≡ d)
+  pub skeleton : x .skeleton .from ≡ b + 2
+  pub index : x .index .from ≡ x .skeleton .to + 2
+  pub extended : x .extended .from ≡ x .index .to + 2
+  pub is : (w : Widths) (v : View) (d : ℕ) (B : BlocksAt w s b v d) → (x .skeleton .to ≡ B .i) × (x .index .to ≡ B .j) × (x .extended .to ≡ d)
 
 -- ---- view i of the record s
 

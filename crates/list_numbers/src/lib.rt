@@ -48,22 +48,21 @@ pub fn listed_at(s: &[u8], a: usize, w: Widths) -> Listed
 {
     let number = Cursor { at: 8 * a }.sure(s, 8);
     let position = Cursor { at: 8 * a + 8 }.sure(s, 8);
-    let head = a + 8;
-    let blocks = blocks_at(s, head);
-    let skeleton = head + 2;
-    let index_at = blocks.index;
-    let lines = pass_lines(&s[skeleton..index_at], w, ViewHeader::MOST_LINES);
-    let index = index_at + 2;
-    let extended_at = blocks.extended;
-    let pairs = count_pairs(&s[index..extended_at], lines.count);
-    let extended = extended_at + 2;
-    let next = blocks.end;
+    let blocks = blocks_at(s, a + 8);
+    let skeleton = blocks.skeleton.from;
+    let skeleton_end = blocks.skeleton.to;
+    let lines = pass_lines(&s[skeleton..skeleton_end], w, ViewHeader::MOST_LINES);
+    let index = blocks.index.from;
+    let index_end = blocks.index.to;
+    let pairs = count_pairs(&s[index..index_end], lines.count);
+    let extended = blocks.extended.from;
+    let next = blocks.extended.to;
     let segments = pass_segments(&s[extended..next], next - extended);
     Listed {
         position: position.value,
         number: number.value,
         lines: lines.count,
-        indexed: index < extended_at,
+        indexed: index < index_end,
         pairs,
         segments: segments.count,
         next,

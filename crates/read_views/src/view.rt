@@ -22,15 +22,15 @@ fn blocks_out(out: &mut [u8], s: &[u8], b: usize, w: Widths) -> ViewOut
     ensures { λ r. ⌜ BlocksOut w (now (s .entry)) b (now (out .entry)) (now (out .exit)) r ⌝ }
 {
     let blocks = blocks_at(s, b);
-    let skeleton = b + 2;
-    let index_at = blocks.index;
-    let lines = lines_out(out, &s[skeleton..index_at], w);
+    let skeleton = blocks.skeleton.from;
+    let skeleton_end = blocks.skeleton.to;
+    let lines = lines_out(out, &s[skeleton..skeleton_end], w);
     let mut at = lines.written;
-    let index = index_at + 2;
-    let extended_at = blocks.extended;
-    at += index_out(&mut out[at..], &s[index..extended_at], lines.count);
-    let extended = extended_at + 2;
-    let next = blocks.end;
+    let index = blocks.index.from;
+    let index_end = blocks.index.to;
+    at += index_out(&mut out[at..], &s[index..index_end], lines.count);
+    let extended = blocks.extended.from;
+    let next = blocks.extended.to;
     at += segments_out(&mut out[at..], &s[extended..next]);
     ViewOut { next, written: at }
 }

@@ -15,11 +15,13 @@ use Rattle.bits.proofs.Laws.Parts.{part, part-length}
 use Rattle.format.specs.Limits.{mostLines}
 use Rattle.format.specs.Line.{Line, line, skeleton}
 use Rattle.format.specs.Index.{Index, indexBlock}
-use Rattle.format.specs.Segments.{segments}
+use Rattle.format.specs.Segments.{Segment, segments}
 use Rattle.format.specs.View.{View}
 use Rattle.format.specs.declared.Widths.{Widths}
-use Rattle.find_parts.specs.Stands.{BlockAt, BlocksAt, ViewAt}
-use Rattle.find_parts.specs.Finds.{BlockEnd, BlocksThere, BlocksFound, SegmentsThere}
+use Rattle.format.specs.Record.{Record}
+use Rattle.find_parts.specs.Stands.{BlockAt, BlocksAt, ViewAt, ViewIn, BlocksIn}
+use Rattle.find_parts.specs.Finds.{BlockFound, BlocksThere, BlocksFound, SegmentsThere}
+use Rattle.find_parts.specs.declared.view.Part.{Part}
 use Rattle.find_parts.specs.declared.view.Blocks.{Blocks}
 use Rattle.find_parts.proofs.Laws.Prefixed.{block-end}
 
@@ -27,20 +29,20 @@ use Rattle.find_parts.proofs.Laws.Prefixed.{block-end}
 pub whole-is : {A : Type 0} (w : Block A) (s : List ℕ) {v : A} → w .dec (bitsOf s) ≡ got v [] → w .Fits v × (bitsOf s ≡ w .enc v)
 whole-is w s {v} e = let l : length (bitsOf s) % 8 ≡ 0 = omega (arith, length-bitsOf s) in w .back (bitsOf s) v l e
 
--- the bytes that code cuts out for the block whose length is at byte b
+-- the bytes that code cuts out for a block
 abbrev pub cut : List ℕ → ℕ → ℕ → List ℕ
-cut s b e = part s (b + 2) (e - (b + 2))
+cut s a e = part s a (e - a)
 
-module _ {A : Type 0} {w : Block A} {s : List ℕ} {b e : ℕ} {v : A} (h : BlockAt w s b e v) where
+module _ {A : Type 0} {w : Block A} {s : List ℕ} {a e : ℕ} {v : A} (h : BlockAt w s a e v) where
   -- it is what its block writes
-  pub block-is : w .Fits v × (bitsOf (cut s b e) ≡ w .enc v)
-  block-is = whole-is w (cut s b e) (h .value)
+  pub block-is : w .Fits v × (bitsOf (cut s a e) ≡ w .enc v)
+  block-is = whole-is w (cut s a e) (h .value)
 
-  pub cut-long : length (cut s b e) ≡ e - (b + 2)
-  cut-long = part-length s (b + 2) (e - (b + 2)) (omega (arith, h .from, h .within))
+  pub cut-long : length (cut s a e) ≡ e - a
+  cut-long = part-length s a (e - a) (omega (arith, h .from, h .within))
 
-  pub block-bits : length (w .enc v) ≡ 8 * (e - (b + 2))
-  block-bits = ap length (sym (block-is .1)) ∙ length-bitsOf (cut s b e) ∙ ap (λ (n : ℕ). 8 * n) cut-long
+  pub block-bits : length (w .enc v) ≡ 8 * (e - a)
+  block-bits = ap length (sym (block-is .1)) ∙ length-bitsOf (cut s a e) ∙ ap (λ (n : ℕ). 8 * n) cut-long
 
 -- its bytes
 pub block-long : {A : Type 0} (b : Block A) (v : A) → length (b .enc v) ≡ 8 * length (inBytes (b .enc v))
@@ -51,7 +53,7 @@ pub skeleton-is : (w : Widths) (ls : List Line) → skeleton w .enc ls ≡ fille
 unfolding skeleton
 skeleton-is w ls = refl
 
-pub few-lines : (w : Widths) {s : List ℕ} {b e : ℕ} {ls : List Line} → BlockAt (skeleton w) s b e ls → length ls ≤ 1024
+pub few-lines : (w : Widths) {s : List ℕ} {a e : ℕ} {ls : List Line} → BlockAt (skeleton w) s a e ls → length ls ≤ 1024
 unfolding skeleton mostLines
 few-lines w h = block-is h .0 .most
 
@@ -61,25 +63,25 @@ unfolding indexBlock bitsOf
 no-index lines [] h e = cc
 no-index lines (x ∷ s) h e = absurd (omega arith)
 
--- ---- i, j and e are where code finds that the blocks end
+-- ---- x, y and z are the blocks that code finds, one behind the other
 
-module _ {w : Widths} {s : List ℕ} {b : ℕ} {v : View} {d : ℕ} (B : BlocksAt w s b v d) {i : ℕ} (I : BlockEnd s b i) where
-  pub index-is : i ≡ B .i
-  index-is = block-end (B .lines) I
+module _ {w : Widths} {s : List ℕ} {b : ℕ} {v : View} {d : ℕ} (B : BlocksAt w s b v d) {x : Part} (X : BlockFound s b x) where
+  pub skeleton-end : x .to ≡ B .i
+  skeleton-end = block-end (B .lines) X
 
   -- the next length is there
-  pub index-next : i + 2 ≤ length s
-  index-next = omega (arith, index-is, B .index .from, B .index .within)
+  pub index-next : x .to + 2 ≤ length s
+  index-next = omega (arith, skeleton-end, B .index .from, B .index .within)
 
-  module _ {j : ℕ} (J : BlockEnd s i j) where
-    pub extended-is : j ≡ B .j
-    extended-is = block-end (B .index) (rw index-is at J)
+  module _ {y : Part} (Y : BlockFound s (x .to) y) where
+    pub index-end : y .to ≡ B .j
+    index-end = block-end (B .index) (rw skeleton-end at Y)
 
-    pub extended-next : j + 2 ≤ length s
-    extended-next = omega (arith, extended-is, B .segments .from, B .segments .within)
+    pub extended-next : y .to + 2 ≤ length s
+    extended-next = omega (arith, index-end, B .segments .from, B .segments .within)
 
-    pub end-is : {e : ℕ} → BlockEnd s j e → e ≡ d
-    end-is E = block-end (B .segments) (rw extended-is at E)
+    pub extended-end : {z : Part} → BlockFound s (y .to) z → z .to ≡ d
+    extended-end Z = block-end (B .segments) (rw index-end at Z)
 
 -- ---- the blocks that code finds
 
@@ -87,19 +89,29 @@ pub blocks-there : {w : Widths} {s : List ℕ} {a : ℕ} {v : View} → length s
 blocks-there {w} {v = v} k h = record { short = k; widths = w; value = v; behind = h .behind; blocks = h .blocks }
 
 module _ {w : Widths} {s : List ℕ} {b : ℕ} {v : View} {d : ℕ} (B : BlocksAt w s b v d) {x : Blocks} (F : BlocksFound s b x) where
-  pub lines-here : BlockAt (skeleton w) s b (x .index) (v .lines)
-  lines-here = rw (F .is w v d B .0) (B .lines)
+  pub lines-here : BlockAt (skeleton w) s (x .skeleton .from) (x .skeleton .to) (v .lines)
+  lines-here = rw (F .skeleton, F .is w v d B .0) (B .lines)
 
-  pub index-here : BlockAt (indexBlock (length (v .lines))) s (x .index) (x .extended) (v .index)
-  index-here = rw (F .is w v d B .0, F .is w v d B .1) (B .index)
+  pub index-here : BlockAt (indexBlock (length (v .lines))) s (x .index .from) (x .index .to) (v .index)
+  index-here = rw (F .index, F .is w v d B .0, F .is w v d B .1) (B .index)
 
-  pub segments-here : BlockAt segments s (x .extended) (x .end) (v .segments)
-  segments-here = rw (F .is w v d B .1, F .is w v d B .2) (B .segments)
+  pub segments-here : BlockAt segments s (x .extended .from) (x .extended .to) (v .segments)
+  segments-here = rw (F .extended, F .is w v d B .1, F .is w v d B .2) (B .segments)
 
-  pub behind-is : x .end ≡ d
+  pub behind-is : x .extended .to ≡ d
   behind-is = F .is w v d B .2
 
-pub segments-there : {s : List ℕ} {b : ℕ} (t : BlocksThere s b) {x : Blocks} → BlocksFound s b x → SegmentsThere (cut s (x .extended) (x .end))
-segments-there t F =
-    let h = segments-here (t .blocks) F in
-    record { short = omega (arith, cut-long h, h .within, t .short); value = t .value .segments; left = []; reads = h .value }
+pub blocks-in : {r : Record} {s : List ℕ} {i a : ℕ} → ViewIn r s i a → {x : Blocks} → BlocksFound s (a + 8) x → BlocksIn r s i x
+blocks-in I F =
+    let B = I .at .blocks in
+    record {
+      before = omega (arith, F .skeleton, I .before);
+      lines = lines-here B F;
+      next = F .index;
+      index = index-here B F;
+      last = F .extended;
+      segments = segments-here B F;
+    }
+
+pub segments-there : {s : List ℕ} {a e : ℕ} {gs : List Segment} → length s ≤ 32768 → BlockAt segments s a e gs → SegmentsThere (cut s a e)
+segments-there {gs = gs} k h = record { short = omega (arith, cut-long h, h .within, k); value = gs; left = []; reads = h .value }

@@ -124,7 +124,7 @@ module _ {w : Widths} {s : List ℕ} {most : ℕ} {x : Passed} (P : LinesPassed 
 pub none-left : {A : Type 0} (xs : List A) (n : ℕ) → n ≤ length xs → drop n xs ≡ [] → n ≡ length xs
 none-left xs n h e = let z : length xs - n ≡ 0 = sym (length-drop n xs) ∙ ap length e in omega arith
 
-pub lines-counted : {w : Widths} {s : List ℕ} {b e : ℕ} {ls : List Line} {r : Passed} → BlockAt (skeleton w) s b e ls → LinesPassed w (cut s b e) 1024 r → r .count ≡ length ls
+pub lines-counted : {w : Widths} {s : List ℕ} {a e : ℕ} {ls : List Line} {r : Passed} → BlockAt (skeleton w) s a e ls → LinesPassed w (cut s a e) 1024 r → r .count ≡ length ls
 lines-counted {w} {ls = ls} {r = r} h P =
     let (c, left) = P .is ls [] (h .value) in
     split 1024 (r .count) (λ k. omega (arith, few-lines w h)) (λ k. none-left ls (r .count) c (lines-none left (P .all k)))

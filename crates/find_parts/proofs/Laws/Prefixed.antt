@@ -1,5 +1,5 @@
 -- A block behind its length, taken apart: what was read of it is the block at its place, and what follows starts behind it.
-use mathlib.Core.Path.{_≡_, sym, ap, _∙_, subst}
+use mathlib.Core.Path.{_≡_, refl, sym, ap, _∙_, subst}
 use Prim.Native.Nat.{ℕ, _+_, _-_, _*_, _≤_}
 use native.Mathlib.Omega.{arith}
 use mathlib.Core.Bool.{Bool}
@@ -19,14 +19,15 @@ use Rattle.bits.proofs.Laws.Reads.{length-rest, up-to}
 use Rattle.bits.proofs.Laws.Parts.{part-bits}
 use Rattle.outcome.specs.Refusals.{past}
 use Rattle.find_parts.specs.Stands.{BlockAt}
-use Rattle.find_parts.specs.Finds.{BlockEnd}
+use Rattle.find_parts.specs.Finds.{BlockFound}
+use Rattle.find_parts.specs.declared.view.Part.{Part}
 use Rattle.bits.proofs.Laws.Apart.{then-got, via-got, moved}
 
 -- ---- a block behind its length, at byte b of s; rest is what follows
 
 pub record BlockGot {A : Type 0} (w : Block A) (s : List ℕ) (b : ℕ) (v : A) (rest : Bits) : Type 0 where
   pub behind : ℕ
-  pub block : BlockAt w s b behind v
+  pub block : BlockAt w s (b + 2) behind v
   pub follows : rest ≡ drop (8 * behind) (bitsOf s)
 
 module _ {A : Type 0} (w : Block A) {s : List ℕ} {b : ℕ} (i : b ≤ length s) where
@@ -44,6 +45,8 @@ module _ {A : Type 0} (w : Block A) {s : List ℕ} {b : ℕ} (i : b ≤ length s
       record {
         behind = b + 2 + n;
         block = record {
+          front = b;
+          behind = refl;
           size = rw x (up-to z f);
           from = omega arith;
           within = omega (arith, f .within, leb→le (8 * n) (length t) l, ap length e ∙ length-rest s (8 * (b + 2)));
@@ -69,5 +72,7 @@ headed-got {H} {A} c w e {s} {r} {h} {v} d k =
 
 -- ---- the same block, up to where code finds that it ends
 
-pub block-end : {A : Type 0} {w : Block A} {s : List ℕ} {b e r : ℕ} {v : A} → BlockAt w s b e v → BlockEnd s b r → r ≡ e
-block-end {b = b} {e = e} h k = omega (arith, h .from, k .is (e - (b + 2)) (8 * (b + 2)) (h .size))
+pub block-end : {A : Type 0} {w : Block A} {s : List ℕ} {b e : ℕ} {v : A} {x : Part} → BlockAt w s (b + 2) e v → BlockFound s b x → x .to ≡ e
+block-end {b = b} {e = e} h k =
+    let z : h .front ≡ b = omega (arith, h .behind) in
+    omega (arith, h .from, k .is (e - (b + 2)) (8 * (b + 2)) (rw z at (h .size)))

@@ -109,5 +109,5 @@ module _ {r : Record} {s : List ℕ} {n p : ℕ} (h : Sought r s n p) (l : n < l
   view-end = omega (arith, view-apart (r .head .scale .widths) (sought-next .seen) sought-reads .1)
 
   -- where code finds that it ends
-  pub sought-end : {x : Blocks} → BlocksFound s (p + 8) x → x .end ≡ sought-next .behind
+  pub sought-end : {x : Blocks} → BlocksFound s (p + 8) x → x .extended .to ≡ sought-next .behind
   sought-end f = f .is (r .head .scale .widths) (viewAt r n) (view-in .at .behind) (view-in .at .blocks) .2 ∙ view-end

@@ -61,21 +61,21 @@ segments-wide [] = omega arith
 segments-wide (g ∷ gs) = omega (arith, segment-length g, segments-wide gs)
 
 -- each has four bytes or more, so that there are no more of them than bytes
-segments-counted : {s : List ℕ} {b e : ℕ} {gs : List Segment} {r : Passed} → All Byte s → BlockAt segments s b e gs → SegmentsPassed (cut s b e) (e - (b + 2)) r
+segments-counted : {s : List ℕ} {a e : ℕ} {gs : List Segment} {r : Passed} → All Byte s → BlockAt segments s a e gs → SegmentsPassed (cut s a e) (e - a) r
     → r .count ≡ length gs
-segments-counted {s} {b} {e} {gs} {r} bytes h P =
+segments-counted {s} {a} {e} {gs} {r} bytes h P =
     let (c, left, z) = P .is gs [] (h .value) in
     let l : length (take (r .count) gs) ≡ r .count = length-take-le (r .count) gs c in
-    let far : length (cut s b e) ≤ r .next = split (e - (b + 2)) (r .count) (λ k. omega (arith, cut-long h, segments-wide (take (r .count) gs))) (λ k. P .all k) in
-    none-left gs (r .count) c (segments-none (part-bytes s (b + 2) (e - (b + 2)) bytes) left far)
+    let far : length (cut s a e) ≤ r .next = split (e - a) (r .count) (λ k. omega (arith, cut-long h, segments-wide (take (r .count) gs))) (λ k. P .all k) in
+    none-left gs (r .count) c (segments-none (part-bytes s a (e - a) bytes) left far)
 
-pairs-listed : {lines : ℕ} {s : List ℕ} {b e n : ℕ} {o : Option Index} → BlockAt (indexBlock lines) s b e o → PairsCounted lines (cut s b e) n
-    → pairsOf (ltb (b + 2) e) n ≡ Option·map (λ (i : Index). total length (i .lists)) o
-pairs-listed {lines} {s} {b} {e} {n} {o} h P =
+pairs-listed : {lines : ℕ} {s : List ℕ} {a e n : ℕ} {o : Option Index} → BlockAt (indexBlock lines) s a e o → PairsCounted lines (cut s a e) n
+    → pairsOf (ltb a e) n ≡ Option·map (λ (i : Index). total length (i .lists)) o
+pairs-listed {lines} {s} {a} {e} {n} {o} h P =
     let z : n ≡ entries o = P .is o [] (h .value) in
-    split e (b + 2)
-    (λ k. let q = no-index lines (cut s b e) (omega (arith, cut-long h)) (h .value) in rw (le-ltb (b + 2) e k, q))
-    (λ k. an-index lines (cut s b e) (omega (arith, cut-long h)) (h .value) λ i q. rw (lt-ltb (b + 2) e k, z, q))
+    split e a
+    (λ k. let q = no-index lines (cut s a e) (omega (arith, cut-long h)) (h .value) in rw (le-ltb a e k, q))
+    (λ k. an-index lines (cut s a e) (omega (arith, cut-long h)) (h .value) λ i q. rw (lt-ltb a e k, z, q))
 
 -- ---- the view that code finds at byte a
 
@@ -87,20 +87,20 @@ module _ {w : Widths} {s : List ℕ} {a : ℕ} (T : ListedThere w s a) where
   head-there = omega (arith, T .at .blocks .lines .from, T .at .blocks .lines .within)
 
   module _ {x : Blocks} (F : BlocksFound s (a + 8) x) where
-    pub lines-at : BlockAt (skeleton w) s (a + 8) (x .index) (T .value .lines)
+    pub lines-at : BlockAt (skeleton w) s (x .skeleton .from) (x .skeleton .to) (T .value .lines)
     lines-at = lines-here (T .at .blocks) F
 
-    pub index-at : BlockAt (indexBlock (length (T .value .lines))) s (x .index) (x .extended) (T .value .index)
+    pub index-at : BlockAt (indexBlock (length (T .value .lines))) s (x .index .from) (x .index .to) (T .value .index)
     index-at = index-here (T .at .blocks) F
 
-    pub segments-at : BlockAt segments s (x .extended) (x .end) (T .value .segments)
+    pub segments-at : BlockAt segments s (x .extended .from) (x .extended .to) (T .value .segments)
     segments-at = segments-here (T .at .blocks) F
 
-    pub lines-there : LinesThere w (cut s (a + 8) (x .index))
+    pub lines-there : LinesThere w (cut s (x .skeleton .from) (x .skeleton .to))
     lines-there =
         record { narrow = T .narrow; short = omega (arith, cut-long lines-at, lines-at .within, T .short); value = T .value .lines; left = []; reads = lines-at .value }
 
-    pub index-there : {l : Passed} → LinesPassed w (cut s (a + 8) (x .index)) 1024 l → IndexThere (l .count) (cut s (x .index) (x .extended))
+    pub index-there : {l : Passed} → LinesPassed w (cut s (x .skeleton .from) (x .skeleton .to)) 1024 l → IndexThere (l .count) (cut s (x .index .from) (x .index .to))
     index-there L =
         record {
           short = omega (arith, cut-long index-at, index-at .within, T .short);
@@ -111,11 +111,11 @@ module _ {w : Widths} {s : List ℕ} {a : ℕ} (T : ListedThere w s a) where
 
 pub listed-is : {w : Widths} {s : List ℕ} {a : ℕ} {v : View} {x : Blocks} {l g : Passed} {n m p q t : ℕ} → All Byte s → (at : ViewAt w s a v) → BlocksFound s (a + 8) x
     → Reads (fieldDec badView 8) s (8 * a) (found n q) → Reads (fieldDec badView 8) s (8 * a + 8) (found m t)
-    → LinesPassed w (cut s (a + 8) (x .index)) 1024 l → PairsCounted (l .count) (cut s (x .index) (x .extended)) p
-    → SegmentsPassed (cut s (x .extended) (x .end)) (x .end - (x .extended + 2)) g
-    → record { position = m; number = n; lines = l .count; pairs = pairsOf (ltb (x .index + 2) (x .extended)) p; segments = g .count } ≡ listed v
+    → LinesPassed w (cut s (x .skeleton .from) (x .skeleton .to)) 1024 l → PairsCounted (l .count) (cut s (x .index .from) (x .index .to)) p
+    → SegmentsPassed (cut s (x .extended .from) (x .extended .to)) (x .extended .to - x .extended .from) g
+    → record { position = m; number = n; lines = l .count; pairs = pairsOf (ltb (x .index .from) (x .index .to)) p; segments = g .count } ≡ listed v
 listed-is {s = s} {v = v} {x = x} {l = l} {g = g} {n = n} {m = m} {p = p} bytes at F N M L P G =
     let z : l .count ≡ length (v .lines) = lines-counted (lines-here (at .blocks) F) L in
-    let index : BlockAt (indexBlock (l .count)) s (x .index) (x .extended) (v .index) = rw z (index-here (at .blocks) F) in
-    same-listed (record { position = m; number = n; lines = l .count; pairs = pairsOf (ltb (x .index + 2) (x .extended)) p; segments = g .count }) (listed v)
+    let index : BlockAt (indexBlock (l .count)) s (x .index .from) (x .index .to) (v .index) = rw z (index-here (at .blocks) F) in
+    same-listed (record { position = m; number = n; lines = l .count; pairs = pairsOf (ltb (x .index .from) (x .index .to)) p; segments = g .count }) (listed v)
     (position-is at M) (number-is at N) z (pairs-listed index P) (segments-counted bytes (segments-here (at .blocks) F) G)

@@ -12,37 +12,33 @@ use Rattle.list_numbers.proofs.listed_at.Tie as tie
 bytes : (c : tie.After-shared-slice-known) → All Byte (c .before .args .s .now)
 bytes c = all-bytes (c .before .args .s .now) (λ i. c .shared-slice-known .given i .fits)
 
-mul-count-pairs : tie.Need-mul-count-pairs
-mul-count-pairs c =
+mul-pass-lines : tie.Need-mul-pass-lines
+mul-pass-lines c =
     omega (arith, c .before .pre .short, head-there (c .before .pre))
 
 sure-requires : tie.Need-sure-requires
 sure-requires c κs =
     (omega (arith, c .before .pre .short), omega arith, omega (arith, head-there (c .before .pre)))
 
-mul-count-pairs-2 : tie.Need-mul-count-pairs-2
-mul-count-pairs-2 c =
+mul-pass-lines-2 : tie.Need-mul-pass-lines-2
+mul-pass-lines-2 c =
     omega (arith, c .before .before .pre .short, head-there (c .before .before .pre))
 
-add-count-pairs : tie.Need-add-count-pairs
-add-count-pairs c =
+add-pass-lines : tie.Need-add-pass-lines
+add-pass-lines c =
     omega (arith, c .before .before .pre .short, head-there (c .before .before .pre))
 
 sure-requires-2 : tie.Need-sure-requires-2
 sure-requires-2 c κs =
     (omega (arith, c .before .before .pre .short), omega arith, omega (arith, head-there (c .before .before .pre)))
 
-add-head : tie.Need-add-head
-add-head c =
+add-blocks-at : tie.Need-add-blocks-at
+add-blocks-at c =
     omega (arith, c .before .before .before .pre .short, head-there (c .before .before .before .pre))
 
 blocks-at-requires : tie.Need-blocks-at-requires
 blocks-at-requires c κs =
     blocks-there (c .before .before .before .pre .short) (c .before .before .before .pre .at)
-
-add-skeleton : tie.Need-add-skeleton
-add-skeleton c =
-    omega (arith, c .before .before .before .before .pre .short, head-there (c .before .before .before .before .pre))
 
 sub-pass-lines : tie.Need-sub-pass-lines
 sub-pass-lines c =
@@ -60,10 +56,6 @@ pass-lines-requires : tie.Need-pass-lines-requires
 pass-lines-requires c κs =
     lines-there (c .before .before .before .before .before .pre) (c .before .blocks-at .ensures)
 
-add-index : tie.Need-add-index
-add-index c =
-    let here = index-at (c .before .before .before .before .before .before .pre) (c .before .before .blocks-at .ensures) in omega (arith, c .before .before .before .before .before .before .pre .short, here .from, here .within)
-
 sub-count-pairs : tie.Need-sub-count-pairs
 sub-count-pairs c =
     let here = index-at (c .before .before .before .before .before .before .pre) (c .before .before .blocks-at .ensures) in omega (arith, c .before .before .before .before .before .before .pre .short, here .from, here .within)
@@ -79,10 +71,6 @@ part-count-pairs-end c =
 count-pairs-requires : tie.Need-count-pairs-requires
 count-pairs-requires c κs =
     index-there (c .before .before .before .before .before .before .before .pre) (c .before .before .before .blocks-at .ensures) (c .before .pass-lines .ensures)
-
-add-extended : tie.Need-add-extended
-add-extended c =
-    let here = segments-at (c .before .before .before .before .before .before .before .before .pre) (c .before .before .before .before .blocks-at .ensures) in omega (arith, c .before .before .before .before .before .before .before .before .pre .short, here .from, here .within)
 
 sub-pass-segments : tie.Need-sub-pass-segments
 sub-pass-segments c =
@@ -102,40 +90,37 @@ sub-pass-segments-2 c =
 
 pass-segments-requires : tie.Need-pass-segments-requires
 pass-segments-requires c κs =
-    segments-there (blocks-there (c .before .before .before .before .before .before .before .before .before .pre .short) (c .before .before .before .before .before .before .before .before .before .pre .at)) (c .before .before .before .before .before .blocks-at .ensures)
+    segments-there (c .before .before .before .before .before .before .before .before .before .pre .short) (segments-at (c .before .before .before .before .before .before .before .before .before .pre) (c .before .before .before .before .before .blocks-at .ensures))
 
 returns : tie.Need-returns
 returns c =
     record {
-      is = λ v at. (
-        listed-is (bytes (c .before .before .before .before .before .before .before .before .before)) at (c .before .before .before .before .before .before .blocks-at .ensures) (c .before .before .before .before .before .before .before .before .sure .ensures .0 badView) (c .before .before .before .before .before .before .before .sure2 .ensures .0 badView)
+          is = λ v at. (
+            listed-is (bytes (c .before .before .before .before .before .before .before .before .before)) at (c .before .before .before .before .before .before .blocks-at .ensures) (c .before .before .before .before .before .before .before .before .sure .ensures .0 badView) (c .before .before .before .before .before .before .before .sure2 .ensures .0 badView)
             (c .before .before .before .before .pass-lines .ensures) (c .before .before .count-pairs .ensures) (c .pass-segments .ensures),
-        behind-is (at .blocks) (c .before .before .before .before .before .before .blocks-at .ensures),
-      );
-    }
+            behind-is (at .blocks) (c .before .before .before .before .before .before .blocks-at .ensures),
+          );
+        }
 
 pub listed-at-spec : {M : Type 1} → statement M
 listed-at-spec =
     tie.close
     (tie.spec
-    mul-count-pairs
+    mul-pass-lines
     sure-requires
-    mul-count-pairs-2
-    add-count-pairs
+    mul-pass-lines-2
+    add-pass-lines
     sure-requires-2
-    add-head
+    add-blocks-at
     blocks-at-requires
-    add-skeleton
     sub-pass-lines
     part-pass-lines-start
     part-pass-lines-end
     pass-lines-requires
-    add-index
     sub-count-pairs
     part-count-pairs-start
     part-count-pairs-end
     count-pairs-requires
-    add-extended
     sub-pass-segments
     part-pass-segments-start
     part-pass-segments-end

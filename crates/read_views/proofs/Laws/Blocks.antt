@@ -27,7 +27,7 @@ use Rattle.sheet_bytes.proofs.Laws.Sizes.{joined-size, line-size, index-size, s
 -- ---- what the writers leave
 
 module _ {w : Widths} {s : List ℕ} {b : ℕ} {v : View} {d : ℕ} (B : BlocksAt w s b v d) {x : Blocks} (F : BlocksFound s b x)
-    {o o1 : List ℕ} {r : Lines} (L : LinesOut w (cut s b (x .index)) o o1 r) where
+    {o o1 : List ℕ} {r : Lines} (L : LinesOut w (cut s (x .skeleton .from) (x .skeleton .to)) o o1 r) where
   lines-are : (r .count ≡ length (v .lines)) × Laid (joined (lineBytes (w .k)) (v .lines)) o o1 (r .written)
   lines-are = L .is (v .lines) [] (lines-here B F .value)
 
@@ -37,17 +37,17 @@ module _ {w : Widths} {s : List ℕ} {b : ℕ} {v : View} {d : ℕ} (B : BlocksA
   pub lines-wide : r .written ≡ total lineSize (v .lines)
   lines-wide = lines-are .1 .count ∙ joined-size (lineBytes (w .k)) lineSize (line-size (w .k)) (v .lines)
 
-  pub index-reads : indexBlock (r .count) .dec (bitsOf (cut s (x .index) (x .extended))) ≡ got (v .index) []
+  pub index-reads : indexBlock (r .count) .dec (bitsOf (cut s (x .index .from) (x .index .to))) ≡ got (v .index) []
   index-reads = rw (lines-are .0) (index-here B F .value)
 
-  module _ {p p1 : List ℕ} {n : ℕ} (I : IndexOut (r .count) (cut s (x .index) (x .extended)) p p1 n) where
+  module _ {p p1 : List ℕ} {n : ℕ} (I : IndexOut (r .count) (cut s (x .index .from) (x .index .to)) p p1 n) where
     index-is : Laid (indexBytes (v .index)) p p1 n
     index-is = I .is (v .index) [] index-reads
 
     pub index-wide : n ≡ indexSize (v .index)
     index-wide = index-is .count ∙ index-size (v .index)
 
-    module _ {q q1 : List ℕ} {g : ℕ} (G : SegmentsOut (cut s (x .extended) (x .end)) q q1 g) where
+    module _ {q q1 : List ℕ} {g : ℕ} (G : SegmentsOut (cut s (x .extended .from) (x .extended .to)) q q1 g) where
       segments-are : Laid (joined segmentBytes (v .segments)) q q1 g
       segments-are = G .is (v .segments) [] (segments-here B F .value)
 
@@ -55,11 +55,11 @@ module _ {w : Widths} {s : List ℕ} {b : ℕ} {v : View} {d : ℕ} (B : BlocksA
       segments-wide = segments-are .count ∙ joined-size segmentBytes segmentSize segment-size (v .segments)
 
 module _ {w : Widths} {s : List ℕ} {b : ℕ} {x : Blocks} (F : BlocksFound s b x)
-    {o o1 o2 o3 : List ℕ} {r : Lines} {n g : ℕ} (L : LinesOut w (cut s b (x .index)) o o1 r)
-    (I : IndexOut (r .count) (cut s (x .index) (x .extended)) (lent o1 (r .written)) o2 n)
-    (G : SegmentsOut (cut s (x .extended) (x .end)) (lent (back o1 (r .written) o2) (r .written + n)) o3 g) where
+    {o o1 o2 o3 : List ℕ} {r : Lines} {n g : ℕ} (L : LinesOut w (cut s (x .skeleton .from) (x .skeleton .to)) o o1 r)
+    (I : IndexOut (r .count) (cut s (x .index .from) (x .index .to)) (lent o1 (r .written)) o2 n)
+    (G : SegmentsOut (cut s (x .extended .from) (x .extended .to)) (lent (back o1 (r .written) o2) (r .written + n)) o3 g) where
   pub blocks-laid : (v : View) (d : ℕ) → BlocksAt w s b v d
-      → (x .end ≡ d) × Laid (joined (lineBytes (w .k)) (v .lines) ++ (indexBytes (v .index) ++ joined segmentBytes (v .segments))) o
+      → (x .extended .to ≡ d) × Laid (joined (lineBytes (w .k)) (v .lines) ++ (indexBytes (v .index) ++ joined segmentBytes (v .segments))) o
       (back (back o1 (r .written) o2) (r .written + n) o3) (r .written + n + g)
   blocks-laid v d B = (
     behind-is B F,
