@@ -13,7 +13,7 @@ pub fn index_values(s: &[u8], p: usize) -> Counted
     ensures { λ r. ⌜ IndexIs (now (s .entry)) p r ⌝ }
 {
     if !starts(s, p, 4) {
-        return Counted::Right(p, 0);
+        return Counted::Right { next: p, size: 0 };
     }
     let from = p + 3;
     let end = p + 4;
@@ -21,8 +21,11 @@ pub fn index_values(s: &[u8], p: usize) -> Counted
     let WidthWorth::Right(w) = width_value(value) else {
         return Counted::Wrong;
     };
-    let Counted::Right(next, bits) = list_values(s, end, w) else {
+    let Counted::Right { next, size: bits } = list_values(s, end, w) else {
         return Counted::Wrong;
     };
-    Counted::Right(next, (8 + bits + 7) / 8)
+    Counted::Right {
+        next,
+        size: (8 + bits + 7) / 8,
+    }
 }

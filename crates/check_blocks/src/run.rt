@@ -11,7 +11,7 @@ use format::Widths;
 
 // The byte behind them, and what they take in a record: bits, or for a whole index the bytes of its block; or a value is wrong.
 pub enum Counted {
-    Right(usize, usize),
+    Right { next: usize, size: usize },
     Wrong,
 }
 
@@ -55,7 +55,7 @@ pub fn line_values(s: &[u8], p: usize, w: Widths) -> Counted
         bits += ends + 8 + w.k * (size - 12);
         next = end;
     }
-    Counted::Right(next, bits)
+    Counted::Right { next, size: bits }
 }
 
 // The 05s from byte p on, at the width w of their index; l is the line whose list comes next.
@@ -78,5 +78,5 @@ pub fn list_values(s: &[u8], p: usize, w: usize) -> Counted
         next = end;
         l += 1;
     }
-    Counted::Right(next, bits)
+    Counted::Right { next, size: bits }
 }

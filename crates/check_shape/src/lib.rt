@@ -40,7 +40,7 @@ impl Kind {
 
 // How many fields were passed, and the byte behind them; or one has a wrong length.
 enum Passed {
-    Right(usize, usize),
+    Right { count: usize, next: usize },
     Wrong,
 }
 
@@ -95,7 +95,7 @@ fn pass(s: &[u8], p: usize, kind: Kind) -> Passed
         next += 3 + size;
         count += 1;
     }
-    Passed::Right(count, next)
+    Passed::Right { count, next }
 }
 
 // The index of a view with so many lines: nothing, or an 04 and a list for each line.
@@ -109,7 +109,11 @@ fn index_end(s: &[u8], p: usize, lines: usize) -> End
     if !begins(s, p, 4, 1) {
         return End::Wrong;
     }
-    let Passed::Right(lists, end) = pass(s, p + 4, Kind::LISTS) else {
+    let Passed::Right {
+        count: lists,
+        next: end,
+    } = pass(s, p + 4, Kind::LISTS)
+    else {
         return End::Wrong;
     };
     if lists != lines {
@@ -126,7 +130,11 @@ fn view_end(s: &[u8], p: usize) -> End
     if !begins(s, p, 2, 8) {
         return End::Wrong;
     }
-    let Passed::Right(lines, index) = pass(s, p + 11, Kind::LINES) else {
+    let Passed::Right {
+        count: lines,
+        next: index,
+    } = pass(s, p + 11, Kind::LINES)
+    else {
         return End::Wrong;
     };
     if ViewHeader::MOST_LINES < lines {
@@ -135,7 +143,11 @@ fn view_end(s: &[u8], p: usize) -> End
     let End::At(segments) = index_end(s, index, lines) else {
         return End::Wrong;
     };
-    let Passed::Right(_, end) = pass(s, segments, Kind::SEGMENTS) else {
+    let Passed::Right {
+        count: _,
+        next: end,
+    } = pass(s, segments, Kind::SEGMENTS)
+    else {
         return End::Wrong;
     };
     End::At(end)

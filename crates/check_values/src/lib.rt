@@ -10,7 +10,7 @@ mod view; // a view
 
 // How many views there are, and the bytes of the record; or a value is wrong.
 pub enum Valued {
-    Right(usize, usize),
+    Right { views: usize, bytes: usize },
     Wrong,
 }
 
@@ -41,5 +41,5 @@ pub fn values(s: &[u8]) -> Valued
         views += 1;
         bytes += view.bytes;
     }
-    Valued::Right(views, bytes)
+    Valued::Right { views, bytes }
 }

@@ -34,10 +34,18 @@ pub fn view_values(s: &[u8], p: usize, w: Widths, seen: &[u8; 11]) -> ViewWorth
     let HeadWorth::Right(h) = head_value(head, seen) else {
         return ViewWorth::Wrong;
     };
-    let Counted::Right(index, bits) = line_values(s, lines, w) else {
+    let Counted::Right {
+        next: index,
+        size: bits,
+    } = line_values(s, lines, w)
+    else {
         return ViewWorth::Wrong;
     };
-    let Counted::Right(segments, listed) = index_values(s, index) else {
+    let Counted::Right {
+        next: segments,
+        size: listed,
+    } = index_values(s, index)
+    else {
         return ViewWorth::Wrong;
     };
     let extended = segment_sizes(s, segments);

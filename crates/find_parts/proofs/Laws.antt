@@ -9,6 +9,7 @@ pub mod Record
 pub mod Views
 pub mod Line
 pub mod Lines
+pub mod Site
 pub mod Lists
 pub mod Index
 pub mod Segments

@@ -1,3 +1,4 @@
 pub mod Stands
 pub mod Finds
+pub mod Site
 pub mod Stored

@@ -5,10 +5,15 @@ use judge_blocks::Reached;
 use judge_heads::header::HeaderAt;
 use judge_heads::header::header_at;
 use judge_views::judge_views;
+use outcome::Refusal;
 
 // An accepted record's header, how many views it has, and the bytes of its sheet.
 pub enum Verdict {
-    Accepted(Header, usize, usize),
+    Accepted {
+        header: Header,
+        views: usize,
+        size: usize,
+    },
     Refused(u32, usize),
 }
 
@@ -16,10 +21,10 @@ pub fn judge(s: &[u8]) -> Verdict
     ensures { λ r. ⌜ Judges (now (s .entry)) r ⌝ }
 {
     if s.len() < Header::LEAST_BYTES {
-        return Verdict::Refused(1, 0);
+        return Verdict::Refused(Refusal::BAD_SIZE, 0);
     }
     if Header::MOST_BYTES < s.len() {
-        return Verdict::Refused(1, 0);
+        return Verdict::Refused(Refusal::BAD_SIZE, 0);
     }
     match header_at(s) {
         HeaderAt::Refused(e, p) => Verdict::Refused(e, p),
@@ -28,11 +33,15 @@ pub fn judge(s: &[u8]) -> Verdict
             let widths = scale.widths;
             match judge_views(s, widths, count) {
                 Reached::Refused(e, p) => Verdict::Refused(e, p),
-                Reached::At(a, size) => {
+                Reached::At { next: a, size } => {
                     if a < s.len() {
-                        Verdict::Refused(12, 8 * a)
+                        Verdict::Refused(Refusal::BYTES_OVER, 8 * a)
                     } else {
-                        Verdict::Accepted(h, count, 12 + size)
+                        Verdict::Accepted {
+                            header: h,
+                            views: count,
+                            size: 12 + size,
+                        }
                     }
                 }
             }

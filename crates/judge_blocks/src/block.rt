@@ -7,7 +7,7 @@ use bits::Cursor;
 
 // The block's first byte and the byte behind its last; or the place of the length or the block, whichever passes the end.
 pub enum BlockAt {
-    At(usize, usize),
+    At { from: usize, to: usize },
     Past(usize),
 }
 
@@ -25,5 +25,8 @@ pub fn block_at(s: &[u8], a: usize) -> BlockAt
     if s.len() - b < len {
         return BlockAt::Past(8 * b);
     }
-    BlockAt::At(b, b + len)
+    BlockAt::At {
+        from: b,
+        to: b + len,
+    }
 }

@@ -14,6 +14,7 @@ use bits::ranged::RangedAt;
 use bits::ranged::ranged_at;
 use judge_ends::Cleared;
 use judge_ends::zeros_at;
+use outcome::Refusal;
 
 // The block s, of a view with that many lines.
 pub fn judge_index(s: &[u8], lines: usize) -> Judged
@@ -24,14 +25,14 @@ pub fn judge_index(s: &[u8], lines: usize) -> Judged
         return Judged::Fine(0);
     }
     let RangedAt::At(w, first) = ranged_at(Cursor::start(), s, 1, 16) else {
-        return Judged::Refused(10, 0);
+        return Judged::Refused(Refusal::BAD_INDEX, 0);
     };
     let mut p = first;
     let mut size: usize = 4;
     let mut l: usize = 0;
     while l < lines {
         let Taken::Bits(count, q) = p.field(s, w) else {
-            return Judged::Refused(10, p.at);
+            return Judged::Refused(Refusal::BAD_INDEX, p.at);
         };
         p = q;
         let mut least: usize = 0;
@@ -39,13 +40,13 @@ pub fn judge_index(s: &[u8], lines: usize) -> Judged
         let mut i: usize = 0;
         while i < count {
             let Taken::Bits(d, next) = p.field(s, w) else {
-                return Judged::Refused(10, p.at);
+                return Judged::Refused(Refusal::BAD_INDEX, p.at);
             };
             if d < least {
-                return Judged::Refused(10, p.at);
+                return Judged::Refused(Refusal::BAD_INDEX, p.at);
             }
             if most < d {
-                return Judged::Refused(10, p.at);
+                return Judged::Refused(Refusal::BAD_INDEX, p.at);
             }
             p = next;
             least = 1;
@@ -56,12 +57,12 @@ pub fn judge_index(s: &[u8], lines: usize) -> Judged
         l = l + 1;
     }
     match zeros_at(p, s) {
-        Cleared::One(q) => Judged::Refused(10, q),
+        Cleared::One(q) => Judged::Refused(Refusal::BAD_INDEX, q),
         Cleared::All => {
             if 8 * s.len() - p.at < 8 {
                 Judged::Fine(size)
             } else {
-                Judged::Refused(10, p.at + 7)
+                Judged::Refused(Refusal::BAD_INDEX, p.at + 7)
             }
         }
     }
@@ -73,9 +74,9 @@ pub fn index_at(s: &[u8], a: usize, lines: usize) -> Reached
     ensures { λ r. ⌜ Reads (indexAtDec lines) (now (s .entry)) (8 * a) (reached r) ⌝ }
 {
     match block_at(s, a) {
-        BlockAt::Past(p) => Reached::Refused(6, p),
-        BlockAt::At(b, e) => match judge_index(&s[b..e], lines) {
-            Judged::Fine(size) => Reached::At(e, size),
+        BlockAt::Past(p) => Reached::Refused(Refusal::PAST, p),
+        BlockAt::At { from: b, to: e } => match judge_index(&s[b..e], lines) {
+            Judged::Fine(size) => Reached::At { next: e, size },
             Judged::Refused(x, q) => Reached::Refused(x, 8 * b + q),
         },
     }

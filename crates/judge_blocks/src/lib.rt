@@ -12,6 +12,6 @@ pub enum Judged {
 
 // The same of a block behind its length: the byte behind it, and its bytes in the sheet.
 pub enum Reached {
-    At(usize, usize),
+    At { next: usize, size: usize },
     Refused(u32, usize),
 }

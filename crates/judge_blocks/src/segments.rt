@@ -9,6 +9,7 @@ use crate::Reached;
 use crate::block::BlockAt;
 use crate::block::block_at;
 use bits::Cursor;
+use outcome::Refusal;
 
 // The block s.
 pub fn judge_segments(s: &[u8]) -> Judged
@@ -20,16 +21,16 @@ pub fn judge_segments(s: &[u8]) -> Judged
     let mut size: usize = 0;
     while p.at < end {
         if end - p.at < 32 {
-            return Judged::Refused(11, p.at);
+            return Judged::Refused(Refusal::BAD_SEGMENT, p.at);
         }
         let kind = p.sure(s, 16);
         let len = kind.next.sure(s, 16);
         if len.value < 4 {
-            return Judged::Refused(11, kind.next.at);
+            return Judged::Refused(Refusal::BAD_SEGMENT, kind.next.at);
         }
         let payload = 8 * (len.value - 4);
         if end - len.next.at < payload {
-            return Judged::Refused(11, kind.next.at);
+            return Judged::Refused(Refusal::BAD_SEGMENT, kind.next.at);
         }
         p = Cursor {
             at: len.next.at + payload,
@@ -45,9 +46,9 @@ pub fn segments_at(s: &[u8], a: usize) -> Reached
     ensures { λ r. ⌜ Reads segmentsAtDec (now (s .entry)) (8 * a) (reached r) ⌝ }
 {
     match block_at(s, a) {
-        BlockAt::Past(p) => Reached::Refused(6, p),
-        BlockAt::At(b, e) => match judge_segments(&s[b..e]) {
-            Judged::Fine(size) => Reached::At(e, size),
+        BlockAt::Past(p) => Reached::Refused(Refusal::PAST, p),
+        BlockAt::At { from: b, to: e } => match judge_segments(&s[b..e]) {
+            Judged::Fine(size) => Reached::At { next: e, size },
             Judged::Refused(x, q) => Reached::Refused(x, 8 * b + q),
         },
     }

@@ -12,6 +12,7 @@ use bits::ranged::ranged_at;
 use format::Header;
 use format::Scale;
 use format::Widths;
+use outcome::Refusal;
 
 // A record's header with how many views there are, or a refusal.
 pub enum HeaderAt {
@@ -70,27 +71,27 @@ pub fn header_at(s: &[u8]) -> HeaderAt
 {
     let id = Cursor { at: 0 }.sure(s, 32);
     if id.value != 0x46534B00 {
-        return HeaderAt::Refused(2, 0);
+        return HeaderAt::Refused(Refusal::BAD_IDENTIFIER, 0);
     }
     let version = id.next.sure(s, 32);
     if version.value != 0x30313000 {
-        return HeaderAt::Refused(3, 32);
+        return HeaderAt::Refused(Refusal::BAD_VERSION, 32);
     }
     let len = version.next.sure(s, 32);
     if len.value != s.len() {
-        return HeaderAt::Refused(4, 64);
+        return HeaderAt::Refused(Refusal::BAD_LENGTH, 64);
     }
     let device = len.next.sure(s, 16);
     let views = device.next.sure(s, 8);
     if views.value < 1 {
-        return HeaderAt::Refused(5, 112);
+        return HeaderAt::Refused(Refusal::BAD_HEADER, 112);
     }
     match scale_at(views.next, s) {
-        ScaleAt::Outside(p) => HeaderAt::Refused(5, p),
+        ScaleAt::Outside(p) => HeaderAt::Refused(Refusal::BAD_HEADER, p),
         ScaleAt::At(scale, p) => {
             let reserved = p.sure(s, 16);
             if reserved.value != 0 {
-                return HeaderAt::Refused(5, 176);
+                return HeaderAt::Refused(Refusal::BAD_HEADER, 176);
             }
             HeaderAt::At(
                 Header {

@@ -9,6 +9,7 @@ ghost use Rattle.judge_heads.specs.Answers.{earlierOf, fieldsAt, headAt,
 use bits::Cursor;
 use bits::wide;
 use format::ViewHeader;
+use outcome::Refusal;
 
 // A view's header with its skeleton's length, or a refusal.
 pub enum Headed {
@@ -91,10 +92,10 @@ pub fn head_at(s: &[u8], a: usize, seen: &[u8; 11]) -> Headed
 {
     let at = 8 * a;
     if s.len() - a < 10 {
-        return Headed::Refused(6, at);
+        return Headed::Refused(Refusal::PAST, at);
     }
     match head_fields(Cursor { at }, s, seen) {
-        FieldsAt::Wrong(p) => Headed::Refused(7, p),
+        FieldsAt::Wrong(p) => Headed::Refused(Refusal::BAD_VIEW, p),
         FieldsAt::At(head, p) => {
             let len = p.sure(s, 16);
             Headed::At(head, len.value)

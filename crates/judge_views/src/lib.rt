@@ -18,6 +18,7 @@ use judge_ends::end_at;
 use judge_ends::zeros_at;
 use judge_heads::view::Headed;
 use judge_heads::view::head_at;
+use outcome::Refusal;
 
 // What the nest needs of a view's header: its position, and the length of the skeleton block.
 struct Opened {
@@ -30,7 +31,7 @@ pub fn judge_views(s: &[u8], w: Widths, count: usize) -> Reached
     requires { ⌜ (24 ≤ length (now s)) × (length (now s) ≤ 32768) × (count ≤ 255) × (w .b ≤ 8) × (w .c ≤ 16) × (w .k ≤ 8) ⌝ }
     ensures { λ r. ⌜ Reads (viewsDec w count) (now (s .entry)) 192 (reached r) × (sheetBytes r ≤ 137438953472) ⌝ }
 {
-    let mut answer = Reached::At(0, 0);
+    let mut answer = Reached::At { next: 0, size: 0 };
     let mut seen = [0u8; 11];
     let mut a: usize = 24;
     let mut size: usize = 0;
@@ -49,7 +50,7 @@ pub fn judge_views(s: &[u8], w: Widths, count: usize) -> Reached
         let len = head.len;
         let b = a + 10;
         if s.len() - b < len {
-            answer = Reached::Refused(6, 8 * b);
+            answer = Reached::Refused(Refusal::PAST, 8 * b);
             break 'views;
         }
         let e = b + len;
@@ -61,29 +62,29 @@ pub fn judge_views(s: &[u8], w: Widths, count: usize) -> Reached
         while 8 <= end - p.at {
             let place = 8 * b + p.at;
             if n == ViewHeader::MOST_LINES {
-                answer = Reached::Refused(9, place);
+                answer = Reached::Refused(Refusal::TOO_MANY_LINES, place);
                 break 'views;
             }
             let Ended::At(_, p1) = end_at(p, block, w) else {
-                answer = Reached::Refused(8, place);
+                answer = Reached::Refused(Refusal::BAD_LINE, place);
                 break 'views;
             };
             let Taken::Bits(codes, p2) = p1.field(block, 8) else {
-                answer = Reached::Refused(8, place);
+                answer = Reached::Refused(Refusal::BAD_LINE, place);
                 break 'views;
             };
             p = p2;
             let mut i: usize = 0;
             while i < codes {
                 let Taken::Bits(_, p3) = p.field(block, w.k) else {
-                    answer = Reached::Refused(8, place);
+                    answer = Reached::Refused(Refusal::BAD_LINE, place);
                     break 'views;
                 };
                 p = p3;
                 i = i + 1;
             }
             let Ended::At(_, p4) = end_at(p, block, w) else {
-                answer = Reached::Refused(8, place);
+                answer = Reached::Refused(Refusal::BAD_LINE, place);
                 break 'views;
             };
             p = p4;
@@ -91,16 +92,24 @@ pub fn judge_views(s: &[u8], w: Widths, count: usize) -> Reached
             n = n + 1;
         }
         if let Cleared::One(q) = zeros_at(p, block) {
-            answer = Reached::Refused(8, 8 * b + q);
+            answer = Reached::Refused(Refusal::BAD_LINE, 8 * b + q);
             break 'views;
         }
         let index = index_at(s, e, n);
-        let Reached::At(f, lists) = index else {
+        let Reached::At {
+            next: f,
+            size: lists,
+        } = index
+        else {
             answer = index;
             break 'views;
         };
         let segments = segments_at(s, f);
-        let Reached::At(g, payloads) = segments else {
+        let Reached::At {
+            next: g,
+            size: payloads,
+        } = segments
+        else {
             answer = segments;
             break 'views;
         };
@@ -111,7 +120,7 @@ pub fn judge_views(s: &[u8], w: Widths, count: usize) -> Reached
         v = v + 1;
     }
     match answer {
-        Reached::At(_, _) => Reached::At(a, size),
+        Reached::At { next: _, size: _ } => Reached::At { next: a, size },
         Reached::Refused(x, q) => Reached::Refused(x, q),
     }
 }

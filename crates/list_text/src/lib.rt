@@ -88,7 +88,11 @@ fn view_lines(s: &[u8], w: Widths, count: usize)
 pub fn listing(s: &[u8]) {
     match judge(s) {
         Verdict::Refused(number, _) => refused(number),
-        Verdict::Accepted(header, views, _) => {
+        Verdict::Accepted {
+            header,
+            views,
+            size: _,
+        } => {
             record_line(s.len(), views);
             let scale = header.scale;
             view_lines(s, scale.widths, views);

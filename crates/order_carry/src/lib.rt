@@ -8,6 +8,7 @@ use order_record::measure::measure;
 use order_record::put::put;
 use order_record::site::Site;
 use outcome::Answer;
+use outcome::Refusal;
 use outcome::accept;
 use outcome::refuse;
 
@@ -18,10 +19,10 @@ pub fn carry_out(bytes: &[u8], site: Site, change: Change, removal: &[u8], out: 
 {
     let sizes = measure(bytes, site, change, removal);
     if Header::MOST_BYTES < sizes.bytes {
-        return refuse(19);
+        return refuse(Refusal::TOO_LONG);
     }
     if out.len() < sizes.bytes {
-        return refuse(20);
+        return refuse(Refusal::NO_ROOM);
     }
     let length = put(out, bytes, site, change, removal, sizes);
     accept(length)

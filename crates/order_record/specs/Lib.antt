@@ -1,3 +1,2 @@
-pub mod Site
 pub mod Blocks
 pub mod Rebuilt

@@ -18,9 +18,9 @@ use Rattle.find_parts.specs.Stored.{recordOut}
 use Rattle.order_lists.specs.Index.{left}
 use Rattle.order_lists.specs.declared.lists.Change.{Change}
 use Rattle.order_lines.specs.Lines.{keptFrom, keptBlock}
-use Rattle.order_record.specs.Site.{SiteOf}
+use Rattle.find_parts.specs.Site.{SiteOf}
 use Rattle.order_record.specs.Blocks.{newIndex, Keeps, SizeOf}
-use Rattle.order_record.specs.declared.site.Site.{Site}
+use Rattle.find_parts.specs.declared.site.Site.{Site}
 use Rattle.order_record.specs.declared.measure.Sizes.{Sizes}
 
 unfoldable pub newView : List ℕ → Change → View → View

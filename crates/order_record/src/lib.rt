@@ -3,4 +3,3 @@
 // a removal's bytes and a change of one list; it has passed its tests.
 pub mod measure; // how long the new blocks and the new record are
 pub mod put; // the new record
-pub mod site; // where the view stands

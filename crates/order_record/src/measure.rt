@@ -1,7 +1,7 @@
 // How long the blocks that an order changes become, and the record.
 ghost use Rattle.order_record.specs.Blocks.{OldSkeleton, SkeletonMeasured, OldIndex, IndexMeasured};
 ghost use Rattle.order_record.specs.Rebuilt.{Placed, Measured};
-use crate::site::Site;
+use find_parts::site::Site;
 use format::Widths;
 use order_lines::lines_size;
 use order_lists::index::Size;
@@ -43,16 +43,16 @@ pub fn measure(s: &[u8], site: Site, change: Change, removal: &[u8]) -> Sizes
     requires { ⌜ Placed (now s) site change (now removal) ⌝ }
     ensures { λ r. ⌜ Measured (now (s .entry)) site change (now (removal .entry)) r ⌝ }
 {
-    let from = site.skeleton + 2;
-    let index = site.index;
-    let skeleton = skeleton_size(&s[from..index], site.widths, site.lines, removal);
-    let behind = index + 2;
-    let extended = site.extended;
-    let lists = lists_size(&s[behind..extended], site.lines, change, removal);
+    let from = site.skeleton.from;
+    let to = site.skeleton.to;
+    let skeleton = skeleton_size(&s[from..to], site.widths, site.lines, removal);
+    let index = site.index.from;
+    let end = site.index.to;
+    let lists = lists_size(&s[index..end], site.lines, change, removal);
     Sizes {
         skeleton,
         width: lists.width,
         index: lists.bytes,
-        bytes: site.skeleton + 4 + skeleton + lists.bytes + (s.len() - extended),
+        bytes: from + skeleton + 2 + lists.bytes + (s.len() - end),
     }
 }

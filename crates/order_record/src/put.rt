@@ -2,7 +2,7 @@
 ghost use Rattle.order_record.specs.Blocks.{HeadRoom, HeadLaid, SkeletonRoom, SkeletonLaid, IndexRoom, IndexLaid};
 ghost use Rattle.order_record.specs.Rebuilt.{RebuildRoom, Rebuilt};
 use crate::measure::Sizes;
-use crate::site::Site;
+use find_parts::site::Site;
 use format::Widths;
 use order_lines::lines_put;
 use order_lists::index::index_put;
@@ -74,28 +74,28 @@ pub fn put(
     ensures { λ r. ⌜ Rebuilt (now (s .entry)) site change (now (removal .entry)) sizes (now (out .entry)) (now (out .exit)) r ⌝ }
 {
     let lines = site.lines;
-    let mut at = head_put(out, s, site.skeleton, sizes.bytes);
-    let from = site.skeleton + 2;
-    let index = site.index;
+    let from = site.skeleton.from;
+    let to = site.skeleton.to;
+    let mut at = head_put(out, s, from - 2, sizes.bytes);
     at += skeleton_put(
         &mut out[at..],
-        &s[from..index],
+        &s[from..to],
         site.widths,
         lines,
         removal,
         sizes.skeleton,
     );
-    let behind = index + 2;
-    let extended = site.extended;
+    let index = site.index.from;
+    let end = site.index.to;
     at += lists_put(
         &mut out[at..],
-        &s[behind..extended],
+        &s[index..end],
         lines,
         change,
         removal,
         sizes.width,
         sizes.index,
     );
-    at += copy(&mut out[at..], &s[extended..]);
+    at += copy(&mut out[at..], &s[end..]);
     at
 }

@@ -4,6 +4,7 @@ use judge::Verdict;
 use judge::judge;
 use order_record::site::Site;
 use order_record::site::site_at;
+use outcome::Refusal;
 
 // Where the view stands that an order names and was made for; or the number of the refusal.
 pub enum Found {
@@ -17,17 +18,21 @@ pub fn find(bytes: &[u8], view: usize, count: usize) -> Found
 {
     match judge(bytes) {
         Verdict::Refused(number, _) => Found::Refused(number),
-        Verdict::Accepted(header, views, _) => {
+        Verdict::Accepted {
+            header,
+            views,
+            size: _,
+        } => {
             if view < views {
                 let scale = header.scale;
                 let site = site_at(bytes, view, scale.widths);
                 if site.lines == count {
                     Found::At(site)
                 } else {
-                    Found::Refused(14)
+                    Found::Refused(Refusal::OTHER_COUNT)
                 }
             } else {
-                Found::Refused(13)
+                Found::Refused(Refusal::NO_VIEW)
             }
         }
     }

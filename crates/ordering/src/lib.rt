@@ -15,6 +15,7 @@ use order_removal::lines_right;
 use order_view::Found;
 use order_view::find;
 use outcome::Answer;
+use outcome::Refusal;
 use outcome::refuse;
 
 // Lines removed: the numbers of `lines`, two bytes each, high byte first. 15, 16 are its own.
@@ -26,7 +27,7 @@ pub fn remove(bytes: &[u8], view: usize, count: usize, lines: &[u8], out: &mut [
         Found::At(site) => {
             if lines_right(lines, count) {
                 if site.extended + 2 < site.end {
-                    refuse(16)
+                    refuse(Refusal::EXTENDED)
                 } else {
                     let change = Change {
                         high: count,
@@ -36,7 +37,7 @@ pub fn remove(bytes: &[u8], view: usize, count: usize, lines: &[u8], out: &mut [
                     carry_out(bytes, site, change, lines, out)
                 }
             } else {
-                refuse(15)
+                refuse(Refusal::BAD_LINES)
             }
         }
     }
@@ -76,18 +77,18 @@ fn pair_at(bytes: &[u8], site: Site, a: usize, b: usize, joins: bool, out: &mut 
     let from = site.index + 2;
     let to = site.extended;
     if to <= from {
-        return refuse(17);
+        return refuse(Refusal::NO_INDEX);
     }
     if site.lines <= a {
-        return refuse(15);
+        return refuse(Refusal::BAD_LINES);
     }
     if site.lines <= b {
-        return refuse(15);
+        return refuse(Refusal::BAD_LINES);
     }
     let change = pair_of(a, b, joins);
     let near = are_near(&bytes[from..to], change.high, change.low);
     if already_so(near, joins) {
-        return refuse(18);
+        return refuse(Refusal::ALREADY_SO);
     }
     carry_out(bytes, site, change, &bytes[0..0], out)
 }

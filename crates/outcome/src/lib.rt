@@ -30,3 +30,54 @@ pub fn accept(length: usize) -> Answer
         length,
     }
 }
+
+// The numbers of the refusals, by the names that the definitions give them; specs/Refusals.antt has document 01's words for each.
+pub struct Refusal;
+
+impl Refusal {
+    pub const BAD_SIZE: u32 = 1;
+
+    pub const BAD_IDENTIFIER: u32 = 2;
+
+    pub const BAD_VERSION: u32 = 3;
+
+    pub const BAD_LENGTH: u32 = 4;
+
+    pub const BAD_HEADER: u32 = 5;
+
+    pub const PAST: u32 = 6;
+
+    pub const BAD_VIEW: u32 = 7;
+
+    pub const BAD_LINE: u32 = 8;
+
+    pub const TOO_MANY_LINES: u32 = 9;
+
+    pub const BAD_INDEX: u32 = 10;
+
+    pub const BAD_SEGMENT: u32 = 11;
+
+    pub const BYTES_OVER: u32 = 12;
+
+    pub const NO_VIEW: u32 = 13;
+
+    pub const OTHER_COUNT: u32 = 14;
+
+    pub const BAD_LINES: u32 = 15;
+
+    pub const EXTENDED: u32 = 16;
+
+    pub const NO_INDEX: u32 = 17;
+
+    pub const ALREADY_SO: u32 = 18;
+
+    pub const TOO_LONG: u32 = 19;
+
+    pub const NO_ROOM: u32 = 20;
+
+    pub const BAD_SHEET: u32 = 21;
+
+    pub const BAD_VALUE: u32 = 22;
+
+    pub const NO_SEGMENT: u32 = 23;
+}

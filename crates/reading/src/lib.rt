@@ -4,6 +4,7 @@ ghost use Rattle.sheet.specs.Sheet.{reading};
 use judge::Verdict;
 use judge::judge;
 use outcome::Answer;
+use outcome::Refusal;
 use outcome::accept;
 use outcome::refuse;
 use read_views::record::sheet_out;
@@ -13,9 +14,13 @@ pub fn read(bytes: &[u8], sheet: &mut [u8]) -> Answer
 {
     match judge(bytes) {
         Verdict::Refused(number, _) => refuse(number),
-        Verdict::Accepted(header, views, size) => {
+        Verdict::Accepted {
+            header,
+            views,
+            size,
+        } => {
             if sheet.len() < size {
-                refuse(20)
+                refuse(Refusal::NO_ROOM)
             } else {
                 let scale = header.scale;
                 let length = sheet_out(sheet, bytes, scale.widths, views);

@@ -11,6 +11,7 @@ use find_parts::view::view_at;
 use judge::Verdict;
 use judge::judge;
 use outcome::Answer;
+use outcome::Refusal;
 use outcome::refuse;
 
 // The payload's part of the record, from byte to byte; or the number of the refusal.
@@ -37,7 +38,7 @@ fn payload_in(bytes: &[u8], view: usize, place: usize) -> Found
         let segment = first + passed.next;
         Found::At(segment + 4, segment + size.value)
     } else {
-        Found::Refused(23)
+        Found::Refused(Refusal::NO_SEGMENT)
     }
 }
 
@@ -47,9 +48,13 @@ fn find(bytes: &[u8], view: usize, place: usize) -> Found
 {
     match judge(bytes) {
         Verdict::Refused(number, _) => Found::Refused(number),
-        Verdict::Accepted(_, views, _) => {
+        Verdict::Accepted {
+            header: _,
+            views,
+            size: _,
+        } => {
             if views <= view {
-                Found::Refused(13)
+                Found::Refused(Refusal::NO_VIEW)
             } else {
                 payload_in(bytes, view, place)
             }

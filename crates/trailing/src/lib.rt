@@ -14,6 +14,7 @@ use format::Scale;
 use judge::Verdict;
 use judge::judge;
 use outcome::Answer;
+use outcome::Refusal;
 use outcome::accept;
 use outcome::refuse;
 use trail_steps::count_drawn;
@@ -73,7 +74,7 @@ fn line_in(bytes: &[u8], scale: Scale, view: usize, line: usize) -> Sought
     let passed = pass_lines(block, scale.widths, line);
     let next = passed.next;
     if 8 * block.len() - next < 8 {
-        return Sought::Refused(15);
+        return Sought::Refused(Refusal::BAD_LINES);
     }
     Sought::At(from, to, walk_at(block, next, scale))
 }
@@ -84,11 +85,15 @@ fn find(bytes: &[u8], view: usize, line: usize) -> Sought
 {
     match judge(bytes) {
         Verdict::Refused(number, _) => Sought::Refused(number),
-        Verdict::Accepted(header, views, _) => {
+        Verdict::Accepted {
+            header,
+            views,
+            size: _,
+        } => {
             if view < views {
                 line_in(bytes, header.scale, view, line)
             } else {
-                Sought::Refused(13)
+                Sought::Refused(Refusal::NO_VIEW)
             }
         }
     }
@@ -102,7 +107,7 @@ pub fn trail(bytes: &[u8], view: usize, line: usize, out: &mut [u16]) -> Answer
         Sought::Refused(number) => refuse(number),
         Sought::At(from, to, w) => {
             if out.len() < w.drawn {
-                refuse(20)
+                refuse(Refusal::NO_ROOM)
             } else {
                 let length = trail_numbers(
                     out,
@@ -127,7 +132,7 @@ pub fn trail_as_bytes(bytes: &[u8], view: usize, line: usize, out: &mut [u8]) ->
         Sought::Refused(number) => refuse(number),
         Sought::At(from, to, w) => {
             if out.len() / 2 < w.drawn {
-                refuse(20)
+                refuse(Refusal::NO_ROOM)
             } else {
                 let length = trail_bytes(
                     out,

@@ -84,7 +84,12 @@ fn parts_of(s: &[u8], view: usize) {
 
 fn of_record(s: &[u8]) {
     list_text::listing(s);
-    let Verdict::Accepted(_, views, _) = judge(s) else {
+    let Verdict::Accepted {
+        header: _,
+        views,
+        size: _,
+    } = judge(s)
+    else {
         return;
     };
     sheet(s);

@@ -9,13 +9,14 @@ use check_values::Valued;
 use check_values::values;
 use format::Header;
 use outcome::Answer;
+use outcome::Refusal;
 use outcome::accept;
 use outcome::refuse;
 use write_views::record::record_out;
 
 // The views and the bytes of the sheet's record; or the number of its refusal.
 enum Judged {
-    Right(usize, usize),
+    Right { views: usize, bytes: usize },
     Refused(u32),
 }
 
@@ -31,15 +32,15 @@ fn judge_sheet(s: &[u8]) -> Judged
     ensures { λ r. ⌜ SheetIs (now (s .entry)) r ⌝ }
 {
     if !in_order(s) {
-        return Judged::Refused(21);
+        return Judged::Refused(Refusal::BAD_SHEET);
     }
     match values(s) {
-        Valued::Wrong => Judged::Refused(22),
-        Valued::Right(views, size) => {
+        Valued::Wrong => Judged::Refused(Refusal::BAD_VALUE),
+        Valued::Right { views, bytes: size } => {
             if Header::MOST_BYTES < size {
-                Judged::Refused(19)
+                Judged::Refused(Refusal::TOO_LONG)
             } else {
-                Judged::Right(views, size)
+                Judged::Right { views, bytes: size }
             }
         }
     }
@@ -50,9 +51,9 @@ pub fn write(sheet: &[u8], bytes: &mut [u8]) -> Answer
 {
     match judge_sheet(sheet) {
         Judged::Refused(number) => refuse(number),
-        Judged::Right(views, size) => {
+        Judged::Right { views, bytes: size } => {
             if bytes.len() < size {
-                refuse(20)
+                refuse(Refusal::NO_ROOM)
             } else {
                 let length = record_out(bytes, sheet, size, views);
                 accept(length)

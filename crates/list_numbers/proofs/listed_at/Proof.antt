@@ -95,12 +95,12 @@ pass-segments-requires c κs =
 returns : tie.Need-returns
 returns c =
     record {
-          is = λ v at. (
-            listed-is (bytes (c .before .before .before .before .before .before .before .before .before)) at (c .before .before .before .before .before .before .blocks-at .ensures) (c .before .before .before .before .before .before .before .before .sure .ensures .0 badView) (c .before .before .before .before .before .before .before .sure2 .ensures .0 badView)
+      is = λ v at. (
+        listed-is (bytes (c .before .before .before .before .before .before .before .before .before)) at (c .before .before .before .before .before .before .blocks-at .ensures) (c .before .before .before .before .before .before .before .before .sure .ensures .0 badView) (c .before .before .before .before .before .before .before .sure2 .ensures .0 badView)
             (c .before .before .before .before .pass-lines .ensures) (c .before .before .count-pairs .ensures) (c .pass-segments .ensures),
-            behind-is (at .blocks) (c .before .before .before .before .before .before .blocks-at .ensures),
-          );
-        }
+        behind-is (at .blocks) (c .before .before .before .before .before .before .blocks-at .ensures),
+      );
+    }
 
 pub listed-at-spec : {M : Type 1} → statement M
 listed-at-spec =

@@ -19,8 +19,7 @@ use Rattle.orders.specs.Survive.{survivors}
 use Rattle.orders.specs.Listed.{listed}
 use Rattle.orders.specs.Least.{indexOf}
 use Rattle.orders.specs.Act.{Act, remove, join, part, lists, newLists, newLines, after}
-use Rattle.orders.specs.Order.{Order, edited, tests}
-use Rattle.orders.proofs.Laws.Accept.{Pass}
+use Rattle.orders.specs.Order.{Order, edited, tests, Pass}
 use Rattle.orders.proofs.Laws.Survive.{survivors-le}
 use Rattle.orders.proofs.Laws.Near.{lines-after, lists-after}
 use Rattle.orders.proofs.Laws.Right.{RightLists, Right, after-right}

@@ -20,7 +20,7 @@ use Rattle.order_lists.specs.declared.lists.Change.{Change}
 use Rattle.order_lines.specs.Lines.{keptBlock}
 use Rattle.order_record.specs.Blocks.{headOf, HeadLaid, SkeletonRoom, SkeletonLaid, newIndexBlock, IndexRoom, IndexLaid}
 use Rattle.order_record.specs.Rebuilt.{newRecord, RebuildRoom, Rebuilt}
-use Rattle.order_record.specs.declared.site.Site.{Site}
+use Rattle.find_parts.specs.declared.site.Site.{Site}
 use Rattle.order_record.specs.declared.measure.Sizes.{Sizes}
 use Rattle.order_record.proofs.Laws.Site.{short, old-skeleton, old-index}
 use Rattle.order_record.proofs.Laws.Splice.{from-long, spliced, head-long, new-size, is-stored}
@@ -33,52 +33,52 @@ module _ {s : List ℕ} {x : Site} {ch : Change} {removal : List ℕ} {m : Sizes
   stored : s ≡ recordOut (t .placed .value)
   stored = is-stored f (t .placed .reads)
 
-  pub in-all : m .bytes ≡ x .skeleton + 4 + m .skeleton + m .index + (length s - x .extended)
+  pub in-all : m .bytes ≡ x .skeleton .from + m .skeleton + 2 + m .index + (length s - x .index .to)
   in-all =
       let z = t .sizes in
       omega (arith, z .bytes, z .skeleton, z .index .bytes, new-size (t .placed .at) stored removal ch)
 
-  pub front : 32 ≤ x .skeleton
+  pub front : 34 ≤ x .skeleton .from
   front = from-long (t .placed .at) stored
 
-  pub places : (x .skeleton + 2 ≤ x .index) × (x .index + 2 ≤ x .extended) × (x .extended + 2 ≤ length s) × (length s ≤ 32768)
-  places = let a = t .placed .at in (a .lines .from, a .index .from, omega (arith, a .segments .from, a .segments .within), short (t .placed))
+  pub places : (x .skeleton .from ≤ x .skeleton .to) × (x .index .from ≡ x .skeleton .to + 2) × (x .index .from ≤ x .index .to) × (x .index .to + 2 ≤ length s) × (length s ≤ 32768)
+  places = let a = t .placed .at in (a .lines .from, a .next, a .index .from, omega (arith, a .last, a .segments .from, a .segments .within), short (t .placed))
 
-  pub head-end : {o o1 : List ℕ} {a : ℕ} → HeadLaid s (x .skeleton) (m .bytes) o o1 a → a ≡ x .skeleton
-  head-end h = h .count ∙ head-long (t .placed .at) stored (m .bytes)
+  pub head-end : {o o1 : List ℕ} {a : ℕ} → HeadLaid s (x .skeleton .from - 2) (m .bytes) o o1 a → a + 2 ≡ x .skeleton .from
+  head-end h = omega (arith, h .count, front, head-long (t .placed .at) stored (m .bytes))
 
-  pub skeleton-room : {rest : List ℕ} → 2 + m .skeleton ≤ length rest → SkeletonRoom (x .widths) (cut s (x .skeleton) (x .index)) (x .lines) removal (m .skeleton) rest
+  pub skeleton-room : {rest : List ℕ} → 2 + m .skeleton ≤ length rest → SkeletonRoom (x .widths) (cut s (x .skeleton .from) (x .skeleton .to)) (x .lines) removal (m .skeleton) rest
   unfolding old-skeleton
   skeleton-room h =
       record { there = old-skeleton (t .placed) f; size = rw (t .placed .at .widths) (t .sizes .skeleton); small = omega (arith, in-all, t .small); room = h }
 
-  pub skeleton-end : {o o1 : List ℕ} {a : ℕ} → SkeletonLaid (x .widths) (cut s (x .skeleton) (x .index)) removal o o1 a → a ≡ 2 + m .skeleton
+  pub skeleton-end : {o o1 : List ℕ} {a : ℕ} → SkeletonLaid (x .widths) (cut s (x .skeleton .from) (x .skeleton .to)) removal o o1 a → a ≡ 2 + m .skeleton
   skeleton-end h =
       let a = t .placed .at in
       let v = viewAt (t .placed .value) (t .placed .view) in
       let z : m .skeleton ≡ length (keptBlock (x .widths) removal (v .lines)) = rw (a .widths) (t .sizes .skeleton) in
       omega (arith, h .is (v .lines) (a .lines .value) .count, z)
 
-  pub index-room : {rest : List ℕ} → 2 + m .index ≤ length rest → IndexRoom (cut s (x .index) (x .extended)) (x .lines) ch removal (m .width) (m .index) rest
+  pub index-room : {rest : List ℕ} → 2 + m .index ≤ length rest → IndexRoom (cut s (x .index .from) (x .index .to)) (x .lines) ch removal (m .width) (m .index) rest
   unfolding old-index
   index-room h = record { there = old-index (t .placed); size = t .sizes .index; small = omega (arith, in-all, t .small); room = h }
 
-  pub index-end : {o o1 : List ℕ} {a : ℕ} → IndexLaid (cut s (x .index) (x .extended)) (x .lines) ch removal o o1 a → a ≡ 2 + m .index
+  pub index-end : {o o1 : List ℕ} {a : ℕ} → IndexLaid (cut s (x .index .from) (x .index .to)) (x .lines) ch removal o o1 a → a ≡ 2 + m .index
   index-end h =
       let a = t .placed .at in
       let v = viewAt (t .placed .value) (t .placed .view) in
       omega (arith, h .is (v .index) (a .index .value) .count, t .sizes .index .bytes)
 
   -- there is room for what is left of the record behind its blocks
-  pub rest-fits : {o1 o2 o3 : List ℕ} {a b c : ℕ} → HeadLaid s (x .skeleton) (m .bytes) out o1 a → SkeletonLaid (x .widths) (cut s (x .skeleton) (x .index)) removal (lent o1 a) o2 b
-      → IndexLaid (cut s (x .index) (x .extended)) (x .lines) ch removal (lent (back o1 a o2) (a + b)) o3 c
-      → length (part s (x .extended) (length s - x .extended)) ≤ length (lent (back (back o1 a o2) (a + b) o3) (a + b + c))
+  pub rest-fits : {o1 o2 o3 : List ℕ} {a b c : ℕ} → HeadLaid s (x .skeleton .from - 2) (m .bytes) out o1 a → SkeletonLaid (x .widths) (cut s (x .skeleton .from) (x .skeleton .to)) removal (lent o1 a) o2 b
+      → IndexLaid (cut s (x .index .from) (x .index .to)) (x .lines) ch removal (lent (back o1 a o2) (a + b)) o3 c
+      → length (part s (x .index .to) (length s - x .index .to)) ≤ length (lent (back (back o1 a o2) (a + b) o3) (a + b + c))
   rest-fits {o1} {o2} {o3} {a} {b} {c} H K I =
       let p = t .placed .at in
       let v = viewAt (t .placed .value) (t .placed .view) in
       let L = laid-next (laid-next H (K .is (v .lines) (p .lines .value))) (I .is (v .index) (p .index .value)) in
-      let r : length s - x .extended + (a + b + c) ≤ length out = omega (arith, t .room, in-all, head-end H, skeleton-end K, index-end I) in
-      rest-into s (back (back o1 a o2) (a + b) o3) (x .extended) (a + b + c) (omega (arith, r, laid-same L (omega (arith, r))))
+      let r : length s - x .index .to + (a + b + c) ≤ length out = omega (arith, t .room, in-all, head-end H, skeleton-end K, index-end I) in
+      rest-into s (back (back o1 a o2) (a + b) o3) (x .index .to) (a + b + c) (omega (arith, r, laid-same L (omega (arith, r))))
 
   -- the whole, and the buffer behind it
   pub whole : {after : List ℕ} {n : ℕ} → Rebuilt s x ch removal m out after n → (n ≡ m .bytes) × (length after ≡ length out)
@@ -88,10 +88,10 @@ module _ {s : List ℕ} {x : Site} {ch : Change} {removal : List ℕ} {m : Sizes
       let e : _ ≡ m .bytes = L .count ∙ stored-long _ ∙ sym (t .sizes .bytes) in
       (e, laid-same L (omega (arith, e, t .room)))
 
-module _ {s : List ℕ} {x : Site} {ch : Change} {removal : List ℕ} {m : Sizes} (f : All Byte s) {o o1 : List ℕ} {a : ℕ} (H : HeadLaid s (x .skeleton) (m .bytes) o o1 a)
-    {o2 : List ℕ} {b : ℕ} (K : SkeletonLaid (x .widths) (cut s (x .skeleton) (x .index)) removal (lent o1 a) o2 b)
-    {o3 : List ℕ} {c : ℕ} (I : IndexLaid (cut s (x .index) (x .extended)) (x .lines) ch removal (lent (back o1 a o2) (a + b)) o3 c)
-    {o4 : List ℕ} {d : ℕ} (T : Laid (part s (x .extended) (length s - x .extended)) (lent (back (back o1 a o2) (a + b) o3) (a + b + c)) o4 d) where
+module _ {s : List ℕ} {x : Site} {ch : Change} {removal : List ℕ} {m : Sizes} (f : All Byte s) {o o1 : List ℕ} {a : ℕ} (H : HeadLaid s (x .skeleton .from - 2) (m .bytes) o o1 a)
+    {o2 : List ℕ} {b : ℕ} (K : SkeletonLaid (x .widths) (cut s (x .skeleton .from) (x .skeleton .to)) removal (lent o1 a) o2 b)
+    {o3 : List ℕ} {c : ℕ} (I : IndexLaid (cut s (x .index .from) (x .index .to)) (x .lines) ch removal (lent (back o1 a o2) (a + b)) o3 c)
+    {o4 : List ℕ} {d : ℕ} (T : Laid (part s (x .index .to) (length s - x .index .to)) (lent (back (back o1 a o2) (a + b) o3) (a + b + c)) o4 d) where
   pub rebuilt : Rebuilt s x ch removal m o (back (back (back o1 a o2) (a + b) o3) (a + b + c) o4) (a + b + c + d)
   rebuilt =
       record {
@@ -99,10 +99,10 @@ module _ {s : List ℕ} {x : Site} {ch : Change} {removal : List ℕ} {m : Sizes
             let v = viewAt r i in
             let k = rw (S .widths) at (K .is (v .lines) (S .lines .value)) in
             let y = I .is (v .index) (S .index .value) in
-            let g : part s (x .extended) (length s - x .extended) ≡ drop (x .extended) s = take-all (length s - x .extended) (drop (x .extended) s) (omega (arith, length-drop (x .extended) s)) in
+            let g : part s (x .index .to) (length s - x .index .to) ≡ drop (x .index .to) s = take-all (length s - x .index .to) (drop (x .index .to) s) (omega (arith, length-drop (x .index .to) s)) in
             let all = laid-next (laid-next (laid-next H k) y) (rw g at T) in
             let w = r .head .scale .widths in
-            let q : ((headOf s (x .skeleton) (m .bytes) ++ sized (keptBlock w removal (v .lines))) ++ sized (newIndexBlock removal ch (v .index))) ++ drop (x .extended) s ≡ recordOut (newRecord removal ch i r) =
-            ap (λ (n : ℕ). ((headOf s (x .skeleton) n ++ sized (keptBlock w removal (v .lines))) ++ sized (newIndexBlock removal ch (v .index))) ++ drop (x .extended) s) (z .bytes) ∙ sym (spliced S (is-stored f e) removal ch) in
+            let q : ((headOf s (x .skeleton .from - 2) (m .bytes) ++ sized (keptBlock w removal (v .lines))) ++ sized (newIndexBlock removal ch (v .index))) ++ drop (x .index .to) s ≡ recordOut (newRecord removal ch i r) =
+            ap (λ (n : ℕ). ((headOf s (x .skeleton .from - 2) n ++ sized (keptBlock w removal (v .lines))) ++ sized (newIndexBlock removal ch (v .index))) ++ drop (x .index .to) s) (z .bytes) ∙ sym (spliced S (is-stored f e) removal ch) in
             subst (λ (ys : List ℕ). Laid ys o (back (back (back o1 a o2) (a + b) o3) (a + b + c) o4) (a + b + c + d)) q all;
       }

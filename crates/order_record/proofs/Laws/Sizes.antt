@@ -11,18 +11,18 @@ use Rattle.order_lists.specs.declared.lists.Change.{Change}
 use Rattle.order_lists.specs.declared.index.Size.{Size}
 use Rattle.order_record.specs.Blocks.{SkeletonMeasured, IndexMeasured}
 use Rattle.order_record.specs.Rebuilt.{Placed, Measured}
-use Rattle.order_record.specs.declared.site.Site.{Site}
+use Rattle.find_parts.specs.declared.site.Site.{Site}
 use Rattle.order_record.proofs.Laws.Skeleton.{skeleton-fewer}
 use Rattle.order_record.proofs.Laws.Site.{old-skeleton}
 use Rattle.order_record.proofs.Laws.Splice.{new-size, is-stored}
 
-module _ {s : List ℕ} {x : Site} {ch : Change} {removal : List ℕ} (t : Placed s x ch removal) (f : All Byte s) {n : ℕ} (A : SkeletonMeasured (x .widths) (cut s (x .skeleton) (x .index)) removal n) where
+module _ {s : List ℕ} {x : Site} {ch : Change} {removal : List ℕ} (t : Placed s x ch removal) (f : All Byte s) {n : ℕ} (A : SkeletonMeasured (x .widths) (cut s (x .skeleton .from) (x .skeleton .to)) removal n) where
   -- a skeleton becomes no longer
   pub skeleton-small : n ≤ 65535
   skeleton-small = omega (arith, skeleton-fewer (old-skeleton t f) A)
 
-  pub measured : {z : Size} → IndexMeasured (cut s (x .index) (x .extended)) (x .lines) ch removal z
-      → Measured s x ch removal (record { skeleton = n; width = z .width; index = z .bytes; bytes = x .skeleton + 4 + n + z .bytes + (length s - x .extended) })
+  pub measured : {z : Size} → IndexMeasured (cut s (x .index .from) (x .index .to)) (x .lines) ch removal z
+      → Measured s x ch removal (record { skeleton = n; width = z .width; index = z .bytes; bytes = x .skeleton .from + n + 2 + z .bytes + (length s - x .index .to) })
   measured {z} B =
       record {
         is = λ r i e S.

@@ -26,10 +26,10 @@ use Rattle.find_parts.proofs.Laws.Blocks.{block-bits, block-long}
 use Rattle.find_parts.proofs.Laws.Written.{views-long, stored-long, written}
 use Rattle.order_lists.specs.declared.lists.Change.{Change}
 use Rattle.order_lines.specs.Lines.{keptBlock}
-use Rattle.order_record.specs.Site.{SiteOf}
+use Rattle.find_parts.specs.Site.{SiteOf}
 use Rattle.order_record.specs.Blocks.{headOf, newIndexBlock}
 use Rattle.order_record.specs.Rebuilt.{newView, newRecord}
-use Rattle.order_record.specs.declared.site.Site.{Site}
+use Rattle.find_parts.specs.declared.site.Site.{Site}
 use Rattle.order_record.proofs.Laws.Index.{index-bytes}
 
 -- ---- a record around the blocks of its view i
@@ -99,46 +99,46 @@ module _ (r : Record) (i : ℕ) where
 -- ---- s is its bytes, and x is where its view i stands
 
 module _ {r : Record} {s : List ℕ} {i : ℕ} {x : Site} (S : SiteOf r s i x) (e : s ≡ recordOut r) where
-  middle-long : length (middle r i) ≡ x .skeleton - 12
+  middle-long : length (middle r i) ≡ x .skeleton .from - 2 - 12
   middle-long =
       let w : Widths = r .head .scale .widths in
       let j : ℕ = length (joined (viewOut w) (take i (r .views))) in
       let m : length (middle r i) ≡ 20 + j = simp length-append (omega arith) in
       omega (arith, m, S .before, views-long w (take i (r .views)))
 
-  pub from-long : 32 ≤ x .skeleton
+  pub from-long : 34 ≤ x .skeleton .from
   from-long = omega (arith, S .before)
 
-  blocks-long : x .skeleton + length (blocks r i (viewAt r i .lines) (viewAt r i .index)) ≡ x .extended
+  blocks-long : x .skeleton .from - 2 + length (blocks r i (viewAt r i .lines) (viewAt r i .index)) ≡ x .index .to
   blocks-long =
       let w : Widths = r .head .scale .widths in
       let v : View = viewAt r i in
-      let L : BlockAt (skeleton w) s (x .skeleton) (x .index) (v .lines) = rw (S .widths) at (S .lines) in
-      let I : BlockAt (indexBlock (length (v .lines))) s (x .index) (x .extended) (v .index) = rw (S .count) at (S .index) in
+      let L : BlockAt (skeleton w) s (x .skeleton .from) (x .skeleton .to) (v .lines) = rw (S .widths) at (S .lines) in
+      let I : BlockAt (indexBlock (length (v .lines))) s (x .index .from) (x .index .to) (v .index) = rw (S .count) at (S .index) in
       let m : length (blocks r i (v .lines) (v .index)) ≡ (2 + length (inBytes (skeleton w .enc (v .lines)))) + (2 + length (inBytes (indexBlock (length (v .lines)) .enc (v .index)))) = simp length-append (omega arith) in
-      omega (arith, m, L .from, I .from, block-bits L, block-bits I, block-long (skeleton w) (v .lines), block-long (indexBlock (length (v .lines))) (v .index))
+      omega (arith, m, from-long, S .next, L .from, I .from, block-bits L, block-bits I, block-long (skeleton w) (v .lines), block-long (indexBlock (length (v .lines))) (v .index))
 
   is-apart : s ≡ mark ++ (two (size r) ++ (middle r i ++ (blocks r i (viewAt r i .lines) (viewAt r i .index) ++ tail r i)))
   is-apart = e ∙ apart-old r i (S .there)
 
-  head-same : (n : ℕ) → headOf s (x .skeleton) n ≡ (mark ++ two n) ++ middle r i
+  head-same : (n : ℕ) → headOf s (x .skeleton .from - 2) n ≡ (mark ++ two n) ++ middle r i
   head-same n =
       let rest : List ℕ = blocks r i (viewAt r i .lines) (viewAt r i .index) ++ tail r i in
       let a : take 10 s ≡ mark = ap (take 10) is-apart in
       let b : drop 12 s ≡ middle r i ++ rest = ap (drop 12) is-apart in
-      rw (a, b, take-at (middle r i) rest (x .skeleton - 12) middle-long) refl
+      rw (a, b, take-at (middle r i) rest (x .skeleton .from - 2 - 12) middle-long) refl
 
-  tail-same : drop (x .extended) s ≡ tail r i
+  tail-same : drop (x .index .to) s ≡ tail r i
   tail-same =
       let v : View = viewAt r i in
       let front : List ℕ = mark ++ (two (size r) ++ (middle r i ++ blocks r i (v .lines) (v .index))) in
       let a : s ≡ front ++ tail r i = is-apart ∙ to-tail mark (two (size r)) (middle r i) (blocks r i (v .lines) (v .index)) (tail r i) in
-      let n : length front ≡ x .extended = omega (arith, length-append (middle r i) (blocks r i (v .lines) (v .index)), middle-long, from-long, blocks-long) in
-      ap (drop (x .extended)) a ∙ drop-at front (tail r i) (x .extended) n
+      let n : length front ≡ x .index .to = omega (arith, length-append (middle r i) (blocks r i (v .lines) (v .index)), middle-long, from-long, blocks-long) in
+      ap (drop (x .index .to)) a ∙ drop-at front (tail r i) (x .index .to) n
 
   pub spliced : (removal : List ℕ) (ch : Change) → recordOut (newRecord removal ch i r)
-      ≡ ((headOf s (x .skeleton) (size (newRecord removal ch i r)) ++ sized (keptBlock (r .head .scale .widths) removal (viewAt r i .lines)))
-      ++ sized (newIndexBlock removal ch (viewAt r i .index))) ++ drop (x .extended) s
+      ≡ ((headOf s (x .skeleton .from - 2) (size (newRecord removal ch i r)) ++ sized (keptBlock (r .head .scale .widths) removal (viewAt r i .lines)))
+      ++ sized (newIndexBlock removal ch (viewAt r i .index))) ++ drop (x .index .to) s
   unfolding newRecord newView
   spliced removal ch =
       let v : View = viewAt r i in
@@ -149,28 +149,29 @@ module _ {r : Record} {s : List ℕ} {i : ℕ} {x : Site} (S : SiteOf r s i x) (
       let b : B ≡ sized (newIndexBlock removal ch (v .index)) = ap (λ bits. sized (inBytes bits)) (index-bytes (length (u .lines)) (u .index)) in
       apart r i (S .there) (u .lines) (u .index) ∙ from-left mark (two n) (middle r i) A B (tail r i)
       ∙ ap₂ (λ (h t : List ℕ). ((h ++ A) ++ B) ++ t) (sym (head-same n)) (sym tail-same)
-      ∙ ap (λ (y : List ℕ). ((headOf s (x .skeleton) n ++ A) ++ y) ++ drop (x .extended) s) b
+      ∙ ap (λ (y : List ℕ). ((headOf s (x .skeleton .from - 2) n ++ A) ++ y) ++ drop (x .index .to) s) b
 
   -- ---- how long it is
 
-  pub head-long : (n : ℕ) → length (headOf s (x .skeleton) n) ≡ x .skeleton
+  pub head-long : (n : ℕ) → length (headOf s (x .skeleton .from - 2) n) ≡ x .skeleton .from - 2
   head-long n = ap length (head-same n) ∙ omega (arith, middle-long, from-long)
 
   pub new-size : (removal : List ℕ) (ch : Change) → size (newRecord removal ch i r)
-      ≡ x .skeleton + 4 + length (keptBlock (r .head .scale .widths) removal (viewAt r i .lines)) + length (newIndexBlock removal ch (viewAt r i .index)) + (length s - x .extended)
+      ≡ x .skeleton .from + length (keptBlock (r .head .scale .widths) removal (viewAt r i .lines)) + 2 + length (newIndexBlock removal ch (viewAt r i .index)) + (length s - x .index .to)
   new-size removal ch =
       let n : ℕ = size (newRecord removal ch i r) in
-      let a : List ℕ = headOf s (x .skeleton) n in
+      let a : List ℕ = headOf s (x .skeleton .from - 2) n in
       let b : List ℕ = sized (keptBlock (r .head .scale .widths) removal (viewAt r i .lines)) in
       let c : List ℕ = sized (newIndexBlock removal ch (viewAt r i .index)) in
       omega (
         arith,
         sym (stored-long (newRecord removal ch i r)) ∙ ap length (spliced removal ch),
-        length-append ((a ++ b) ++ c) (drop (x .extended) s),
+        length-append ((a ++ b) ++ c) (drop (x .index .to) s),
         length-append (a ++ b) c,
         length-append a b,
         head-long n,
-        length-drop (x .extended) s,
+        length-drop (x .index .to) s,
+        from-long,
       )
 
 -- ---- an accepted record is what is stored of it

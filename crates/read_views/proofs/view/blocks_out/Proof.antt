@@ -27,14 +27,14 @@ part-lines-out-end c =
 lines-out-requires : tie.Need-lines-out-requires
 lines-out-requires c κs =
     let s = c .before .before .before .before .before .pre in
-        record {
-          narrow = s .narrow;
-          short = simp (length-take, length-drop) (omega (arith, s .short));
-          value = s .value .lines;
-          left = [];
-          reads = lines-here (s .blocks) (c .before .before .blocks-at .ensures) .value;
-          room = omega (arith, s .room);
-        }
+    record {
+      narrow = s .narrow;
+      short = simp (length-take, length-drop) (omega (arith, s .short));
+      value = s .value .lines;
+      left = [];
+      reads = lines-here (s .blocks) (c .before .before .blocks-at .ensures) .value;
+      room = omega (arith, s .room);
+    }
 
 sub-index-out : tie.Need-sub-index-out
 sub-index-out c =
@@ -63,44 +63,44 @@ part-index-out-end-2 c =
 index-out-requires : tie.Need-index-out-requires
 index-out-requires c κs =
     let s = c .before .before .before .before .before .before .before .before .before .before .pre in
-        let found = c .before .before .before .before .before .before .before .blocks-at .ensures in
-        let lines = c .before .before .before .before .lines-out .ensures in
-        record {
-          few = lines-few (s .blocks) found lines;
-          short = simp (length-take, length-drop) (omega (arith, s .short));
-          value = s .value .index;
-          left = [];
-          reads = index-reads (s .blocks) found lines;
-          room = simp (length-take, length-drop) (omega (arith, s .room, lines-wide (s .blocks) found lines));
-        }
+    let found = c .before .before .before .before .before .before .before .blocks-at .ensures in
+    let lines = c .before .before .before .before .lines-out .ensures in
+    record {
+      few = lines-few (s .blocks) found lines;
+      short = simp (length-take, length-drop) (omega (arith, s .short));
+      value = s .value .index;
+      left = [];
+      reads = index-reads (s .blocks) found lines;
+      room = simp (length-take, length-drop) (omega (arith, s .room, lines-wide (s .blocks) found lines));
+    }
 
 add-at : tie.Need-add-at
 add-at c =
     let s = c .before .before .before .before .before .before .before .before .before .before .before .before .before .pre in
-        let found = c .before .before .before .before .before .before .before .before .before .before .blocks-at .ensures in
-        let lines = c .before .before .before .before .before .before .before .lines-out .ensures in
-        omega (arith, s .room, lines-wide (s .blocks) found lines, index-wide (s .blocks) found lines (c .before .before .index-out .ensures))
+    let found = c .before .before .before .before .before .before .before .before .before .before .blocks-at .ensures in
+    let lines = c .before .before .before .before .before .before .before .lines-out .ensures in
+    omega (arith, s .room, lines-wide (s .blocks) found lines, index-wide (s .blocks) found lines (c .before .before .index-out .ensures))
 
 sub-segments-out : tie.Need-sub-segments-out
 sub-segments-out c =
     let s = c .before .before .before .before .before .before .before .before .before .before .before .before .before .pre in
-        let found = c .before .before .before .before .before .before .before .before .before .before .blocks-at .ensures in
-        let lines = c .before .before .before .before .before .before .before .lines-out .ensures in
-        omega (arith, s .room, lines-wide (s .blocks) found lines, index-wide (s .blocks) found lines (c .before .before .index-out .ensures))
+    let found = c .before .before .before .before .before .before .before .before .before .before .blocks-at .ensures in
+    let lines = c .before .before .before .before .before .before .before .lines-out .ensures in
+    omega (arith, s .room, lines-wide (s .blocks) found lines, index-wide (s .blocks) found lines (c .before .before .index-out .ensures))
 
 part-segments-out-start : tie.Need-part-segments-out-start
 part-segments-out-start c =
     let s = c .before .before .before .before .before .before .before .before .before .before .before .before .before .pre in
-        let found = c .before .before .before .before .before .before .before .before .before .before .blocks-at .ensures in
-        let lines = c .before .before .before .before .before .before .before .lines-out .ensures in
-        omega (arith, s .room, lines-wide (s .blocks) found lines, index-wide (s .blocks) found lines (c .before .before .index-out .ensures))
+    let found = c .before .before .before .before .before .before .before .before .before .before .blocks-at .ensures in
+    let lines = c .before .before .before .before .before .before .before .lines-out .ensures in
+    omega (arith, s .room, lines-wide (s .blocks) found lines, index-wide (s .blocks) found lines (c .before .before .index-out .ensures))
 
 part-segments-out-end : tie.Need-part-segments-out-end
 part-segments-out-end c =
     let s = c .before .before .before .before .before .before .before .before .before .before .before .before .before .pre in
-        let found = c .before .before .before .before .before .before .before .before .before .before .blocks-at .ensures in
-        let lines = c .before .before .before .before .before .before .before .lines-out .ensures in
-        omega (arith, s .room, lines-wide (s .blocks) found lines, index-wide (s .blocks) found lines (c .before .before .index-out .ensures))
+    let found = c .before .before .before .before .before .before .before .before .before .before .blocks-at .ensures in
+    let lines = c .before .before .before .before .before .before .before .lines-out .ensures in
+    omega (arith, s .room, lines-wide (s .blocks) found lines, index-wide (s .blocks) found lines (c .before .before .index-out .ensures))
 
 sub-segments-out-2 : tie.Need-sub-segments-out-2
 sub-segments-out-2 c =
@@ -117,23 +117,23 @@ part-segments-out-end-2 c =
 segments-out-requires : tie.Need-segments-out-requires
 segments-out-requires c κs =
     let s = c .before .before .before .before .before .before .before .before .before .before .before .before .before .before .before .pre in
-        let found = c .before .before .before .before .before .before .before .before .before .before .before .before .blocks-at .ensures in
-        let lines = c .before .before .before .before .before .before .before .before .before .lines-out .ensures in
-        record {
-          short = simp (length-take, length-drop) (omega (arith, s .short));
-          value = s .value .segments;
-          left = [];
-          reads = segments-here (s .blocks) found .value;
-          room = simp (length-take, length-drop) (omega (arith, s .room, lines-wide (s .blocks) found lines, index-wide (s .blocks) found lines (c .before .before .before .before .index-out .ensures)));
-        }
+    let found = c .before .before .before .before .before .before .before .before .before .before .before .before .blocks-at .ensures in
+    let lines = c .before .before .before .before .before .before .before .before .before .lines-out .ensures in
+    record {
+      short = simp (length-take, length-drop) (omega (arith, s .short));
+      value = s .value .segments;
+      left = [];
+      reads = segments-here (s .blocks) found .value;
+      room = simp (length-take, length-drop) (omega (arith, s .room, lines-wide (s .blocks) found lines, index-wide (s .blocks) found lines (c .before .before .before .before .index-out .ensures)));
+    }
 
 add-at-2 : tie.Need-add-at-2
 add-at-2 c =
     let s = c .before .before .before .before .before .before .before .before .before .before .before .before .before .before .before .before .before .before .pre in
-        let found = c .before .before .before .before .before .before .before .before .before .before .before .before .before .before .before .blocks-at .ensures in
-        let lines = c .before .before .before .before .before .before .before .before .before .before .before .before .lines-out .ensures in
-        let index = c .before .before .before .before .before .before .before .index-out .ensures in
-        omega (arith, s .room, lines-wide (s .blocks) found lines, index-wide (s .blocks) found lines index, segments-wide (s .blocks) found lines index (c .before .before .segments-out .ensures))
+    let found = c .before .before .before .before .before .before .before .before .before .before .before .before .before .before .before .blocks-at .ensures in
+    let lines = c .before .before .before .before .before .before .before .before .before .before .before .before .lines-out .ensures in
+    let index = c .before .before .before .before .before .before .before .index-out .ensures in
+    omega (arith, s .room, lines-wide (s .blocks) found lines, index-wide (s .blocks) found lines index, segments-wide (s .blocks) found lines index (c .before .before .segments-out .ensures))
 
 same-length : tie.Need-same-length
 same-length c = search needs

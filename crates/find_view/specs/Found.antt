@@ -1,0 +1,30 @@
+-- What finding a view answers: where it stands in an accepted record, or the refusal of every call on it.
+use mathlib.Core.Path.{_≡_}
+use Prim.Native.Nat.{ℕ, _<_}
+use mathlib.Core.List.{List, []}
+use lib.ListN.{length}
+use Rattle.bits.specs.Codec.{got}
+use Rattle.outcome.specs.Outcome.{Outcome, refused}
+use Rattle.format.specs.Record.{Record, read}
+use Rattle.format.specs.Call.{onView}
+use Rattle.format.specs.declared.Scale.{Scale}
+use Rattle.find_parts.specs.Stands.{BlocksIn}
+use Rattle.find_parts.specs.declared.view.Blocks.{Blocks}
+use Rattle.find_view.specs.declared.FoundView.{FoundView}
+use Rattle.find_view.specs.declared.FoundView.the-variants as f
+
+-- the bytes s are a record's with this scale, and the blocks of its view stand at x
+pub record Stands (s : List ℕ) (view : ℕ) (scale : Scale) (x : Blocks) : Type 0 where
+  pub value : Record
+  pub reads : read s ≡ got value []
+  pub there : view < length (value .views)
+  pub scale : scale ≡ value .head .scale
+  pub blocks : BlocksIn value s view x
+
+-- whatever is asked of the view
+pub record Refuses (s : List ℕ) (view e p : ℕ) : Type 1 where
+  pub is : {A : Type 0} (f : ℕ → Record → Outcome A) → onView view f s ≡ refused e p
+
+abbrev pub ViewFound : List ℕ → ℕ → FoundView → Type 1
+ViewFound s view (f.At scale x) = Stands s view scale x
+ViewFound s view (f.Refused e p) = Refuses s view e p

@@ -1,0 +1,36 @@
+// The view that a call names, in any bytes: the record is judged, then the view is found. Every call on a view begins here.
+ghost use Rattle.find_view.specs.Found.{ViewFound};
+use find_parts::view::Blocks;
+use find_parts::view::blocks_at;
+use find_parts::view::view_at;
+use format::Scale;
+use judge::Verdict;
+use judge::judge;
+use outcome::Refusal;
+
+// The header's scale, and where the view's blocks stand; or the number and the place of the refusal, 1 to 13.
+pub enum FoundView {
+    At(Scale, Blocks),
+    Refused(u32, usize),
+}
+
+pub fn find_view(bytes: &[u8], view: usize) -> FoundView
+    ensures { λ r. ⌜ ViewFound (now (bytes .entry)) view r ⌝ }
+{
+    match judge(bytes) {
+        Verdict::Refused(number, place) => FoundView::Refused(number, place),
+        Verdict::Accepted {
+            header,
+            views,
+            size: _,
+        } => {
+            if view < views {
+                let start = view_at(bytes, view);
+                let scale = header.scale;
+                FoundView::At(scale, blocks_at(bytes, start + 8))
+            } else {
+                FoundView::Refused(Refusal::NO_VIEW, 0)
+            }
+        }
+    }
+}
