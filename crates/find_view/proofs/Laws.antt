@@ -1,18 +1,27 @@
--- From the judge's verdict to the view: refused whatever is asked of it, or found.
-use mathlib.Core.Path.{_≡_, ap, _∙_}
+-- From the judge's verdict to the view: refused whatever is asked of it, or found; and what a view that is found brings with it.
+use mathlib.Core.Path.{_≡_, ap}
 use Prim.Native.Nat.{ℕ, _+_, _≤_, _<_}
 use native.Mathlib.Omega.{arith}
-use mathlib.Core.List.{List}
+use mathlib.Core.List.{List, []}
+use lib.ListN.{length}
+use Rattle.bits.specs.Bytes.{bitsOf}
+use Rattle.bits.specs.Codec.{got}
 use Rattle.outcome.specs.Refusals.{noView}
+use Rattle.format.specs.Line.{skeleton}
+use Rattle.format.specs.Places.{viewAt}
 use Rattle.format.specs.Call.{inView, onView}
+use Rattle.format.specs.declared.Scale.{Scale}
 use Rattle.format.specs.declared.Header.{Header}
 use Rattle.format.proofs.Laws.Call.{no-view}
+use Rattle.format.proofs.Laws.Record.{narrow}
 use Rattle.judge.specs.Judge.{Judges}
 use Rattle.judge.specs.declared.Verdict.the-variants.{Accepted, Refused}
 use Rattle.judge.proofs.Laws.Calls.{call-refused, record-read}
 use Rattle.find_parts.specs.Finds as F
 use Rattle.find_parts.specs.declared.view.Blocks.{Blocks}
 use Rattle.find_parts.proofs.Laws.Blocks.{blocks-in}
+use Rattle.find_parts.proofs.Laws.Blocks as P
+use Rattle.find_parts.proofs.Laws.Record.{record-apart}
 use Rattle.find_view.specs.Found.{Stands, Refuses}
 
 module _ {s : List ℕ} (view : ℕ) where
@@ -28,7 +37,29 @@ module _ {s : List ℕ} (view : ℕ) where
       pub view-there : F.ViewThere s view
       view-there = record-read j λ r e _ m _. record { value = r; reads = e; below = omega arith }
 
+      pub blocks-there : {a : ℕ} → F.ViewFound s view a → F.BlocksThere s (a + 8)
+      blocks-there I = record-read j λ r e _ _ _. P.blocks-there (record-apart s e .short) (I .is r e .at)
+
       pub stands : {a : ℕ} {x : Blocks} → F.ViewFound s view a → F.BlocksFound s (a + 8) x → Stands s view (h .scale) x
-      stands V B =
+      stands I B =
           record-read j λ r e q m _.
-          record { value = r; reads = e; there = omega arith; scale = ap (λ (y : Header). y .scale) q; blocks = blocks-in (V .is r e) B }
+          record { value = r; reads = e; there = omega arith; scale = ap (λ (y : Header). y .scale) q; blocks = blocks-in (I .is r e) B }
+
+-- ---- the lines of a view that is found
+
+module _ {s : List ℕ} {view : ℕ} {c : Scale} {x : Blocks} (h : Stands s view c x) where
+  pub short : length s ≤ 32768
+  short = record-apart s (h .reads) .short
+
+  pub lines-read : skeleton (c .widths) .dec (bitsOf (P.cut s (x .skeleton .from) (x .skeleton .to))) ≡ got (viewAt (h .value) view .lines) []
+  lines-read = rw (h .scale) (h .blocks .lines .value)
+
+  pub lines-there : F.LinesThere (c .widths) (P.cut s (x .skeleton .from) (x .skeleton .to))
+  lines-there =
+      record {
+        narrow = rw (h .scale) (narrow (record-apart s (h .reads) .fits));
+        short = omega (arith, short, P.cut-long (h .blocks .lines), h .blocks .lines .within);
+        value = viewAt (h .value) view .lines;
+        left = [];
+        reads = lines-read;
+      }

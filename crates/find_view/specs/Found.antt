@@ -13,18 +13,18 @@ use Rattle.find_parts.specs.declared.view.Blocks.{Blocks}
 use Rattle.find_view.specs.declared.FoundView.{FoundView}
 use Rattle.find_view.specs.declared.FoundView.the-variants as f
 
--- the bytes s are a record's with this scale, and the blocks of its view stand at x
-pub record Stands (s : List ℕ) (view : ℕ) (scale : Scale) (x : Blocks) : Type 0 where
+-- the bytes s are a record's whose scale is c, and the blocks of its view stand at x
+pub record Stands (s : List ℕ) (view : ℕ) (c : Scale) (x : Blocks) : Type 0 where
   pub value : Record
   pub reads : read s ≡ got value []
   pub there : view < length (value .views)
-  pub scale : scale ≡ value .head .scale
+  pub scale : c ≡ value .head .scale
   pub blocks : BlocksIn value s view x
 
 -- whatever is asked of the view
-pub record Refuses (s : List ℕ) (view e p : ℕ) : Type 1 where
-  pub is : {A : Type 0} (f : ℕ → Record → Outcome A) → onView view f s ≡ refused e p
+pub record Refuses (s : List ℕ) (view e p : ℕ) : Type 0 where
+  pub is : (f : ℕ → Record → Outcome ℕ) → onView view f s ≡ refused e p
 
-abbrev pub ViewFound : List ℕ → ℕ → FoundView → Type 1
+abbrev pub ViewFound : List ℕ → ℕ → FoundView → Type 0
 ViewFound s view (f.At scale x) = Stands s view scale x
 ViewFound s view (f.Refused e p) = Refuses s view e p

@@ -1,10 +1,9 @@
 // The calls that a host written in C links. Each is a call of the library under its C name; host/fsk.h explains them.
 ghost use mathlib.Core.Path.{_≡_};
 ghost use mathlib.Core.Bool.{true, false};
-ghost use Rattle.outcome.specs.Outcome.{Answers};
+ghost use Rattle.outcome.specs.Outcome.{Answers, AnswersInBytes};
 ghost use Rattle.sheet.specs.Sheet.{reading, writing};
 ghost use Rattle.trail.specs.Trail.{trailing};
-ghost use Rattle.trailing.specs.Trace.{AnswersInBytes};
 ghost use Rattle.segment.specs.Segment.{segmentAnswer};
 ghost use Rattle.orders.specs.Order.{order, heldAnswer};
 ghost use Rattle.ordering.specs.Orders.{removal, pairOrder};

@@ -2,11 +2,12 @@
 -- is 0, with the bytes or elements written. Every refusal gives its number and a length of 0 and changes no byte or element of a
 -- lent buffer. On acceptance what lies beyond the written length stays."
 use mathlib.Core.Path.{_≡_}
-use Prim.Native.Nat.{ℕ}
+use Prim.Native.Nat.{ℕ, _/_}
 use mathlib.Core.List.{List, _++_}
 use lib.ListN.{length, take, drop}
 use lib.Dec.{leb}
 use Rattle.bits.specs.Choice.{pick}
+use Rattle.put_bytes.specs.HighFirst.{two, joined}
 use Rattle.outcome.specs.Refusals.{noRoom}
 use Rattle.outcome.specs.declared.Answer.{Answer}
 
@@ -55,6 +56,11 @@ pub record AnswersAs {A B : Type 0} (form : List A → List B) (lent : ℕ) (o :
 -- elements that stand as they are
 abbrev pub Answers : {A : Type 0} → Outcome A → (before after : List A) → Answer → Type 0
 Answers o before after a = AnswersAs (λ xs. xs) (length before) o before after a
+
+-- numbers that stand as bytes: "Lists and trails of wider numbers cross to it as bytes, high byte first; an output's bytes short of a
+-- number stay."
+abbrev pub AnswersInBytes : Outcome ℕ → (before after : List ℕ) → Answer → Type 0
+AnswersInBytes o before after a = AnswersAs (joined two) (length before / 2) o before after a
 
 -- the elements xs were given: accepted, so many, and they stand at the start of the buffer
 abbrev pub Gave : {A : Type 0} → List A → (after : List A) → Answer → Type 0

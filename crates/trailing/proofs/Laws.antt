@@ -3,38 +3,38 @@ use mathlib.Core.Path.{_≡_, sym, ap, ap₂, _∙_, subst}
 use Prim.Native.Nat.{ℕ, _+_, _-_, _*_, _≤_, _<_}
 use native.Mathlib.Omega.{arith}
 use mathlib.Core.Bool.{false}
-use mathlib.Core.List.{List, []}
+use mathlib.Core.List.{List}
 use lib.ListN.{length}
 use lib.Dec.{ltb}
 use mir.Facts.{yes-ltb, no-ltb}
 use Rattle.bits.specs.ChoiceLaws.{pick-yes, pick-no, within-low, within-high}
-use Rattle.bits.specs.Codec.{got, fieldDec, timesDec}
+use Rattle.bits.specs.Codec.{fieldDec, timesDec}
 use Rattle.bits.specs.CodecLaws.{field}
 use Rattle.bits.specs.Reads.{found, Reads}
 use Rattle.bits.proofs.Laws.Reads.{at-place, below, up-to}
 use Rattle.bits.proofs.Laws.Parts.{part}
 use Rattle.bits.proofs.Laws.Apart.{same}
-use Rattle.outcome.specs.Refusals.{badLine, noView, badLines, noRoom}
+use Rattle.outcome.specs.Refusals.{badLine, badLines, noRoom}
 use Rattle.outcome.specs.Outcome.{Outcome, refused, given, AnswersAs}
 use Rattle.outcome.proofs.Laws.{answer-full, answer-given}
 use Rattle.put_bytes.specs.Laid.{Laid}
 use Rattle.format.specs.Line.{Line, line}
-use Rattle.format.specs.Record.{Record, FitsHeader, read, Narrow}
+use Rattle.format.specs.View.{View}
+use Rattle.format.specs.Record.{Narrow}
 use Rattle.format.specs.Places.{viewAt, count, lineAt}
 use Rattle.format.specs.declared.Scale.{Scale}
-use Rattle.format.specs.declared.Header.{Header}
-use Rattle.judge.specs.Judge.{Judges}
-use Rattle.judge.specs.declared.Verdict.the-variants.{Refused}
-use Rattle.format.proofs.Laws.Call.{on-record}
-use Rattle.judge.proofs.Laws.Calls.{call-refused}
+use Rattle.format.proofs.Laws.Call.{on-view}
 use Rattle.trail.specs.Trail.{firstHeading, follow, trail, trailIn, trailing}
 use Rattle.trail.proofs.Laws.{first-small}
 use Rattle.trail_steps.specs.Walk.{CodesThere, OfCodes, drawn, CanDraw}
 use Rattle.trail_steps.proofs.Laws.{trail-length}
 use Rattle.find_parts.specs.Stands.{endBits}
+use Rattle.find_parts.specs.declared.view.Blocks.{Blocks}
+use Rattle.find_view.specs.Found.{Stands, Refuses}
+use Rattle.find_parts.proofs.Laws.Record.{record-apart}
 use Rattle.find_parts.proofs.Laws.Line.{LineAt, line-at, direction-at}
 use Rattle.trailing.specs.Trace.{Draws, DrawsPart}
-use Rattle.trailing.specs.declared.Walk.{Walk}
+use Rattle.trailing.specs.declared.CodeWalk.{CodeWalk}
 
 -- ---- the walk along a line: d is the direction that code reads, n the count
 
@@ -80,35 +80,33 @@ module _ (sc : Scale) {s : List ℕ} {p : ℕ} {l : Line} {q : ℕ} (h : Reads (
 -- ---- the outcome of the call on an accepted record
 
 -- N is from 1 to 255
-pub half-is : (h : Header) → FitsHeader h → (1 ≤ h .scale .half) × (h .scale .half ≤ 255)
-half-is h f = (within-low 1 255 (h .scale .half) (f .scale .half .1), within-high 1 255 (h .scale .half) (f .scale .half .1))
+pub half-is : {s : List ℕ} {view : ℕ} {c : Scale} {x : Blocks} → Stands s view c x → (1 ≤ c .half) × (c .half ≤ 255)
+half-is {s} h =
+    let n : ℕ = h .value .head .scale .half in
+    let f = record-apart s (h .reads) .fits .scale .half .1 in
+    rw (h .scale) (within-low 1 255 n f, within-high 1 255 n f)
 
-pub refused-is : (view line : ℕ) {s : List ℕ} {e p : ℕ} → Judges s (Refused e p) → ((q : ℕ) × (trailing view line s ≡ refused e q))
-unfolding trailing
-refused-is view line {s} {p = p} j = (p, call-refused (trailIn view line) s j)
-
-module _ (view line : ℕ) (s : List ℕ) {r : Record} (e : read s ≡ got r []) where
-  pub no-view : length (r .views) ≤ view → trailing view line s ≡ refused noView 0
+module _ {view : ℕ} (line : ℕ) {s : List ℕ} where
+  pub refused-is : {e p : ℕ} → Refuses s view e p → trailing view line s ≡ refused e p
   unfolding trailing
-  no-view l = on-record (trailIn view line) s r [] e ∙ pick-no (ltb view (length (r .views))) _ _ (no-ltb {a = view} l)
+  refused-is h = h .is (trailIn line)
 
-  module _ (l : view < length (r .views)) where
-    pub no-line : count (viewAt r view) ≤ line → trailing view line s ≡ refused badLines 0
-    unfolding trailing
-    no-line k =
-        on-record (trailIn view line) s r [] e ∙ pick-yes (ltb view (length (r .views))) _ _ (yes-ltb {a = view} l)
-        ∙ pick-no (ltb line (count (viewAt r view))) _ _ (no-ltb {a = line} k)
+  module _ {c : Scale} {x : Blocks} (h : Stands s view c x) where
+    abbrev v : View
+    v = viewAt (h .value) view
 
-    pub has-line : line < count (viewAt r view) → trailing view line s ≡ given (trail (r .head .scale) (lineAt (viewAt r view) line))
+    pub no-line : count v ≤ line → trailing view line s ≡ refused badLines 0
     unfolding trailing
-    has-line k =
-        on-record (trailIn view line) s r [] e ∙ pick-yes (ltb view (length (r .views))) _ _ (yes-ltb {a = view} l)
-        ∙ pick-yes (ltb line (count (viewAt r view))) _ _ (yes-ltb {a = line} k)
+    no-line k = on-view view (trailIn line) s (h .reads) (h .there) ∙ pick-no (ltb line (count v)) _ _ (no-ltb {a = line} k)
+
+    pub has-line : line < count v → trailing view line s ≡ given (trail (h .value .head .scale) (lineAt v line))
+    unfolding trailing
+    has-line k = on-view view (trailIn line) s (h .reads) (h .there) ∙ pick-yes (ltb line (count v)) _ _ (yes-ltb {a = line} k)
 
 -- ---- what code answers, in whatever form the elements stand, each in so many places
 
 module _ (form : List ℕ → List ℕ) (each : ℕ) (undo : (n m : ℕ) → each * n ≡ each * m → n ≡ m) (long : (xs : List ℕ) → length (form xs) ≡ each * length xs)
-    {s : List ℕ} {o : Outcome ℕ} {from to : ℕ} {x : Walk} (D : DrawsPart s o from to x) (before : List ℕ) where
+    {s : List ℕ} {o : Outcome ℕ} {from to : ℕ} {x : CodeWalk} (D : DrawsPart s o from to x) (before : List ℕ) where
   drawn-is : x .drawn ≡ length (D .value)
   drawn-is =
       let d = D .draws in

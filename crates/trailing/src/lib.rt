@@ -1,18 +1,17 @@
 // The trail of a line of a record. The line is found first, and its elements are counted; where there is room for them, they are
 // drawn, as 16-bit numbers or as bytes.
 ghost use Prim.Native.Nat.{_≤_};
-ghost use Rattle.outcome.specs.Outcome.{Answers};
+ghost use Rattle.outcome.specs.Outcome.{Answers, AnswersInBytes};
 ghost use Rattle.trail.specs.Trail.{trailing};
 ghost use Rattle.find_parts.specs.Finds.{LineThere};
-ghost use Rattle.trailing.specs.Trace.{AnswersInBytes, WalkFound, LineAsked, Finds};
+ghost use Rattle.trailing.specs.Trace.{WalkFound, LineFound};
 use bits::Cursor;
 use bits::pow2;
 use find_parts::line::pass_lines;
-use find_parts::view::blocks_at;
-use find_parts::view::view_at;
+use find_parts::view::Part;
+use find_view::FoundView;
+use find_view::find_view;
 use format::Scale;
-use judge::Verdict;
-use judge::judge;
 use outcome::Answer;
 use outcome::Refusal;
 use outcome::accept;
@@ -23,7 +22,7 @@ use trail_steps::trail_numbers;
 
 // The walk along the codes of a line: where they start, how many they are, bits of each, directions in a half turn, the first
 // heading, and how many elements they draw.
-pub struct Walk {
+pub struct CodeWalk {
     pub codes: Cursor,
     pub count: usize,
     pub k: usize,
@@ -32,14 +31,14 @@ pub struct Walk {
     pub drawn: usize,
 }
 
-// A line that is asked for: the block it stands in, from byte to byte of the record, and its walk there; or a refusal.
-pub enum Sought {
-    Refused(u32),
-    At(usize, usize, Walk),
+// A line that is asked for: the skeleton block that it stands in, and its walk there; or the number and the place of the refusal.
+pub enum FoundLine {
+    At(Part, CodeWalk),
+    Refused(u32, usize),
 }
 
 // The walk along the line at place p of the block s.
-fn walk_at(s: &[u8], p: usize, scale: Scale) -> Walk
+fn walk_at(s: &[u8], p: usize, scale: Scale) -> CodeWalk
     requires { ⌜ LineThere (scale .widths) (now s) p × (1 ≤ scale .half) × (scale .half ≤ 255) ⌝ }
     ensures { λ r. ⌜ WalkFound scale (now (s .entry)) p r ⌝ }
 {
@@ -51,7 +50,7 @@ fn walk_at(s: &[u8], p: usize, scale: Scale) -> Walk
     }.sure(s, 8);
     let codes = count.next;
     let drawn = count_drawn(s, codes, w.k, count.value);
-    Walk {
+    CodeWalk {
         codes,
         count: count.value,
         k: w.k,
@@ -61,40 +60,23 @@ fn walk_at(s: &[u8], p: usize, scale: Scale) -> Walk
     }
 }
 
-// The line of an accepted record, in a view that it has.
-fn line_in(bytes: &[u8], scale: Scale, view: usize, line: usize) -> Sought
-    requires { ⌜ LineAsked (now bytes) scale view ⌝ }
-    ensures { λ r. ⌜ Finds (now (bytes .entry)) (trailing view line (now (bytes .entry))) r ⌝ }
+// The line of any bytes. Lines are passed up to it; where fewer than eight bits are left, there is none.
+fn find(bytes: &[u8], view: usize, line: usize) -> FoundLine
+    ensures { λ r. ⌜ LineFound (now (bytes .entry)) (trailing view line (now (bytes .entry))) r ⌝ }
 {
-    let lengths = view_at(bytes, view) + 8;
-    let blocks = blocks_at(bytes, lengths);
-    let from = lengths + 2;
-    let to = blocks.index;
-    let block = &bytes[from..to];
-    let passed = pass_lines(block, scale.widths, line);
-    let next = passed.next;
-    if 8 * block.len() - next < 8 {
-        return Sought::Refused(Refusal::BAD_LINES);
-    }
-    Sought::At(from, to, walk_at(block, next, scale))
-}
-
-// The line of any bytes.
-fn find(bytes: &[u8], view: usize, line: usize) -> Sought
-    ensures { λ r. ⌜ Finds (now (bytes .entry)) (trailing view line (now (bytes .entry))) r ⌝ }
-{
-    match judge(bytes) {
-        Verdict::Refused(number, _) => Sought::Refused(number),
-        Verdict::Accepted {
-            header,
-            views,
-            size: _,
-        } => {
-            if view < views {
-                line_in(bytes, header.scale, view, line)
-            } else {
-                Sought::Refused(Refusal::NO_VIEW)
+    match find_view(bytes, view) {
+        FoundView::Refused(number, place) => FoundLine::Refused(number, place),
+        FoundView::At(scale, blocks) => {
+            let skeleton = blocks.skeleton;
+            let from = skeleton.from;
+            let to = skeleton.to;
+            let block = &bytes[from..to];
+            let passed = pass_lines(block, scale.widths, line);
+            let next = passed.next;
+            if 8 * block.len() - next < 8 {
+                return FoundLine::Refused(Refusal::BAD_LINES, 0);
             }
+            FoundLine::At(skeleton, walk_at(block, next, scale))
         }
     }
 }
@@ -104,8 +86,10 @@ pub fn trail(bytes: &[u8], view: usize, line: usize, out: &mut [u16]) -> Answer
     ensures { λ r. ⌜ Answers (trailing view line (now (bytes .entry))) (now (out .entry)) (now (out .exit)) r ⌝ }
 {
     match find(bytes, view, line) {
-        Sought::Refused(number) => refuse(number),
-        Sought::At(from, to, w) => {
+        FoundLine::Refused(number, _) => refuse(number),
+        FoundLine::At(skeleton, w) => {
+            let from = skeleton.from;
+            let to = skeleton.to;
             if out.len() < w.drawn {
                 refuse(Refusal::NO_ROOM)
             } else {
@@ -129,8 +113,10 @@ pub fn trail_as_bytes(bytes: &[u8], view: usize, line: usize, out: &mut [u8]) ->
     ensures { λ r. ⌜ AnswersInBytes (trailing view line (now (bytes .entry))) (now (out .entry)) (now (out .exit)) r ⌝ }
 {
     match find(bytes, view, line) {
-        Sought::Refused(number) => refuse(number),
-        Sought::At(from, to, w) => {
+        FoundLine::Refused(number, _) => refuse(number),
+        FoundLine::At(skeleton, w) => {
+            let from = skeleton.from;
+            let to = skeleton.to;
             if out.len() / 2 < w.drawn {
                 refuse(Refusal::NO_ROOM)
             } else {

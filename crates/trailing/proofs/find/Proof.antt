@@ -1,53 +1,102 @@
--- The judge's verdict, and then the line.
+-- The view, and then the line: lines are passed up to the one that is asked for; there is none, or its walk is found.
 use native.Mathlib.Omega.{arith}
-use mathlib.Core.Path.{ap, subst}
-use Rattle.format.specs.declared.Header.{Header}
-use Rattle.judge.specs.Judge.{Judges}
-use Rattle.judge.specs.declared.Verdict.{Verdict}
-use Rattle.judge.specs.declared.Verdict.the-variants.{Accepted}
-use Rattle.judge.proofs.Laws.Calls.{record-read}
-use Rattle.trailing.proofs.Laws.{refused-is, no-view}
+use mathlib.Core.Path.{ap₂, subst}
+use Prim.Native.Nat.{ℕ}
+use mathlib.Core.List.{List}
+use Rattle.format.specs.Places.{viewAt, lineAt}
+use Rattle.trail.specs.Trail.{trail}
+use Rattle.find_parts.proofs.Laws.Blocks.{cut}
+use Rattle.find_parts.proofs.Laws.Lines.{passed-within, passed-all, passed-next, passed-there}
+use Rattle.find_view.specs.Found.{ViewFound, Stands}
+use Rattle.find_view.specs.declared.FoundView.{FoundView}
+use Rattle.find_view.proofs.Laws.{lines-read, lines-there}
+use Rattle.trailing.specs.Trace.{Draws}
+use Rattle.trailing.proofs.Laws.{half-is, refused-is, no-line, has-line}
 use borrow.Author.Needs.{needs}
 use Rattle.trailing.proofs.find.Statement.{statement}
 use Rattle.trailing.proofs.find.Tie as tie
 
-accepted : (c : tie.After-header) → Judges (c .before .before .before .before .args .bytes .now) (Accepted (c .header .given .0 .0) (c .header .given .0 .1 .0) (c .header .given .0 .1 .1 .0))
-accepted c = subst (λ (r : Verdict). Judges (c .before .before .before .before .args .bytes .now) r) (c .header .given .1) (c .before .before .judge .ensures)
+stands : (c : tie.After-scale) → Stands (c .before .before .before .before .args .bytes .now) (c .before .before .before .before .args .view) (c .scale .given .0 .0) (c .scale .given .0 .1 .0)
+stands c = subst (λ (r : FoundView). ViewFound (c .before .before .before .before .args .bytes .now) (c .before .before .before .before .args .view) r) (c .scale .given .1) (c .before .before .find-view .ensures)
 
-judge-requires : tie.Need-judge-requires
-judge-requires c κs = search needs
+find-view-requires : tie.Need-find-view-requires
+find-view-requires c κs = search needs
 
 enum-known-number : tie.Need-enum-known-number
 enum-known-number c = search needs
 
-enum-known-header : tie.Need-enum-known-header
-enum-known-header c = search needs
+enum-known-scale : tie.Need-enum-known-scale
+enum-known-scale c = search needs
 
-line-in-requires : tie.Need-line-in-requires
-line-in-requires c κs =
-    record-read (accepted (c .before .before)) λ r e h n z.
-    record { value = r; reads = e; scale = ap (λ (x : Header). x .scale) h; below = omega (arith, n, c .if1 .taken) }
+sub-block : tie.Need-sub-block
+sub-block c =
+    let b = stands (c .before .before) .blocks .lines in omega (arith, b .from, b .within)
+
+part-block-start : tie.Need-part-block-start
+part-block-start c =
+    let b = stands (c .before .before) .blocks .lines in omega (arith, b .from, b .within)
+
+part-block-end : tie.Need-part-block-end
+part-block-end c =
+    let b = stands (c .before .before) .blocks .lines in omega (arith, b .from, b .within)
+
+pass-lines-requires : tie.Need-pass-lines-requires
+pass-lines-requires c κs =
+    lines-there (stands (c .before .before .before))
+
+mul-if1 : tie.Need-mul-if1
+mul-if1 c =
+    omega (arith, lines-there (stands (c .before .before .before .before)) .short)
+
+sub-if1 : tie.Need-sub-if1
+sub-if1 c =
+    passed-within (c .pass-lines .ensures) (lines-read (stands (c .before .before .before .before)))
 
 returns : tie.Need-returns
 returns c =
-    refused-is (c .before .before .before .before .before .args .view) (c .before .before .before .before .before .args .line) (subst (λ (r : Verdict). Judges (c .before .before .before .before .before .args .bytes .now) r) (c .before .number .given .1) (c .before .before .before .judge .ensures))
+    no-line (c .before .before .before .before .before .before .before .before .before .args .line) (stands (c .before .before .before .before .before)) (passed-all (c .before .pass-lines .ensures) (lines-read (stands (c .before .before .before .before .before))) (c .if1 .taken))
+
+walk-at-requires : tie.Need-walk-at-requires
+walk-at-requires c κs =
+    let h = stands (c .before .before .before .before .before) in
+    let l = lines-there h in
+    let next = passed-next (c .before .pass-lines .ensures) (lines-read h) (c .if1 .left) in
+    let (lo, hi) = half-is h in
+    (record { narrow = l .narrow; short = l .short; value = next .value; behind = next .behind; reads = next .reads }, lo, hi)
 
 returns-2 : tie.Need-returns-2
-returns-2 c = search needs
+returns-2 c =
+    refused-is (c .before .before .before .before .before .args .line) (subst (λ (r : FoundView). ViewFound (c .before .before .before .before .before .args .bytes .now) (c .before .before .before .before .before .args .view) r) (c .before .number .given .1) (c .before .before .before .find-view .ensures))
 
 returns-3 : tie.Need-returns-3
 returns-3 c =
-    record-read (accepted (c .before .before)) λ r e h n z.
-    (0, no-view (c .before .before .before .before .before .before .args .view) (c .before .before .before .before .before .before .args .line) (c .before .before .before .before .before .before .args .bytes .now) e (omega (arith, n, c .if1 .left)))
+    let h = stands (c .before .before .before .before .before .before) in
+    let view = viewAt (h .value) (c .before .before .before .before .before .before .before .before .before .before .args .view) in
+    let b = h .blocks .lines in
+    let next = passed-next (c .before .before .pass-lines .ensures) (lines-read (stands (c .before .before .before .before .before .before))) (c .before .if1 .left) in
+    let (k, v) = passed-there (c .before .before .pass-lines .ensures) (lines-read (stands (c .before .before .before .before .before .before))) (c .before .if1 .left) in
+    record {
+      order = b .from;
+      within = b .within;
+      value = trail (h .value .head .scale) (lineAt view (c .before .before .before .before .before .before .before .before .before .before .args .line));
+      is = has-line (c .before .before .before .before .before .before .before .before .before .before .args .line) h k;
+      draws = subst (λ (t : List ℕ). Draws (cut (c .before .before .before .before .before .before .before .before .before .before .args .bytes .now) (c .before .before .before .before .before .before .scale .given .0 .1 .0 .skeleton .from) (c .before .before .before .before .before .before .scale .given .0 .1 .0 .skeleton .to)) (c .walk-at .result) t) (ap₂ trail (h .scale) v) (c .walk-at .ensures .is (next .value) (next .behind) (next .reads));
+    }
 
 pub find-spec : {M : Type 1} → statement M
 find-spec =
     tie.close
     (tie.spec
-    judge-requires
+    find-view-requires
     enum-known-number
-    enum-known-header
-    line-in-requires
+    enum-known-scale
+    sub-block
+    part-block-start
+    part-block-end
+    pass-lines-requires
+    mul-if1
+    sub-if1
     returns
+    walk-at-requires
     returns-2
     returns-3)

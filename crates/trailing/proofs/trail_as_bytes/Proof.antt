@@ -5,15 +5,15 @@ use Rattle.put_bytes.specs.HighFirst.{two, joined}
 use Rattle.put_bytes.proofs.Laws.{twos-length}
 use Rattle.outcome.proofs.Laws.{answer-refused}
 use Rattle.trail.specs.Trail.{trailing}
-use Rattle.trailing.specs.Trace.{Finds, DrawsPart}
-use Rattle.trailing.specs.declared.Sought.{Sought}
+use Rattle.trailing.specs.Trace.{LineFound, DrawsPart}
+use Rattle.trailing.specs.declared.FoundLine.{FoundLine}
 use Rattle.trailing.proofs.Laws.{can-draw, full, given-out}
 use borrow.Author.Needs.{needs}
 use Rattle.trailing.proofs.trail_as_bytes.Statement.{statement}
 use Rattle.trailing.proofs.trail_as_bytes.Tie as tie
 
-draws : (c : tie.After-from) → DrawsPart (c .before .before .before .before .before .args .bytes .now) (trailing (c .before .before .before .before .before .args .view) (c .before .before .before .before .before .args .line) (c .before .before .before .before .before .args .bytes .now)) (c .from .given .0 .0) (c .from .given .0 .1 .0) (c .from .given .0 .1 .1 .0)
-draws c = subst (λ (r : Sought). Finds (c .before .before .before .before .before .args .bytes .now) (trailing (c .before .before .before .before .before .args .view) (c .before .before .before .before .before .args .line) (c .before .before .before .before .before .args .bytes .now)) r) (c .from .given .1) (c .before .before .find .ensures)
+draws : (c : tie.After-skeleton) → DrawsPart (c .before .before .before .before .before .args .bytes .now) (trailing (c .before .before .before .before .before .args .view) (c .before .before .before .before .before .args .line) (c .before .before .before .before .before .args .bytes .now)) (c .skeleton .given .0 .0 .from) (c .skeleton .given .0 .0 .to) (c .skeleton .given .0 .1 .0)
+draws c = subst (λ (r : FoundLine). LineFound (c .before .before .before .before .before .args .bytes .now) (trailing (c .before .before .before .before .before .args .view) (c .before .before .before .before .before .args .line) (c .before .before .before .before .before .args .bytes .now)) r) (c .skeleton .given .1) (c .before .before .find .ensures)
 
 find-requires : tie.Need-find-requires
 find-requires c κs = search needs
@@ -24,8 +24,8 @@ enum-known-number c = search needs
 refuse-requires : tie.Need-refuse-requires
 refuse-requires c κs = search needs
 
-enum-known-from : tie.Need-enum-known-from
-enum-known-from c = search needs
+enum-known-skeleton : tie.Need-enum-known-skeleton
+enum-known-skeleton c = search needs
 
 refuse-requires-2 : tie.Need-refuse-requires-2
 refuse-requires-2 c κs = search needs
@@ -51,8 +51,7 @@ accept-requires c κs = search needs
 
 returns : tie.Need-returns
 returns c =
-    rw (c .refuse .ensures) (let (p, e) = subst (λ (r : Sought). Finds (c .before .before .before .before .before .before .before .args .bytes .now) (trailing (c .before .before .before .before .before .before .before .args .view) (c .before .before .before .before .before .before .before .args .line) (c .before .before .before .before .before .before .before .args .bytes .now)) r) (c .before .before .number .given .1) (c .before .before .before .before .find .ensures) in
-    answer-refused (joined two) _ (c .before .before .before .before .before .before .before .args .out .now) e)
+    rw (c .refuse .ensures) (answer-refused (joined two) _ (c .before .before .before .before .before .before .before .args .out .now) (subst (λ (r : FoundLine). LineFound (c .before .before .before .before .before .before .before .args .bytes .now) (trailing (c .before .before .before .before .before .before .before .args .view) (c .before .before .before .before .before .before .before .args .line) (c .before .before .before .before .before .before .before .args .bytes .now)) r) (c .before .before .number .given .1) (c .before .before .before .before .find .ensures)))
 
 returns-2 : tie.Need-returns-2
 returns-2 c =
@@ -72,7 +71,7 @@ trail-as-bytes-spec =
     find-requires
     enum-known-number
     refuse-requires
-    enum-known-from
+    enum-known-skeleton
     refuse-requires-2
     sub-trail-bytes
     part-trail-bytes-start
