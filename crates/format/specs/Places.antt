@@ -5,10 +5,12 @@ use mathlib.Core.Option.{none}
 use mathlib.Core.List.{List, []}
 use lib.ListN.{length, take, getD}
 use Rattle.bits.specs.Lists.{total}
-use Rattle.format.specs.Line.{Line}
+use Rattle.format.specs.Line.{Line, skeleton}
+use Rattle.format.specs.Index.{indexBlock}
 use Rattle.format.specs.Segments.{Segment, segment}
 use Rattle.format.specs.View.{View, view}
 use Rattle.format.specs.Record.{Record}
+use Rattle.format.specs.declared.Widths.{Widths}
 
 abbrev pub noLine : Line
 noLine = record { start = record { kind = 0; direction = 0; x = 0; y = 0 }; codes = []; finish = record { kind = 0; direction = 0; x = 0; y = 0 } }
@@ -36,6 +38,10 @@ segmentAt v i = getD (v .segments) i noSegmentThere
 
 abbrev pub bitsBefore : Record → ℕ → ℕ
 bitsBefore r i = 192 + total (λ v. length (view (r .head .scale .widths) [] .enc v)) (take i (r .views))
+
+-- bits of a view before its segments: header, skeleton length, skeleton block, index length, index block, extended length
+abbrev pub bitsAhead : Widths → View → ℕ
+bitsAhead w v = 80 + length (skeleton w .enc (v .lines)) + 16 + length (indexBlock (length (v .lines)) .enc (v .index)) + 16
 
 -- ---- bits of segments
 

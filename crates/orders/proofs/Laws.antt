@@ -7,6 +7,7 @@ pub mod Refuse
 pub mod Right
 pub mod Keep
 pub mod Story
+pub mod Bytes
 pub mod Sequence
 pub mod Holds
 pub mod Calls

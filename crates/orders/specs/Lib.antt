@@ -4,4 +4,6 @@ pub mod Least
 pub mod Act
 pub mod Order
 pub mod History
+pub mod Bytes
+pub mod Kept
 pub mod Made

@@ -1,12 +1,12 @@
 -- WHAT THE LIBRARY PROMISES. Each promise is a statement; its proof is one citation. Every name in a statement leads to one
 -- definition: `read`, `write`, `Allowed` (format/specs/Record), `reading`, `writing` (sheet/specs/Sheet), `Outcome`, `AnswersAs`,
--- `Gave` (outcome/specs/Outcome), `Order`, `verdict`, `edited` (orders/specs/Order), `Call`, `run`, `Follows` (orders/specs/History), `MadeAll`
--- (orders/specs/Made).
+-- `Gave` (outcome/specs/Outcome), `Order`, `verdict`, `edited` (orders/specs/Order), `Call`, `run`, `history`, `Follows` (orders/specs/History),
+-- `Kept` (orders/specs/Kept, Bytes), `MadeAll` (orders/specs/Made).
 use mathlib.Core.Path.{_≡_}
 use mathlib.Core.Logic.{_≢_}
 use Prim.Native.Nat.{ℕ, _*_, _≤_}
 use mathlib.Core.Bool.{_||_}
-use mathlib.Core.List.{List, [], map}
+use mathlib.Core.List.{List, [], _∷_, _++_, map}
 use lib.ListN.{length, take}
 use lib.Dec.{T, eqb}
 use Rattle.bits.specs.Choice.{within}
@@ -33,6 +33,7 @@ use Rattle.orders.specs.Least.{leastWidth}
 use Rattle.orders.specs.Act.{remove}
 use Rattle.orders.specs.Order.{Order, edited, verdict, order, holds}
 use Rattle.orders.specs.History.{Call, outcome, nowHolds, run}
+use Rattle.orders.specs.Kept.{Kept}
 use Rattle.orders.specs.Made.{MadeAll}
 use Rattle.orders.proofs.Laws.Least as L
 use Rattle.orders.proofs.Laws.Accept as A
@@ -117,9 +118,11 @@ least-width = L.least-least
 pub refused-stays : (c : Call) (bytes : List ℕ) → numberOf (outcome c bytes) ≢ 0 → nowHolds bytes (outcome c bytes) ≡ bytes
 refused-stays = Q.refused-stays
 
--- THE SEQUENCE: from any accepted record, any orders, each result fed to the next: the record that holds at the end is allowed, has
--- the header and as many views, and each view is what the accepted orders on it say, through all renumbering
-pub orders-follow : (cs : List Call) (bytes : List ℕ) (r : Record) → All Byte bytes → read bytes ≡ C.got r [] → Q.Kept cs r bytes
+-- THE SEQUENCE: from any accepted record, any orders, each result fed to the next: the bytes that hold at the end are those of an
+-- allowed record with the header and as many views, and each view is what the accepted orders on it say, through all renumbering.
+-- In bytes: all stays but for the record length and, in a view with an accepted order, the skeleton and index blocks with their
+-- lengths
+pub orders-follow : (cs : List Call) (bytes : List ℕ) (r : Record) → All Byte bytes → read bytes ≡ C.got r [] → Kept cs r bytes (run cs bytes)
 orders-follow = Q.orders-follow
 
 -- the calls themselves, whose contracts are `Answers (order o record)` (ordering/src) and `holds` (order_holds/src): made one behind the other,
@@ -128,13 +131,13 @@ pub calls-run : (cs : List Call) (bytes last : List ℕ) → MadeAll cs bytes la
 calls-run = N.calls-run
 
 pub calls-follow : (cs : List Call) (bytes last : List ℕ) (r : Record) → All Byte bytes → read bytes ≡ C.got r [] → MadeAll cs bytes last
-    → (k : Q.Kept cs r bytes) × (read last ≡ C.got (k .last) [])
+    → Kept cs r bytes last
 calls-follow = N.calls-follow
 
--- a removal, once accepted, is refused with 14 wherever it comes again, whatever room is lent
-pub removal-again : (c : Call) (rs : List ℕ) (cs : List Call) (bytes : List ℕ) (r : Record) → All Byte bytes → read bytes ≡ C.got r []
-    → c .order .act ≡ remove rs → numberOf (outcome c bytes) ≡ 0
-    → (n : ℕ) → outcome (record { order = c .order; lent = n }) (run cs (nowHolds bytes (outcome c bytes))) ≡ refused otherCount 0
+-- NEVER TWICE: after any orders a removal is accepted; after any further ones it comes again, whatever room is lent: 14
+pub removal-again : (before : List Call) (c : Call) (after : List Call) (rs bytes : List ℕ) (r : Record) → All Byte bytes → read bytes ≡ C.got r []
+    → c .order .act ≡ remove rs → numberOf (outcome c (run before bytes)) ≡ 0
+    → (n : ℕ) → outcome (record { order = c .order; lent = n }) (run (before ++ c ∷ after) bytes) ≡ refused otherCount 0
 removal-again = Q.removal-again
 
 -- THE REPEATED HOUR: a call for a removal answers 0; the same removal is called for again, on the record that then holds. It is

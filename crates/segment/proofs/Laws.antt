@@ -20,7 +20,7 @@ use Rattle.outcome.specs.Outcome.{refused, given}
 use Rattle.outcome.proofs.Laws.{told-refused, told-given}
 use Rattle.format.specs.Segments.{Segment, segments}
 use Rattle.format.specs.Record.{Record, read}
-use Rattle.format.specs.Places.{noSegmentThere, viewAt, segmentAt, bitsBefore, segmentBits}
+use Rattle.format.specs.Places.{noSegmentThere, viewAt, segmentAt, bitsBefore, bitsAhead, segmentBits}
 use Rattle.format.specs.declared.Header.{Header}
 use Rattle.judge.specs.Judge.{Judges}
 use Rattle.judge.specs.declared.Verdict.the-variants.{Accepted, Refused}
@@ -33,7 +33,7 @@ use Rattle.find_parts.specs.declared.Passed.{Passed}
 use Rattle.find_parts.proofs.Laws.Record.{record-apart}
 use Rattle.find_parts.proofs.Laws.Blocks.{cut, cut-long, block-bits, lines-here, index-here, segments-here}
 use Rattle.find_parts.proofs.Laws.Segments.{SegmentAt, segment-next, segments-none, its-length, its-payload}
-use Rattle.segment.specs.Segment.{payloadIn, payload, bitsAhead, firstBit, firstBitRead, payloadOf, segmentAnswer}
+use Rattle.segment.specs.Segment.{payloadIn, payload, firstBit, firstBitRead, payloadOf, segmentAnswer}
 use Rattle.segment.specs.Finds.{PayloadAt, Finds}
 use Rattle.segment.specs.declared.Found.the-variants as f
 

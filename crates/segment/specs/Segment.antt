@@ -10,13 +10,9 @@ use Rattle.bits.specs.Codec as C
 use Rattle.outcome.specs.Refusals.{noSegment}
 use Rattle.outcome.specs.Outcome.{Outcome, refused, given, told}
 use Rattle.outcome.specs.declared.Answer.{Answer}
-use Rattle.format.specs.Line.{skeleton}
-use Rattle.format.specs.Index.{indexBlock}
-use Rattle.format.specs.View.{View}
 use Rattle.format.specs.Record.{Record, read}
-use Rattle.format.specs.Places.{bitsBefore, viewAt, segmentAt, segmentBits}
+use Rattle.format.specs.Places.{bitsBefore, bitsAhead, viewAt, segmentAt, segmentBits}
 use Rattle.format.specs.Call.{onView}
-use Rattle.format.specs.declared.Widths.{Widths}
 
 abbrev pub payloadIn : (place view : ℕ) → Record → Outcome ℕ
 payloadIn place view r =
@@ -31,10 +27,6 @@ payloadOf (given xs) = xs
 payloadOf (refused e p) = []
 
 -- ---- where it stands
-
--- bits of a view before its segments: header, skeleton length, skeleton block, index length, index block, extended length
-abbrev pub bitsAhead : Widths → View → ℕ
-bitsAhead w v = 80 + length (skeleton w .enc (v .lines)) + 16 + length (indexBlock (length (v .lines)) .enc (v .index)) + 16
 
 -- the first bit of a payload, behind its type and its length
 abbrev pub firstBit : (view place : ℕ) → Record → ℕ

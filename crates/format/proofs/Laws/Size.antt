@@ -4,8 +4,10 @@ use Prim.Native.Nat.{ℕ, _+_, _*_, _%_}
 use native.Mathlib.Omega.{arith}
 use mathlib.Core.List.{List, [], _∷_}
 use lib.ListN.{length, length-append}
+use Rattle.bits.specs.Lists.{All}
 use Rattle.bits.specs.BitsLaws.{length-bits}
-use Rattle.bits.specs.BytesLaws.{length-bytesOf}
+use Rattle.bits.specs.Bytes.{Byte}
+use Rattle.bits.specs.BytesLaws.{length-bytesOf, bytes-are}
 use Rattle.bits.specs.CodecLaws.{encAlong}
 use Rattle.format.specs.Line.{skeleton}
 use Rattle.format.specs.Index.{indexBlock}
@@ -43,3 +45,7 @@ views-length r = omega (arith, record-length 0 r, size-is 0 r)
 pub write-long : (r : Record) → length (write r) ≡ size r
 unfolding write
 write-long r = length-bytesOf (size r) _
+
+pub write-bytes : (r : Record) → All Byte (write r)
+unfolding write
+write-bytes r = bytes-are (size r) _ (size-is (size r) r)

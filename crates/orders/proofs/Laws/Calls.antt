@@ -17,9 +17,10 @@ use Rattle.format.proofs.Laws.Record.{read-back}
 use Rattle.orders.specs.Act.{remove}
 use Rattle.orders.specs.Order.{Order, ordered, order, holds}
 use Rattle.orders.specs.History.{Call, outcome, nowHolds, run}
+use Rattle.orders.specs.Kept.{Kept}
 use Rattle.orders.specs.Made.{Made, MadeAll}
 use Rattle.orders.proofs.Laws.Holds.{order-told, holds-now}
-use Rattle.orders.proofs.Laws.Sequence.{Kept, orders-follow, removal-again}
+use Rattle.orders.proofs.Laws.Sequence.{orders-follow, removal-again}
 
 -- what the answer says is what the outcome has
 answered : (o : Order) (old : List ℕ) {before after : List ℕ} {a : Answer} → Answers (order o old) before after a
@@ -35,8 +36,8 @@ calls-run [] bytes last h = h
 calls-run (c ∷ cs) bytes last (new, m, h) = calls-run cs new last h ∙ ap (run cs) (made-is c bytes new m)
 
 pub calls-follow : (cs : List Call) (bytes last : List ℕ) (r : Record) → All Byte bytes → read bytes ≡ got r [] → MadeAll cs bytes last
-    → (k : Kept cs r bytes) × (read last ≡ got (k .last) [])
-calls-follow cs bytes last r f e h = let k = orders-follow cs bytes r f e in (k, rw (calls-run cs bytes last h) (k .reads))
+    → Kept cs r bytes last
+calls-follow cs bytes last r f e h = rw (calls-run cs bytes last h) (orders-follow cs bytes r f e)
 
 -- ---- the same removal twice
 
@@ -58,7 +59,7 @@ module _ (o : Order) {rs : List ℕ} (q : o .act ≡ remove rs) (bytes : List �
   again-refused n =
       an-accepted λ r e.
       let c : Call = record { order = o; lent = length before } in
-      rw (answered o bytes h) (removal-again c rs [] bytes r f e q (sym (h .number) ∙ z) n)
+      rw (answered o bytes h) (removal-again [] c [] rs bytes r f e q (sym (h .number) ∙ z) n)
 
   pub repeated : {before₂ after₂ : List ℕ} {b : Answer} → Answers (order o now) before₂ after₂ b
       → (b ≡ record { number = otherCount; place = 0; length = 0 }) × (after₂ ≡ before₂) × (holds now after₂ (b .number) (b .length) ≡ now)

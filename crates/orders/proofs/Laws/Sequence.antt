@@ -1,11 +1,13 @@
--- THE THEOREM on sequences of orders, in bytes: start from bytes that read as a record and feed each result to the next order.
--- The bytes that hold at the end read as an allowed record, and each view of it is what the accepted orders on that view say.
+-- THE THEOREM on sequences of orders: start from bytes that read as a record and feed each result to the next order. The bytes
+-- that hold at the end are an allowed record's, each view of it is what the accepted orders on that view say, and what they do not
+-- name keeps its bytes.
 use mathlib.Core.Path.{_≡_, refl, sym, ap, _∙_}
 use mathlib.Core.Logic.{_≢_}
 use Prim.Native.Nat.{ℕ, _≤_, _<_}
 use native.Mathlib.Omega.{arith}
-use mathlib.Core.List.{List, [], _∷_}
+use mathlib.Core.List.{List, [], _∷_, _++_}
 use lib.ListN.{length}
+use lib.Seq.{slice}
 use lib.Dec.{eqb, leb, eqb→eq}
 use mir.Facts.{eqb-no}
 use Rattle.bits.specs.ChoiceLaws.{pick-case, eqb-true, eqb-false, split, eq-split}
@@ -17,13 +19,17 @@ use Rattle.outcome.specs.Outcome.{Outcome, refused, given, room, numberOf}
 use Rattle.format.specs.View.{View}
 use Rattle.format.specs.Record.{Record, read, write, Allowed}
 use Rattle.format.proofs.Laws.Call.{on-view, no-view}
+use Rattle.format.proofs.Laws.Size.{write-bytes}
 use Rattle.format.proofs.Laws.Record.{read-there, read-back}
 use Rattle.format.specs.Places.{count, viewAt}
 use Rattle.orders.specs.Act.{remove}
 use Rattle.orders.specs.Order.{Order, edited, verdict, Accepted, ordered, order}
 use Rattle.orders.specs.History.{Call, outcome, nowHolds, run, History, fresh, history, Follows}
+use Rattle.orders.specs.Bytes.{viewBytes, viewHeaderBytes, extendedBytes}
+use Rattle.orders.specs.Kept.{Kept}
 use Rattle.orders.proofs.Laws.Accept.{accepted, verdict-count}
 use Rattle.orders.proofs.Laws.Keep.{edited-head, edited-count, edited-here, edited-other, order-keeps, allowed-right}
+use Rattle.orders.proofs.Laws.Bytes.{same-front, same-fields, same-view, same-header, same-extended}
 use Rattle.orders.proofs.Laws.Story.{follows-fresh, follows-act, follows-count, removal-shortens}
 
 -- ---- one call
@@ -116,26 +122,40 @@ runs-all (c ∷ cs) bytes r a p =
       follows = λ i l v₀ h f. m .follows i (omega (arith, n .count)) v₀ _ (n .follows i l v₀ h f);
     }
 
+-- what holds is bytes
+run-bytes : (cs : List Call) (bytes : List ℕ) (r : Record) → Allowed r → read bytes ≡ got r [] → All Byte bytes → All Byte (run cs bytes)
+run-bytes [] bytes r a p h = h
+run-bytes (c ∷ cs) bytes r a p h =
+    let n : Runs (c ∷ []) r bytes = runs-one c bytes r a p in
+    let k : All Byte (nowHolds bytes (outcome c bytes)) = outcome-split c bytes r p (λ z e. rw e (write-bytes (edited (c .order) r))) (λ m l d e. rw e h) in
+    run-bytes cs (nowHolds bytes (outcome c bytes)) (n .last) (n .allowed) (n .reads) k
+
 -- ---- the theorem
 
-pub record Kept (cs : List Call) (r : Record) (bytes : List ℕ) : Type 0 where
-  pub last : Record
-  pub reads : read (run cs bytes) ≡ got last []
-  pub allowed : Allowed last
-  pub head : last .head ≡ r .head
-  pub count : length (last .views) ≡ length (r .views)
-  pub follows : (i : ℕ) → i < length (r .views) → Follows (viewAt r i) (viewAt last i) (history i cs bytes (fresh (viewAt r i)))
-
-pub orders-follow : (cs : List Call) (bytes : List ℕ) (r : Record) → All Byte bytes → read bytes ≡ got r [] → Kept cs r bytes
+pub orders-follow : (cs : List Call) (bytes : List ℕ) (r : Record) → All Byte bytes → read bytes ≡ got r [] → Kept cs r bytes (run cs bytes)
 orders-follow cs bytes r h p =
-    let m : Runs cs r bytes = runs-all cs bytes r (read-back bytes r [] h p .0) p in
+    let (a, e, _) = read-back bytes r [] h p in
+    let m : Runs cs r bytes = runs-all cs bytes r a p in
+    let now : List ℕ = run cs bytes in
+    let x : Record = m .last in
+    let k : All Byte now = run-bytes cs bytes r a p h in
+    let d : now ≡ write x = read-back now x [] k (m .reads) .1 in
+    let f : (i : ℕ) → i < length (r .views) → Follows (viewAt r i) (viewAt x i) (history i cs bytes (fresh (viewAt r i))) =
+    λ i l. m .follows i l (viewAt r i) (fresh (viewAt r i)) (follows-fresh (viewAt r i)) in
     record {
-      last = m .last;
-      reads = m .reads;
+      bytes = k;
+      last = x;
       allowed = m .allowed;
+      reads = m .reads;
+      written = d;
       head = m .head;
       count = m .count;
-      follows = λ i l. m .follows i l (viewAt r i) (fresh (viewAt r i)) (follows-fresh (viewAt r i));
+      follows = f;
+      front = ap (slice 0 8) d ∙ same-front r x a (m .allowed) (m .head) (m .count) ∙ ap (slice 0 8) (sym e);
+      fields = ap (slice 12 24) d ∙ same-fields r x a (m .allowed) (m .head) (m .count) ∙ ap (slice 12 24) (sym e);
+      spared = λ i l z. ap (viewBytes x i) d ∙ same-view r x a (m .allowed) (m .head) (m .count) i l (f i l .spared z) ∙ ap (viewBytes r i) (sym e);
+      headers = λ i l. ap (viewHeaderBytes x i) d ∙ same-header r x a (m .allowed) (m .head) (m .count) i l (f i l .head) ∙ ap (viewHeaderBytes r i) (sym e);
+      extended = λ i l. ap (extendedBytes x i) d ∙ same-extended r x a (m .allowed) (m .head) (m .count) i l (f i l .segments) ∙ ap (extendedBytes r i) (sym e);
     }
 
 -- ---- a removal comes only once
@@ -154,10 +174,16 @@ removal-refused o rs cs r n a e b =
     let other : verdict o (m .last) ≡ otherCount = verdict-count o (m .last) (omega (arith, follows-count _ _ _ f, b .count)) in
     outcome-is (record { order = o; lent = n }) (run cs (write x)) (m .last) (m .reads) there ∙ rw other
 
+run-append : (before after : List Call) (bytes : List ℕ) → run (before ++ after) bytes ≡ run after (run before bytes)
+run-append [] after bytes = refl
+run-append (c ∷ before) after bytes = run-append before after (nowHolds bytes (outcome c bytes))
+
 -- a removal that was accepted is refused wherever it comes again: the count that it names is gone
-pub removal-again : (c : Call) (rs : List ℕ) (cs : List Call) (bytes : List ℕ) (r : Record) → All Byte bytes → read bytes ≡ got r []
-    → c .order .act ≡ remove rs → numberOf (outcome c bytes) ≡ 0
-    → (n : ℕ) → outcome (record { order = c .order; lent = n }) (run cs (nowHolds bytes (outcome c bytes))) ≡ refused otherCount 0
-removal-again c rs cs bytes r h p e z n =
-    outcome-split c bytes r p (λ y d. rw d (removal-refused (c .order) rs cs r n (read-back bytes r [] h p .0) e y))
-    (λ m l d y. absurd (d (sym (rw y) ∙ z)))
+pub removal-again : (before : List Call) (c : Call) (after : List Call) (rs bytes : List ℕ) (r : Record) → All Byte bytes → read bytes ≡ got r []
+    → c .order .act ≡ remove rs → numberOf (outcome c (run before bytes)) ≡ 0
+    → (n : ℕ) → outcome (record { order = c .order; lent = n }) (run (before ++ c ∷ after) bytes) ≡ refused otherCount 0
+removal-again before c after rs bytes r h p e z n =
+    let m : Runs before r bytes = runs-all before bytes r (read-back bytes r [] h p .0) p in
+    rw (run-append before (c ∷ after) bytes)
+    (outcome-split c (run before bytes) (m .last) (m .reads) (λ y d. rw d (removal-refused (c .order) rs after (m .last) n (m .allowed) e y))
+    (λ k l d y. absurd (d (sym (rw y) ∙ z))))
