@@ -2,11 +2,11 @@
 // only then written.
 ghost use Rattle.order_record.specs.Rebuilt.{Placed};
 ghost use Rattle.order_carry.specs.Carried.{CarriedOut};
+use find_parts::site::Site;
 use format::Header;
 use order_lists::lists::Change;
 use order_record::measure::measure;
 use order_record::put::put;
-use order_record::site::Site;
 use outcome::Answer;
 use outcome::Refusal;
 use outcome::accept;

@@ -1,36 +1,41 @@
--- The first refusals of an order, whatever it orders: the judge's, no view with its place, another line count.
-use mathlib.Core.Path.{_≡_, _∙_}
+-- The first refusals of an order, whatever it orders: the view's, and another line count; else the view with its lines counted.
+use mathlib.Core.Path.{_≡_, ap, _∙_}
 use mathlib.Core.Logic.{_≢_}
-use Prim.Native.Nat.{ℕ, _≤_}
+use Prim.Native.Nat.{ℕ}
 use native.Mathlib.Omega.{arith}
-use mathlib.Core.List.{List, []}
-use lib.ListN.{length}
-use Rattle.bits.specs.Codec.{got}
-use Rattle.outcome.specs.Refusals.{noView, otherCount}
-use Rattle.format.specs.Record.{Record, read}
-use Rattle.judge.specs.Judge.{Judges}
-use Rattle.judge.specs.declared.Verdict.the-variants.{Refused}
-use Rattle.judge.proofs.Laws.Calls.{call-refused}
+use mathlib.Core.List.{List}
+use Rattle.outcome.specs.Refusals.{otherCount}
+use Rattle.outcome.specs.Outcome.{refused}
+use Rattle.format.specs.declared.Scale.{Scale}
 use Rattle.orders.specs.Order.{Order, ordered, order}
 use Rattle.orders.specs.Act.{Act}
 use Rattle.orders.proofs.Laws.Accept.{verdict-count}
-use Rattle.orders.proofs.Laws.Refuse.{verdict-view, order-refused}
-use Rattle.order_record.specs.Site.{SiteOf}
-use Rattle.order_record.specs.declared.site.Site.{Site}
-use Rattle.order_view.specs.Named.{Finds}
-use Rattle.order_view.specs.declared.Found.the-variants as f
+use Rattle.orders.proofs.Laws.Refuse.{order-refused}
+use Rattle.find_parts.specs.Site.{SiteOf, SiteThere, SiteFound}
+use Rattle.find_parts.specs.declared.view.Blocks.{Blocks}
+use Rattle.find_parts.specs.declared.site.Site.{Site}
+use Rattle.find_view.specs.Found.{Stands, Refuses}
+use Rattle.order_view.specs.Named.{Named}
 
-pub judged : {s : List ℕ} (view n : ℕ) {e p : ℕ} → Judges s (Refused e p) → Finds s view n (f.Refused e)
-unfolding order
-judged {s} view n {e} {p} j a = (p, call-refused (ordered (record { view = view; count = n; act = a })) s j)
+abbrev naming : (view n : ℕ) → Act → Order
+naming view n a = record { view = view; count = n; act = a }
 
-abbrev named : (view n : ℕ) → Act → Order
-named view n a = record { view = view; count = n; act = a }
+module _ {s : List ℕ} {view : ℕ} (n : ℕ) where
+  pub not-found : {e p : ℕ} → Refuses s view e p → (a : Act) → order (naming view n a) s ≡ refused e p
+  unfolding order
+  not-found h a = h .is (λ i. ordered (naming view n a))
 
-module _ (s : List ℕ) (view n : ℕ) {r : Record} (e : read s ≡ got r []) where
-  pub no-view : length (r .views) ≤ view → Finds s view n (f.Refused noView)
-  no-view l a = (0, order-refused (named view n a) s e noView (verdict-view (named view n a) r l) (omega arith))
+  module _ {c : Scale} {x : Blocks} (h : Stands s view c x) where
+    pub site-there : SiteThere s x (c .widths)
+    site-there = record { value = h .value; reads = h .reads; widths = ap (λ (y : Scale). y .widths) (h .scale); view = view; blocks = h .blocks }
 
-  pub other-count : {x : Site} → SiteOf r s view x → x .lines ≢ n → Finds s view n (f.Refused otherCount)
-  other-count S d a =
-      (0, order-refused (named view n a) s e otherCount (verdict-count (named view n a) r (S .there) (λ z. d (S .count ∙ z))) (omega arith))
+    module _ {y : Site} (F : SiteFound s x (c .widths) y) where
+      site-of : SiteOf (h .value) s view y
+      site-of = F .is (h .value) view (ap (λ (y : Scale). y .widths) (h .scale)) (h .there) (h .blocks)
+
+      pub is-named : y .lines ≡ n → Named s view n y
+      is-named e = record { value = h .value; reads = h .reads; at = site-of; count = e }
+
+      pub other-count : y .lines ≢ n → (a : Act) → order (naming view n a) s ≡ refused otherCount 0
+      other-count d a =
+          order-refused (naming view n a) s (h .reads) (h .there) otherCount (verdict-count (naming view n a) (h .value) (λ z. d (site-of .count ∙ z))) (omega arith)

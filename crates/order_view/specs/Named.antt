@@ -7,17 +7,17 @@ use Rattle.outcome.specs.Outcome.{refused}
 use Rattle.format.specs.Record.{Record, read}
 use Rattle.orders.specs.Act.{Act}
 use Rattle.orders.specs.Order.{order}
-use Rattle.order_record.specs.Site.{SiteOf}
-use Rattle.order_record.specs.declared.site.Site.{Site}
-use Rattle.order_view.specs.declared.Found.{Found}
-use Rattle.order_view.specs.declared.Found.the-variants as f
+use Rattle.find_parts.specs.Site.{SiteOf}
+use Rattle.find_parts.specs.declared.site.Site.{Site}
+use Rattle.order_view.specs.declared.NamedView.{NamedView}
+use Rattle.order_view.specs.declared.NamedView.the-variants as f
 
-pub record Sought (s : List ℕ) (view n : ℕ) (x : Site) : Type 0 where
+pub record Named (s : List ℕ) (view n : ℕ) (x : Site) : Type 0 where
   pub value : Record
   pub reads : read s ≡ got value []
   pub at : SiteOf value s view x
   pub count : x .lines ≡ n
 
-abbrev pub Finds : List ℕ → (view n : ℕ) → Found → Type 0
-Finds s view n (f.Refused e) = (a : Act) → (p : ℕ) × (order (record { view = view; count = n; act = a }) s ≡ refused e p)
-Finds s view n (f.At x) = Sought s view n x
+abbrev pub ViewNamed : List ℕ → (view n : ℕ) → NamedView → Type 0
+ViewNamed s view n (f.At x) = Named s view n x
+ViewNamed s view n (f.Refused e p) = (a : Act) → order (record { view = view; count = n; act = a }) s ≡ refused e p

@@ -1,38 +1,29 @@
 // The view that an order names, by its place and the line count that the order was made for, whatever else it orders.
-ghost use Rattle.order_view.specs.Named.{Finds};
-use judge::Verdict;
-use judge::judge;
-use order_record::site::Site;
-use order_record::site::site_at;
+ghost use Rattle.order_view.specs.Named.{ViewNamed};
+use find_parts::site::Site;
+use find_parts::site::site_at;
+use find_view::FoundView;
+use find_view::find_view;
 use outcome::Refusal;
 
-// Where the view stands that an order names and was made for; or the number of the refusal.
-pub enum Found {
-    Refused(u32),
+// Where the view stands that an order names and was made for; or the number and the place of the refusal.
+pub enum NamedView {
     At(Site),
+    Refused(u32, usize),
 }
 
-// The view of any bytes: 1 to 12, 13, 14.
-pub fn find(bytes: &[u8], view: usize, count: usize) -> Found
-    ensures { λ r. ⌜ Finds (now (bytes .entry)) view count r ⌝ }
+// The view of any bytes: 1 to 13, 14.
+pub fn named_view(bytes: &[u8], view: usize, count: usize) -> NamedView
+    ensures { λ r. ⌜ ViewNamed (now (bytes .entry)) view count r ⌝ }
 {
-    match judge(bytes) {
-        Verdict::Refused(number, _) => Found::Refused(number),
-        Verdict::Accepted {
-            header,
-            views,
-            size: _,
-        } => {
-            if view < views {
-                let scale = header.scale;
-                let site = site_at(bytes, view, scale.widths);
-                if site.lines == count {
-                    Found::At(site)
-                } else {
-                    Found::Refused(Refusal::OTHER_COUNT)
-                }
+    match find_view(bytes, view) {
+        FoundView::Refused(number, place) => NamedView::Refused(number, place),
+        FoundView::At(scale, blocks) => {
+            let site = site_at(bytes, blocks, scale.widths);
+            if site.lines == count {
+                NamedView::At(site)
             } else {
-                Found::Refused(Refusal::NO_VIEW)
+                NamedView::Refused(Refusal::OTHER_COUNT, 0)
             }
         }
     }

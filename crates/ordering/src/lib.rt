@@ -6,14 +6,15 @@ ghost use mathlib.Core.Bool.{true, false, not};
 ghost use Rattle.bits.specs.Choice.{pick};
 ghost use Rattle.outcome.specs.Outcome.{Answers};
 ghost use Rattle.orders.specs.Order.{order};
-ghost use Rattle.ordering.specs.Orders.{removal, pairOrder, PairThere, PairDone};
+ghost use Rattle.orders.specs.Called.{removal, pairOrder};
+ghost use Rattle.ordering.specs.Orders.{PairThere, PairDone};
+use find_parts::site::Site;
 use order_carry::carry_out;
 use order_lists::lists::Change;
 use order_lists::near::are_near;
-use order_record::site::Site;
 use order_removal::lines_right;
-use order_view::Found;
-use order_view::find;
+use order_view::NamedView;
+use order_view::named_view;
 use outcome::Answer;
 use outcome::Refusal;
 use outcome::refuse;
@@ -22,11 +23,11 @@ use outcome::refuse;
 pub fn remove(bytes: &[u8], view: usize, count: usize, lines: &[u8], out: &mut [u8]) -> Answer
     ensures { λ r. ⌜ Answers (order (removal view count (now (lines .entry))) (now (bytes .entry))) (now (out .entry)) (now (out .exit)) r ⌝ }
 {
-    match find(bytes, view, count) {
-        Found::Refused(number) => refuse(number),
-        Found::At(site) => {
+    match named_view(bytes, view, count) {
+        NamedView::Refused(number, _) => refuse(number),
+        NamedView::At(site) => {
             if lines_right(lines, count) {
-                if site.extended + 2 < site.end {
+                if site.extended.from < site.extended.to {
                     refuse(Refusal::EXTENDED)
                 } else {
                     let change = Change {
@@ -74,8 +75,8 @@ fn pair_at(bytes: &[u8], site: Site, a: usize, b: usize, joins: bool, out: &mut 
     requires { ⌜ PairThere (now bytes) site ⌝ }
     ensures { λ r. ⌜ PairDone (now (bytes .entry)) site a b joins (now (out .entry)) (now (out .exit)) r ⌝ }
 {
-    let from = site.index + 2;
-    let to = site.extended;
+    let from = site.index.from;
+    let to = site.index.to;
     if to <= from {
         return refuse(Refusal::NO_INDEX);
     }
@@ -104,9 +105,9 @@ fn pair(
 ) -> Answer
     ensures { λ r. ⌜ Answers (order (pairOrder view count a b joins) (now (bytes .entry))) (now (out .entry)) (now (out .exit)) r ⌝ }
 {
-    match find(bytes, view, count) {
-        Found::Refused(number) => refuse(number),
-        Found::At(site) => pair_at(bytes, site, a, b, joins, out),
+    match named_view(bytes, view, count) {
+        NamedView::Refused(number, _) => refuse(number),
+        NamedView::At(site) => pair_at(bytes, site, a, b, joins, out),
     }
 }
 

@@ -3,6 +3,7 @@ pub mod Listed
 pub mod Least
 pub mod Act
 pub mod Order
+pub mod Called
 pub mod History
 pub mod Bytes
 pub mod Kept

@@ -1,2 +1,2 @@
 pub mod Segment
-pub mod Finds
+pub mod Found

@@ -1,6 +1,6 @@
 -- A pair order on a view that is found: its own tests, by what code sees of the index.
 use mathlib.Core.Path.{_≡_, refl, sym, ap, _∙_, subst}
-use Prim.Native.Nat.{ℕ, _+_, _≤_, _<_, min, max}
+use Prim.Native.Nat.{ℕ, _≤_, _<_, min, max}
 use native.Mathlib.Omega.{arith}
 use mathlib.Core.Bool.{Bool, true, false, not, _&&_}
 use mathlib.Core.Option.{none, some}
@@ -18,18 +18,17 @@ use Rattle.format.specs.Index.{Index, indexBlock}
 use Rattle.format.specs.View.{View}
 use Rattle.format.specs.Places.{viewAt, count}
 use Rattle.orders.specs.Act.{indexed?, near}
-use Rattle.orders.specs.Order.{tests, order}
-use Rattle.orders.proofs.Laws.Accept.{Pass}
+use Rattle.orders.specs.Order.{tests, order, Pass}
 use Rattle.orders.proofs.Laws.Right.{Right}
 use Rattle.order_removal.specs.Rank.{Rising}
 use Rattle.find_parts.proofs.Laws.Blocks.{cut, cut-long, no-index}
 use Rattle.find_parts.proofs.Laws.Index.{an-index}
 use Rattle.order_lists.specs.Near.{NearThere, Near}
 use Rattle.order_record.specs.Rebuilt.{Means}
-use Rattle.order_record.specs.declared.site.Site.{Site}
+use Rattle.find_parts.specs.declared.site.Site.{Site}
 use Rattle.order_record.proofs.Laws.Acts.{join-means, part-means}
-use Rattle.order_view.specs.Named.{Sought}
-use Rattle.ordering.specs.Orders.{pairAct, pairOrder}
+use Rattle.order_view.specs.Named.{Named}
+use Rattle.orders.specs.Called.{pairAct, pairOrder}
 use Rattle.ordering.proofs.Laws.View.{own-refused}
 
 -- no line is named
@@ -58,32 +57,32 @@ module _ (a b : ℕ) where
   pair-means true v r l = join-means v r l a b
   pair-means false v r l = part-means v r l a b
 
-module _ {s : List ℕ} {view n : ℕ} {x : Site} (F : Sought s view n x) where
+module _ {s : List ℕ} {view n : ℕ} {x : Site} (F : Named s view n x) where
   abbrev v : View
   v = viewAt (F .value) view
 
-  not-indexed : x .extended ≤ x .index + 2 → T (not (indexed? v))
+  not-indexed : x .index .to ≤ x .index .from → T (not (indexed? v))
   not-indexed l =
-      let e : v .index ≡ none = no-index (x .lines) (cut s (x .index) (x .extended)) (omega (arith, cut-long (F .at .index))) (F .at .index .value) in
+      let e : v .index ≡ none = no-index (x .lines) (cut s (x .index .from) (x .index .to)) (omega (arith, cut-long (F .at .index))) (F .at .index .value) in
       rw e tt
 
   -- the index that is there
-  module _ (l : x .index + 2 < x .extended) where
+  module _ (l : x .index .from < x .index .to) where
     with-index : {P : Type 0} → ((i : Index) → v .index ≡ some i → P) → P
-    with-index k = an-index (x .lines) (cut s (x .index) (x .extended)) (omega (arith, cut-long (F .at .index))) (F .at .index .value) k
+    with-index k = an-index (x .lines) (cut s (x .index .from) (x .index .to)) (omega (arith, cut-long (F .at .index))) (F .at .index .value) k
 
     is-indexed : T (indexed? v)
     is-indexed = with-index λ i e. rw e tt
 
-    reads-some : {i : Index} → v .index ≡ some i → indexBlock (x .lines) .dec (bitsOf (cut s (x .index) (x .extended))) ≡ got (some i) []
+    reads-some : {i : Index} → v .index ≡ some i → indexBlock (x .lines) .dec (bitsOf (cut s (x .index .from) (x .index .to))) ≡ got (some i) []
     reads-some e = F .at .index .value ∙ ap (λ o. got o []) e
 
-    pub near-there : {high : ℕ} → high < x .lines → x .lines ≤ 1024 → length s ≤ 32768 → NearThere (cut s (x .index) (x .extended)) high
+    pub near-there : {high : ℕ} → high < x .lines → x .lines ≤ 1024 → length s ≤ 32768 → NearThere (cut s (x .index .from) (x .index .to)) high
     near-there h k z =
         with-index λ i e.
         record { short = omega (arith, cut-long (F .at .index)); lines = x .lines; few = k; below = h; value = i; behind = []; reads = reads-some e }
 
-    near-is : (a b : ℕ) {r : Bool} → Near (cut s (x .index) (x .extended)) (max a b) (min a b) r → max a b < x .lines → near v a b ≡ r
+    near-is : (a b : ℕ) {r : Bool} → Near (cut s (x .index .from) (x .index .to)) (max a b) (min a b) r → max a b < x .lines → near v a b ≡ r
     unfolding near
     near-is a b N h =
         with-index λ i e.
@@ -92,10 +91,10 @@ module _ {s : List ℕ} {view n : ℕ} {x : Site} (F : Sought s view n x) where
   -- ---- the order's own tests
 
   module _ (a b : ℕ) (joins : Bool) where
-    pub no-index-there : x .extended ≤ x .index + 2 → order (pairOrder view n a b joins) s ≡ refused noIndex 0
+    pub no-index-there : x .index .to ≤ x .index .from → order (pairOrder view n a b joins) s ≡ refused noIndex 0
     no-index-there l = own-refused F (pairAct joins a b) [] (indexed? v) noIndex _ (tests-are a b joins v) tt (not-indexed l) (omega arith)
 
-    module _ (l : x .index + 2 < x .extended) where
+    module _ (l : x .index .from < x .index .to) where
       abbrev lines-there : Bool
       lines-there = ltb a (count v) && ltb b (count v)
 
@@ -108,7 +107,7 @@ module _ {s : List ℕ} {view n : ℕ} {x : Site} (F : Sought s view n x) where
       pub no-second : x .lines ≤ b → order (pairOrder view n a b joins) s ≡ refused badLines 0
       no-second k = bad-pair (not-second (ltb a (count v)) (ltb b (count v)) (no-ltb {a = b} (omega (arith, F .at .count))))
 
-      module _ (p : a < x .lines) (q : b < x .lines) {r : Bool} (N : Near (cut s (x .index) (x .extended)) (max a b) (min a b) r) where
+      module _ (p : a < x .lines) (q : b < x .lines) {r : Bool} (N : Near (cut s (x .index .from) (x .index .to)) (max a b) (min a b) r) where
         there : T lines-there
         there = yes-and (ltb a (count v)) (ltb b (count v)) (yes-ltb {a = a} (omega (arith, F .at .count))) (yes-ltb {a = b} (omega (arith, F .at .count)))
 

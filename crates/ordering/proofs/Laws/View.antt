@@ -1,6 +1,6 @@
 -- An order on a view that is found: its own tests, by what code sees of the view's blocks; and what the view then brings to the order.
 use mathlib.Core.Path.{_≡_, refl, sym, _∙_}
-use Prim.Native.Nat.{ℕ, _+_, _≤_, _<_}
+use Prim.Native.Nat.{ℕ, _≤_, _<_}
 use native.Mathlib.Omega.{arith}
 use mathlib.Core.Bool.{Bool, true, false, not}
 use mathlib.Core.List.{List, [], _∷_, _++_}
@@ -16,8 +16,7 @@ use Rattle.format.specs.Places.{viewAt, count}
 use Rattle.format.proofs.Laws.Record.{read-back}
 use Rattle.orders.specs.Listed.{listed}
 use Rattle.orders.specs.Act.{Act, remove}
-use Rattle.orders.specs.Order.{Order, linesOk, tests, order}
-use Rattle.orders.proofs.Laws.Accept.{Pass}
+use Rattle.orders.specs.Order.{Order, linesOk, tests, order, Pass}
 use Rattle.orders.proofs.Laws.Refuse.{verdict-own, order-refused}
 use Rattle.orders.proofs.Laws.Keep.{allowed-right}
 use Rattle.orders.proofs.Laws.Right.{Right}
@@ -27,26 +26,26 @@ use Rattle.find_parts.specs.Stands.{BlockAt}
 use Rattle.find_parts.proofs.Laws.Blocks.{block-bits, few-lines}
 use Rattle.order_lists.specs.declared.lists.Change.{Change}
 use Rattle.order_record.specs.Rebuilt.{Means, Placed}
-use Rattle.order_record.specs.declared.site.Site.{Site}
+use Rattle.find_parts.specs.declared.site.Site.{Site}
 use Rattle.order_record.proofs.Laws.Acts.{remove-means, keeps}
-use Rattle.order_view.specs.Named.{Sought}
+use Rattle.order_view.specs.Named.{Named}
 use Rattle.order_carry.specs.Carried.{Tested}
-use Rattle.ordering.specs.Orders.{removal}
+use Rattle.orders.specs.Called.{removal}
 
 -- ---- segments: an extended length of 0 has none
 
 module _ {s : List ℕ} {b e : ℕ} where
-  pub no-segments : (gs : List Segment) → BlockAt segments s b e gs → e ≤ b + 2 → T (empty? gs)
+  pub no-segments : (gs : List Segment) → BlockAt segments s b e gs → e ≤ b → T (empty? gs)
   unfolding segments
   no-segments [] h l = tt
   no-segments (g ∷ gs) h l = absurd (omega (arith, block-bits h, length-append (segment .enc g) (segments .enc gs), segment-length g))
 
-  pub some-segments : (gs : List Segment) → BlockAt segments s b e gs → b + 2 < e → T (not (empty? gs))
+  pub some-segments : (gs : List Segment) → BlockAt segments s b e gs → b < e → T (not (empty? gs))
   unfolding segments
   some-segments [] h l = absurd (omega (arith, block-bits h))
   some-segments (g ∷ gs) h l = tt
 
-module _ {s : List ℕ} {view n : ℕ} {x : Site} (F : Sought s view n x) where
+module _ {s : List ℕ} {view n : ℕ} {x : Site} (F : Named s view n x) where
   abbrev v : View
   v = viewAt (F .value) view
 
@@ -60,7 +59,7 @@ module _ {s : List ℕ} {view n : ℕ} {x : Site} (F : Sought s view n x) where
 
   pub own-refused : (a : Act) (ts : List (Bool × ℕ)) (b : Bool) (k : ℕ) (us : List (Bool × ℕ)) → tests a v ≡ ts ++ (b, k) ∷ us → Pass ts → T (not b) → 0 < k
       → order (named a) s ≡ refused k 0
-  own-refused a ts b k us e h q z = order-refused (named a) s (F .reads) k (verdict-own (named a) (F .value) (F .at .there) counted ts b k us e h q) z
+  own-refused a ts b k us e h q z = order-refused (named a) s (F .reads) (F .at .there) k (verdict-own (named a) (F .value) counted ts b k us e h q) z
 
   pub tested : (a : Act) → Pass (tests a v) → Tested (named a) (F .value)
   tested a p = record { place = F .at .there; count = counted; own = p }
@@ -92,11 +91,11 @@ module _ {s : List ℕ} {view n : ℕ} {x : Site} (F : Sought s view n x) where
       pub rises : Rising lines
       rises = lines-rise n lines e .0
 
-      pub has-segments : x .extended + 2 < x .end → order (removal view n lines) s ≡ refused extended 0
+      pub has-segments : x .extended .from < x .extended .to → order (removal view n lines) s ≡ refused extended 0
       unfolding tests
       has-segments l = own-refused act ((linesOk (count v) (listed lines), badLines) ∷ []) (empty? (v .segments)) extended [] refl (good, tt) (some-segments (v .segments) (F .at .segments) l) (omega arith)
 
-      module _ (l : x .end ≤ x .extended + 2) where
+      module _ (l : x .extended .to ≤ x .extended .from) where
         pub removal-passes : Pass (tests act v)
         unfolding tests
         removal-passes = (good, (no-segments (v .segments) (F .at .segments) l, tt))

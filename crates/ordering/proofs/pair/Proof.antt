@@ -1,18 +1,18 @@
 -- The view, then the order on it.
 use mathlib.Core.Path.{refl, subst}
 use Rattle.outcome.proofs.Laws.{answer-refused}
-use Rattle.order_view.specs.Named.{Sought, Finds}
-use Rattle.ordering.specs.Orders.{pairAct}
-use Rattle.order_view.specs.declared.Found.{Found}
+use Rattle.order_view.specs.Named.{Named, ViewNamed}
+use Rattle.orders.specs.Called.{pairAct}
+use Rattle.order_view.specs.declared.NamedView.{NamedView}
 use borrow.Author.Needs.{needs}
 use Rattle.ordering.proofs.pair.Statement.{statement}
 use Rattle.ordering.proofs.pair.Tie as tie
 
-found : (c : tie.After-site) → Sought (c .before .before .before .before .before .args .bytes .now) (c .before .before .before .before .before .args .view) (c .before .before .before .before .before .args .count) (c .site .given .0 .0)
-found c = subst (λ (r : Found). Finds (c .before .before .before .before .before .args .bytes .now) (c .before .before .before .before .before .args .view) (c .before .before .before .before .before .args .count) r) (c .site .given .1) (c .before .before .find .ensures)
+found : (c : tie.After-site) → Named (c .before .before .before .before .before .args .bytes .now) (c .before .before .before .before .before .args .view) (c .before .before .before .before .before .args .count) (c .site .given .0 .0)
+found c = subst (λ (r : NamedView). ViewNamed (c .before .before .before .before .before .args .bytes .now) (c .before .before .before .before .before .args .view) (c .before .before .before .before .before .args .count) r) (c .site .given .1) (c .before .before .named-view .ensures)
 
-find-requires : tie.Need-find-requires
-find-requires c κs = search needs
+named-view-requires : tie.Need-named-view-requires
+named-view-requires c κs = search needs
 
 enum-known-number : tie.Need-enum-known-number
 enum-known-number c = search needs
@@ -29,8 +29,7 @@ pair-at-requires c κs =
 
 returns : tie.Need-returns
 returns c =
-    let (p, e) = subst (λ (r : Found). Finds (c .before .before .before .before .before .before .before .args .bytes .now) (c .before .before .before .before .before .before .before .args .view) (c .before .before .before .before .before .before .before .args .count) r) (c .before .before .number .given .1) (c .before .before .before .before .find .ensures) (pairAct (c .before .before .before .before .before .before .before .args .joins) (c .before .before .before .before .before .before .before .args .a) (c .before .before .before .before .before .before .before .args .b)) in
-    rw (c .refuse .ensures) (answer-refused (λ xs. xs) _ (c .before .before .before .before .before .before .before .args .out .now) e)
+    rw (c .refuse .ensures) (answer-refused (λ xs. xs) _ (c .before .before .before .before .before .before .before .args .out .now) (subst (λ (r : NamedView). ViewNamed (c .before .before .before .before .before .before .before .args .bytes .now) (c .before .before .before .before .before .before .before .args .view) (c .before .before .before .before .before .before .before .args .count) r) (c .before .before .number .given .1) (c .before .before .before .before .named-view .ensures) (pairAct (c .before .before .before .before .before .before .before .args .joins) (c .before .before .before .before .before .before .before .args .a) (c .before .before .before .before .before .before .before .args .b))))
 
 same-length : tie.Need-same-length
 same-length c = search needs
@@ -43,7 +42,7 @@ pub pair-spec : {M : Type 1} → statement M
 pair-spec =
     tie.close
     (tie.spec
-    find-requires
+    named-view-requires
     enum-known-number
     refuse-requires
     enum-known-site

@@ -1,5 +1,4 @@
 -- The view, then the removal's own tests, then the new record.
-use native.Mathlib.Omega.{arith}
 use mathlib.Core.Path.{_≡_, sym, _∙_, subst}
 use mathlib.Core.Bool.{true}
 use Rattle.bits.specs.Lists.{All}
@@ -9,10 +8,9 @@ use Rattle.outcome.proofs.Laws.{answer-refused}
 use Rattle.orders.specs.Listed.{listed}
 use Rattle.orders.specs.Act.{remove}
 use Rattle.orders.specs.Order.{linesOk}
-use Rattle.find_parts.proofs.Laws.Record.{record-apart}
-use Rattle.order_view.specs.Named.{Sought, Finds}
-use Rattle.ordering.specs.Orders.{removal}
-use Rattle.order_view.specs.declared.Found.{Found}
+use Rattle.order_view.specs.Named.{Named, ViewNamed}
+use Rattle.orders.specs.Called.{removal}
+use Rattle.order_view.specs.declared.NamedView.{NamedView}
 use Rattle.ordering.proofs.Laws.View.{tested, placed, bad-lines, rises, has-segments, removal-passes, removal-means}
 use borrow.Author.Needs.{needs}
 use Rattle.ordering.proofs.remove.Statement.{statement}
@@ -21,14 +19,14 @@ use Rattle.ordering.proofs.remove.Tie as tie
 bytes : (c : tie.After-shared-slice-known) → All Byte (c .before .args .bytes .now)
 bytes c = all-bytes (c .before .args .bytes .now) (λ i. c .shared-slice-known .given i .fits)
 
-found : (c : tie.After-site) → Sought (c .before .before .before .before .before .before .args .bytes .now) (c .before .before .before .before .before .before .args .view) (c .before .before .before .before .before .before .args .count) (c .site .given .0 .0)
-found c = subst (λ (r : Found). Finds (c .before .before .before .before .before .before .args .bytes .now) (c .before .before .before .before .before .before .args .view) (c .before .before .before .before .before .before .args .count) r) (c .site .given .1) (c .before .before .find .ensures)
+found : (c : tie.After-site) → Named (c .before .before .before .before .before .before .args .bytes .now) (c .before .before .before .before .before .before .args .view) (c .before .before .before .before .before .before .args .count) (c .site .given .0 .0)
+found c = subst (λ (r : NamedView). ViewNamed (c .before .before .before .before .before .before .args .bytes .now) (c .before .before .before .before .before .before .args .view) (c .before .before .before .before .before .before .args .count) r) (c .site .given .1) (c .before .before .named-view .ensures)
 
 good : (c : tie.Then1) → linesOk (c .before .before .before .before .before .before .before .before .before .args .count) (listed (c .before .before .before .before .before .before .before .before .before .args .lines .now)) ≡ true
 good c = sym (c .before .lines-right .ensures) ∙ c .if1 .taken
 
-find-requires : tie.Need-find-requires
-find-requires c κs = search needs
+named-view-requires : tie.Need-named-view-requires
+named-view-requires c κs = search needs
 
 enum-known-number : tie.Need-enum-known-number
 enum-known-number c = search needs
@@ -42,41 +40,36 @@ enum-known-site c = search needs
 lines-right-requires : tie.Need-lines-right-requires
 lines-right-requires c κs = search needs
 
-add-if2 : tie.Need-add-if2
-add-if2 c =
-    let f = found (c .before .before .before .before) in omega (arith, f .at .segments .from, f .at .segments .within, record-apart _ (f .reads) .short)
-
 refuse-requires-2 : tie.Need-refuse-requires-2
 refuse-requires-2 c κs = search needs
 
 carry-out-requires : tie.Need-carry-out-requires
 carry-out-requires c κs =
-    let f = found (c .before .before .before .before .before .before .before) in
-    let l = c .before .before .before .before .before .before .before .before .before .before .before .before .before .args .lines .now in
-    let g = good (c .before .before .before .before) in
-    placed f (bytes (c .before .before .before .before .before .before .before .before .before .before .before .before)) (rises f l g) (removal-means f l g (c .before .if2 .left) (bytes (c .before .before .before .before .before .before .before .before .before .before .before .before))) (removal-passes f l g (c .before .if2 .left))
+    let f = found (c .before .before .before .before .before .before) in
+    let l = c .before .before .before .before .before .before .before .before .before .before .before .before .args .lines .now in
+    let g = good (c .before .before .before) in
+    placed f (bytes (c .before .before .before .before .before .before .before .before .before .before .before)) (rises f l g) (removal-means f l g (c .before .if2 .left) (bytes (c .before .before .before .before .before .before .before .before .before .before .before))) (removal-passes f l g (c .before .if2 .left))
 
 refuse-requires-3 : tie.Need-refuse-requires-3
 refuse-requires-3 c κs = search needs
 
 returns : tie.Need-returns
 returns c =
-    let (p, e) = subst (λ (r : Found). Finds (c .before .before .before .before .before .before .before .before .args .bytes .now) (c .before .before .before .before .before .before .before .before .args .view) (c .before .before .before .before .before .before .before .before .args .count) r) (c .before .before .number .given .1) (c .before .before .before .before .find .ensures) (remove (listed (c .before .before .before .before .before .before .before .before .args .lines .now))) in
-    rw (c .refuse .ensures) (answer-refused (λ xs. xs) _ (c .before .before .before .before .before .before .before .before .args .out .now) e)
+    rw (c .refuse .ensures) (answer-refused (λ xs. xs) _ (c .before .before .before .before .before .before .before .before .args .out .now) (subst (λ (r : NamedView). ViewNamed (c .before .before .before .before .before .before .before .before .args .bytes .now) (c .before .before .before .before .before .before .before .before .args .view) (c .before .before .before .before .before .before .before .before .args .count) r) (c .before .before .number .given .1) (c .before .before .before .before .named-view .ensures) (remove (listed (c .before .before .before .before .before .before .before .before .args .lines .now)))))
 
 returns-2 : tie.Need-returns-2
 returns-2 c =
-    rw (c .refuse2 .ensures) (answer-refused (λ xs. xs) _ (c .before .before .before .before .before .before .before .before .before .before .before .before .before .args .out .now) (has-segments (found (c .before .before .before .before .before .before .before)) (c .before .before .before .before .before .before .before .before .before .before .before .before .before .args .lines .now) (good (c .before .before .before .before)) (c .before .if2 .taken)))
+    rw (c .refuse2 .ensures) (answer-refused (λ xs. xs) _ (c .before .before .before .before .before .before .before .before .before .before .before .before .args .out .now) (has-segments (found (c .before .before .before .before .before .before)) (c .before .before .before .before .before .before .before .before .before .before .before .before .args .lines .now) (good (c .before .before .before)) (c .before .if2 .taken)))
 
 same-length : tie.Need-same-length
 same-length c = search needs
 
 returns-3 : tie.Need-returns-3
 returns-3 c =
-    let f = found (c .before .before .before .before .before .before .before .before .before .before) in
-    let l = c .before .before .before .before .before .before .before .before .before .before .before .before .before .before .before .before .args .lines .now in
-    let g = good (c .before .before .before .before .before .before .before) in
-    c .before .before .carry-out .ensures .is (removal (c .before .before .before .before .before .before .before .before .before .before .before .before .before .before .before .before .args .view) (c .before .before .before .before .before .before .before .before .before .before .before .before .before .before .before .before .args .count) l) (f .value) (f .reads) (f .at) (tested f (remove (listed l)) (removal-passes f l g (c .before .before .before .before .if2 .left))) (removal-means f l g (c .before .before .before .before .if2 .left) (bytes (c .before .before .before .before .before .before .before .before .before .before .before .before .before .before .before)))
+    let f = found (c .before .before .before .before .before .before .before .before .before) in
+    let l = c .before .before .before .before .before .before .before .before .before .before .before .before .before .before .before .args .lines .now in
+    let g = good (c .before .before .before .before .before .before) in
+    c .before .before .carry-out .ensures .is (removal (c .before .before .before .before .before .before .before .before .before .before .before .before .before .before .before .args .view) (c .before .before .before .before .before .before .before .before .before .before .before .before .before .before .before .args .count) l) (f .value) (f .reads) (f .at) (tested f (remove (listed l)) (removal-passes f l g (c .before .before .before .before .if2 .left))) (removal-means f l g (c .before .before .before .before .if2 .left) (bytes (c .before .before .before .before .before .before .before .before .before .before .before .before .before .before)))
 
 returns-4 : tie.Need-returns-4
 returns-4 c =
@@ -86,12 +79,11 @@ pub remove-spec : {M : Type 1} → statement M
 remove-spec =
     tie.close
     (tie.spec
-    find-requires
+    named-view-requires
     enum-known-number
     refuse-requires
     enum-known-site
     lines-right-requires
-    add-if2
     refuse-requires-2
     carry-out-requires
     refuse-requires-3

@@ -1,15 +1,15 @@
 -- Each case of what is found is a part of the record: the payload's, or one with no bytes.
 use native.Mathlib.Omega.{arith}
 use mathlib.Core.Path.{subst}
-use Rattle.segment.specs.Finds.{PayloadAt, Finds}
-use Rattle.segment.specs.declared.Found.{Found}
+use Rattle.segment.specs.Found.{PayloadAt, PayloadFound}
+use Rattle.segment.specs.declared.FoundPayload.{FoundPayload}
 use Rattle.segment.proofs.Laws.{none-given, part-given}
 use borrow.Author.Needs.{needs}
 use Rattle.segment.proofs.payload.Statement.{statement}
 use Rattle.segment.proofs.payload.Tie as tie
 
-at : (c : tie.After-from) → PayloadAt (c .before .before .before .before .args .view) (c .before .before .before .before .args .place) (c .before .before .before .before .args .bytes .now) (c .from .given .0 .0) (c .from .given .0 .1 .0)
-at c = subst (λ (r : Found). Finds (c .before .before .before .before .args .view) (c .before .before .before .before .args .place) (c .before .before .before .before .args .bytes .now) r) (c .from .given .1) (c .before .before .find .ensures)
+at : (c : tie.After-part) → PayloadAt (c .before .before .before .before .args .view) (c .before .before .before .before .args .place) (c .before .before .before .before .args .bytes .now) (c .part .given .0 .0 .from) (c .part .given .0 .0 .to)
+at c = subst (λ (r : FoundPayload). PayloadFound (c .before .before .before .before .args .view) (c .before .before .before .before .args .place) (c .before .before .before .before .args .bytes .now) r) (c .part .given .1) (c .before .before .find .ensures)
 
 find-requires : tie.Need-find-requires
 find-requires c κs = search needs
@@ -26,8 +26,8 @@ part-result-start c = search needs
 part-result-end : tie.Need-part-result-end
 part-result-end c = search needs
 
-enum-known-from : tie.Need-enum-known-from
-enum-known-from c = search needs
+enum-known-part : tie.Need-enum-known-part
+enum-known-part c = search needs
 
 sub-result-2 : tie.Need-sub-result-2
 sub-result-2 c =
@@ -43,7 +43,7 @@ part-result-end-2 c =
 
 returns : tie.Need-returns
 returns c =
-    none-given (c .before .before .before .before .before .args .view) (c .before .before .before .before .before .args .place) (c .before .before .before .before .before .args .bytes .now) (subst (λ (r : Found). Finds (c .before .before .before .before .before .args .view) (c .before .before .before .before .before .args .place) (c .before .before .before .before .before .args .bytes .now) r) (c .before .enum-told .given .1) (c .before .before .before .find .ensures))
+    none-given (c .before .before .before .before .before .args .view) (c .before .before .before .before .before .args .place) (c .before .before .before .before .before .args .bytes .now) (subst (λ (r : FoundPayload). PayloadFound (c .before .before .before .before .before .args .view) (c .before .before .before .before .before .args .place) (c .before .before .before .before .before .args .bytes .now) r) (c .before .enum-told .given .1) (c .before .before .before .find .ensures))
 
 returns-2 : tie.Need-returns-2
 returns-2 c =
@@ -58,7 +58,7 @@ payload-spec =
     sub-result
     part-result-start
     part-result-end
-    enum-known-from
+    enum-known-part
     sub-result-2
     part-result-start-2
     part-result-end-2
