@@ -3,3 +3,4 @@ pub mod Size
 pub mod Record
 pub mod Call
 pub mod Refuses
+pub mod Numbers

@@ -2,6 +2,7 @@
 pub mod Survive
 pub mod Near
 pub mod Least
+pub mod Numbers
 pub mod Accept
 pub mod Refuse
 pub mod Right
@@ -10,4 +11,5 @@ pub mod Story
 pub mod Bytes
 pub mod Sequence
 pub mod Holds
+pub mod AcceptCall
 pub mod Calls

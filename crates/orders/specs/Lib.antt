@@ -8,3 +8,4 @@ pub mod History
 pub mod Bytes
 pub mod Kept
 pub mod Made
+pub mod Accept

@@ -7,12 +7,16 @@ use native.Mathlib.Omega.{arith}
 use mathlib.Core.List.{List, _++_}
 use lib.ListN.{length, take, drop, length-append}
 use lib.Seq.{take-append-seam}
-use lib.Dec.{leb, le→leb}
-use Rattle.bits.specs.ChoiceLaws.{pick-yes, pick-no, pick-split}
+use lib.Dec.{leb, le→leb, leb→le}
+use Rattle.bits.specs.ChoiceLaws.{pick-yes, pick-no, pick-case}
 use mir.Facts.{no-leb}
 use Rattle.outcome.specs.Refusals.{noRoom}
 use Rattle.outcome.specs.Outcome.{Outcome, refused, given, room, numberOf, placeOf, lengthOf, laidAs, AnswersAs, Answers, Gave, told}
 use Rattle.outcome.specs.declared.Answer.{Answer}
+
+-- an equation allows one value: "It is proved that two outcomes allowed by it are equal."
+pub one-value : {A : Type 0} {x y₁ y₂ : A} → y₁ ≡ x → y₂ ≡ x → y₁ ≡ y₂
+one-value p q = p ∙ sym q
 
 -- two answers with the same three numbers are one
 pub same-answer : (a b : Answer) → a .number ≡ b .number → a .place ≡ b .place → a .length ≡ b .length → a ≡ b
@@ -21,6 +25,19 @@ same-answer a b p q r = λ i. record { number = p i; place = q i; length = r i }
 -- given room, the outcome is what it is
 pub room-enough : {A : Type 0} (n : ℕ) (xs : List A) → length xs ≤ n → room n (given xs) ≡ given xs
 room-enough n xs h = pick-yes (leb (length xs) n) _ _ (le→leb (length xs) n h)
+
+-- in the room that is lent the number is 0 exactly where something is given, and fits; no refusal has that number
+pub room-zero : {A P : Type 0} (n : ℕ) {o : Outcome A} → ((e p : ℕ) → o ≡ refused e p → e ≢ 0) → numberOf (room n o) ≡ 0
+    → ((xs : List A) → o ≡ given xs → length xs ≤ n → P) → P
+room-zero {A} {P} n {o} never z k = go o refl z
+  where
+    go : (x : Outcome A) → o ≡ x → numberOf (room n x) ≡ 0 → P
+    go (refused e p) q z = absurd (never e p q z)
+    go (given xs) q z =
+        pick-case (λ (x : Outcome A). numberOf x ≡ 0 → P) (leb (length xs) n) _ _ (λ t _. k xs q (leb→le (length xs) n t)) (λ t y. absurd (omega arith)) z
+
+pub zero-room : {A : Type 0} (n : ℕ) {o : Outcome A} {xs : List A} → o ≡ given xs → length xs ≤ n → numberOf (room n o) ≡ 0
+zero-room n {xs = xs} q l = ap (λ x. numberOf (room n x)) q ∙ ap numberOf (room-enough n xs l)
 
 module _ {A B : Type 0} {form : List A → List B} {lent : ℕ} {o : Outcome A} {before : List B} where
   -- "It is proved that two outcomes allowed by it are equal."
@@ -62,27 +79,18 @@ module _ {A B : Type 0} (form : List A → List B) (lent : ℕ) {o : Outcome A} 
 -- ---- what an answer says, where elements stand as they are
 
 module _ {A : Type 0} {o : Outcome A} {before after : List A} {a : Answer} (h : Answers o before after a) where
-  given-there : (xs : List A) → room (length before) o ≡ given xs → Gave xs after a
-  given-there xs q =
+  -- given room, what is given is there
+  pub answer-there : (xs : List A) → o ≡ given xs → length xs ≤ length before → Gave xs after a
+  answer-there xs e k =
+      let q : room (length before) o ≡ given xs = ap (room (length before)) e ∙ room-enough (length before) xs k in
       let l : a .length ≡ length xs = h .written ∙ ap lengthOf q in
       let b : after ≡ xs ++ drop (length xs) before = h .buffer ∙ ap (laidAs (λ ys. ys) before) q in
       (h .number ∙ ap numberOf q, l, ap₂ (λ (n : ℕ) (ys : List A). take n ys) l b ∙ take-append-seam xs _)
 
-  -- given room, what is given is there
-  pub answer-there : (xs : List A) → o ≡ given xs → length xs ≤ length before → Gave xs after a
-  answer-there xs q l = given-there xs (ap (room (length before)) q ∙ room-enough (length before) xs l)
-
   -- an answer of 0 is given something, where no refusal has that number
   pub answer-accepted : {P : Type 0} → ((e p : ℕ) → o ≡ refused e p → e ≢ 0) → a .number ≡ 0
       → ((xs : List A) → o ≡ given xs → take (a .length) after ≡ xs → P) → P
-  answer-accepted {P} never z k = go o refl
-    where
-      go : (x : Outcome A) → o ≡ x → P
-      go (refused e p) q = absurd (never e p q (sym (h .number ∙ ap (λ y. numberOf (room (length before) y)) q) ∙ z))
-      go (given xs) q =
-          pick-split (leb (length xs) (length before)) (given xs) (refused noRoom 0) refl
-          (λ t y. k xs q (given-there xs (ap (room (length before)) q ∙ sym y) .2))
-          (λ t y. let w : _≡_ {A = ℕ} 20 0 = ap numberOf y ∙ sym (h .number ∙ ap (λ x. numberOf (room (length before) x)) q) ∙ z in absurd (omega arith))
+  answer-accepted never z k = room-zero (length before) never (sym (h .number) ∙ z) λ xs q l. k xs q (answer-there xs q l .2)
 
   -- what it says is written is within the buffer
   pub answer-fits : a .length ≤ length after

@@ -7,5 +7,6 @@ pub mod Fits
 pub mod Allowed
 pub mod Sheet
 pub mod Calls
+pub mod Numbers
 pub mod BothWays
 pub mod Refuses

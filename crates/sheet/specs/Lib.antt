@@ -3,4 +3,5 @@ pub mod Grammar
 pub mod Code
 pub mod Values
 pub mod Sheet
+pub mod Accepted
 pub mod Sample

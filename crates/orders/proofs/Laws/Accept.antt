@@ -3,48 +3,32 @@
 use mathlib.Core.Path.{_≡_, refl, _∙_}
 use mathlib.Core.Logic.{_≢_}
 use Prim.Native.Nat.{ℕ, _<_}
-use native.Mathlib.Omega.{arith}
 use mathlib.Core.Bool.{Bool, _&&_}
 use mathlib.Core.List.{List, [], _∷_}
 use lib.ListN.{length}
 use lib.Dec.{T, leb, ltb, eqb, leb→le, le→leb, ltb→lt, eqb→eq}
 use mir.Facts.{and-yes, yes-eqb, no-eqb}
 use Rattle.bits.specs.ChoiceLaws.{pick-yes, pick-no, pick-split}
-use Rattle.bits.specs.Lists.{All}
 use Rattle.bits.specs.ListsLaws.{all-front, all-rest, all-append}
 use Rattle.outcome.specs.Refusals.{otherCount}
 use Rattle.format.specs.Limits.{mostBytes}
 use Rattle.format.specs.View.{View}
 use Rattle.format.specs.Record.{Record, size}
 use Rattle.format.specs.Places.{count, viewAt}
-use Rattle.orders.specs.Act.{Act, remove, join, part}
+use Rattle.orders.specs.Act.{Act}
 use Rattle.orders.specs.Order.{Order, edited, firstBad, tests, allTests, verdict, Pass, Accepted}
+use Rattle.orders.proofs.Laws.Numbers.{TestsBy, all-by, number-there}
 
 -- ---- tests, one after another
-
--- no test has the number 0, which says that all passed
-abbrev Numbered : List (Bool × ℕ) → Type 0
-Numbered = All (λ t. 0 < t .1)
 
 pass-zero : (ts : List (Bool × ℕ)) → Pass ts → firstBad ts ≡ 0
 pass-zero [] h = refl
 pass-zero (t ∷ ts) h = pick-yes (t .0) _ _ (h .0) ∙ pass-zero ts (h .1)
 
-zero-pass : (ts : List (Bool × ℕ)) → Numbered ts → firstBad ts ≡ 0 → Pass ts
-zero-pass [] n p = tt
-zero-pass (t ∷ ts) n p = pick-split (t .0) _ _ p (λ u e. (u, zero-pass ts (n .1) e)) (λ u e. absurd (omega (arith, n .0)))
-
-tests-numbered : (a : Act) (v : View) → Numbered (tests a v)
-unfolding tests
-tests-numbered (remove rs) v = (omega arith, (omega arith, tt))
-tests-numbered (join a b) v = (omega arith, (omega arith, (omega arith, tt)))
-tests-numbered (part a b) v = (omega arith, (omega arith, (omega arith, tt)))
-
-all-numbered : (o : Order) (r : Record) → Numbered (allTests o r)
-unfolding allTests
-all-numbered o r =
-    let v : View = viewAt r (o .view) in
-    (omega arith, all-append (λ t. 0 < t .1) (tests (o .act) v) _ (tests-numbered (o .act) v) (omega arith, tt))
+-- no test has the number 0, which says that all passed
+zero-pass : (a : Act) (ts : List (Bool × ℕ)) → TestsBy a ts → firstBad ts ≡ 0 → Pass ts
+zero-pass a [] n p = tt
+zero-pass a (t ∷ ts) n p = pick-split (t .0) _ _ p (λ u e. (u, zero-pass a ts (n .1) e)) (λ u e. absurd (number-there a (t .1) (n .0) e))
 
 -- what the test of a pair's lines says
 pub both-lines : (a b n : ℕ) → T (ltb a n && ltb b n) → (a < n) × (b < n)
@@ -55,7 +39,7 @@ both-lines a b n t = let (h, k) = and-yes (ltb a n) (ltb b n) t in (ltb→lt a n
 pub accepted : (o : Order) (r : Record) → o .view < length (r .views) → verdict o r ≡ 0 → Accepted o r
 unfolding verdict allTests
 accepted o r l p =
-    let h = zero-pass (allTests o r) (all-numbered o r) p in
+    let h = zero-pass (o .act) (allTests o r) (all-by o r) p in
     let v : View = viewAt r (o .view) in
     record {
       place = l;

@@ -16,7 +16,7 @@ use Rattle.format.proofs.Laws.Call.{on-record, given-record}
 use Rattle.sheet.specs.Sheet.{sheetOf, readSheet, writes, reading, writing}
 use Rattle.sheet.proofs.Laws.Sheet.{sheet-read, read-sheet}
 
-reading-is : (bytes : List ℕ) (r : Record) (rest : Bits) → read bytes ≡ got r rest → reading bytes ≡ given (sheetOf r)
+pub reading-is : (bytes : List ℕ) (r : Record) (rest : Bits) → read bytes ≡ got r rest → reading bytes ≡ given (sheetOf r)
 unfolding reading
 reading-is bytes r rest p = on-record (λ r. given (sheetOf r)) bytes r rest p
 
@@ -25,7 +25,7 @@ unfolding writing
 writing-is sheet r rest p = ap writes p
 
 -- a record that is written came of a sheet
-written : {P : Type 0} (sheet bytes : List ℕ) → writing sheet ≡ given bytes → ((r : Record) (rest : Bits) → readSheet sheet ≡ got r rest → write r ≡ bytes → P) → P
+pub written : {P : Type 0} (sheet bytes : List ℕ) → writing sheet ≡ given bytes → ((r : Record) (rest : Bits) → readSheet sheet ≡ got r rest → write r ≡ bytes → P) → P
 unfolding writing
 written {P} sheet bytes p k = go (readSheet sheet) refl p
   where

@@ -1,0 +1,61 @@
+-- When a call for an order is accepted: its number is 0 exactly where the bytes read as a record, the order is accepted on it, and
+-- the new record fits the second buffer.
+use mathlib.Core.Path.{_≡_, sym, ap, _∙_}
+use Prim.Native.Nat.{ℕ, _≤_}
+use native.Mathlib.Omega.{arith}
+use mathlib.Core.List.{List}
+use lib.ListN.{length}
+use lib.Dec.{eqb, eqb→eq}
+use Rattle.bits.specs.ChoiceLaws.{pick-split}
+use Rattle.bits.specs.Codec.{got}
+use Rattle.outcome.specs.Outcome.{numberOf, Answers}
+use Rattle.outcome.specs.declared.Answer.{Answer}
+use Rattle.outcome.proofs.Laws.{room-zero, zero-room}
+use Rattle.format.specs.Record.{Record, write}
+use Rattle.format.proofs.Laws.Size.{write-long}
+use Rattle.format.proofs.Laws.Record.{read-is}
+use Rattle.format.proofs.Laws.Call.{given-view}
+use Rattle.orders.specs.Order.{Order, edited, verdict, ordered, order}
+use Rattle.orders.specs.History.{Call, outcome}
+use Rattle.orders.specs.Accept.{AcceptedCall}
+use Rattle.orders.proofs.Laws.Accept.{accepted, verdict-zero}
+use Rattle.orders.proofs.Laws.Refuse.{order-given}
+use Rattle.orders.proofs.Laws.Holds.{order-told}
+
+-- ---- of the outcome
+
+pub outcome-accepted : (c : Call) (bytes : List ℕ) → numberOf (outcome c bytes) ≡ 0 → AcceptedCall c bytes
+unfolding outcome order
+outcome-accepted c bytes z =
+    let o : Order = c .order in
+    room-zero (c .lent) (order-told o bytes) z λ new q l.
+    given-view (o .view) (λ i. ordered o) bytes new q λ r rest e v g.
+    let (_, _, _, n) = read-is bytes r rest e in
+    pick-split (eqb (verdict o r) 0) _ _ g
+    (λ t h. let w : write (edited o r) ≡ new = cc in
+    record {
+      value = r;
+      reads = e ∙ ap (got r) n;
+      order = accepted o r v (eqb→eq (verdict o r) 0 t);
+      room = omega (arith, l, ap length w, write-long (edited o r));
+    })
+    (λ t h. let y : _≡_ {A = ℕ} 0 1 = cc in absurd (omega arith))
+
+pub accepted-outcome : (c : Call) (bytes : List ℕ) → AcceptedCall c bytes → numberOf (outcome c bytes) ≡ 0
+unfolding outcome
+accepted-outcome c bytes k =
+    let o : Order = c .order in
+    let r : Record = k .value in
+    let l : length (write (edited o r)) ≤ c .lent = omega (arith, k .room, write-long (edited o r)) in
+    zero-room (c .lent) (order-given o bytes (k .reads) (k .order .place) (verdict-zero o r (k .order))) l
+
+-- ---- of any answer by the contract of the call
+
+module _ (o : Order) (bytes : List ℕ) {before after : List ℕ} {a : Answer} (h : Answers (order o bytes) before after a) where
+  pub call-accepted : a .number ≡ 0 → AcceptedCall (record { order = o; lent = length before }) bytes
+  unfolding outcome
+  call-accepted z = outcome-accepted (record { order = o; lent = length before }) bytes (sym (h .number) ∙ z)
+
+  pub accepted-call : AcceptedCall (record { order = o; lent = length before }) bytes → a .number ≡ 0
+  unfolding outcome
+  accepted-call k = h .number ∙ accepted-outcome (record { order = o; lent = length before }) bytes k

@@ -1,0 +1,92 @@
+-- The numbers of the calls for orders: a removal gives 1 to 16, 19 and 20, a pair order 1 to 15 and 17 to 20.
+use mathlib.Core.Path.{_≡_, refl}
+use mathlib.Core.Logic.{_≢_}
+use Prim.Native.Nat.{ℕ}
+use native.Mathlib.Omega.{arith}
+use mathlib.Core.Bool.{Bool, not}
+use mathlib.Core.List.{List, [], _∷_}
+use lib.Dec.{T, eqb}
+use mir.Facts.{eqb-no}
+use Rattle.bits.specs.ChoiceLaws.{pick-case}
+use Rattle.bits.specs.Lists.{All}
+use Rattle.bits.specs.ListsLaws.{all-append}
+use Rattle.outcome.specs.Refusals.{otherCount, tooLong, noRoom}
+use Rattle.outcome.specs.Numbers.{among, Gives, removalNumbers, pairNumbers}
+use Rattle.outcome.specs.Outcome.{Answers}
+use Rattle.outcome.specs.declared.Answer.{Answer}
+use Rattle.outcome.proofs.Numbers.{RefusedBy, room-refused, answer-number, not-zero}
+use Rattle.format.specs.View.{View}
+use Rattle.format.specs.Record.{Record}
+use Rattle.format.specs.Places.{viewAt}
+use Rattle.format.proofs.Laws.Numbers.{view-numbers}
+use Rattle.orders.specs.Act.{Act, remove, join, part}
+use Rattle.orders.specs.Order.{Order, firstBad, tests, allTests, verdict, ordered, order}
+use Rattle.orders.specs.History.{Call, outcome}
+
+abbrev pub numbersOf : Act → List (ℕ × ℕ)
+numbersOf (remove rs) = removalNumbers
+numbersOf (join a b) = pairNumbers
+numbersOf (part a b) = pairNumbers
+
+-- ---- the tests
+
+-- each test has one of the numbers
+abbrev pub TestsBy : Act → List (Bool × ℕ) → Type 0
+TestsBy a = All (λ t. T (among (numbersOf a) (t .1)))
+
+tests-by : (a : Act) (v : View) → TestsBy a (tests a v)
+unfolding tests
+tests-by (remove rs) v = (tt, (tt, tt))
+tests-by (join a b) v = (tt, (tt, (tt, tt)))
+tests-by (part a b) v = (tt, (tt, (tt, tt)))
+
+-- what is so of both lists
+both : (P : List (ℕ × ℕ) → Type 0) → P removalNumbers → P pairNumbers → (a : Act) → P (numbersOf a)
+both P p q (remove rs) = p
+both P p q (join a b) = q
+both P p q (part a b) = q
+
+pub all-by : (o : Order) (r : Record) → TestsBy (o .act) (allTests o r)
+unfolding allTests
+all-by o r =
+    let v : View = viewAt r (o .view) in
+    let P : Bool × ℕ → Type 0 = λ t. T (among (numbersOf (o .act)) (t .1)) in
+    (both (λ ns. T (among ns otherCount)) tt tt (o .act), all-append P (tests (o .act) v) _ (tests-by (o .act) v) (both (λ ns. T (among ns tooLong)) tt tt (o .act), tt))
+
+-- none of them is 0
+pub number-there : (a : Act) (e : ℕ) → T (among (numbersOf a) e) → e ≢ 0
+number-there a = not-zero (numbersOf a) (both (λ ns. T (not (among ns 0))) tt tt a)
+
+first-by : (a : Act) (ts : List (Bool × ℕ)) → TestsBy a ts → firstBad ts ≢ 0 → T (among (numbersOf a) (firstBad ts))
+first-by a [] h n = absurd (n refl)
+first-by a (t ∷ ts) h n =
+    pick-case (λ (x : ℕ). x ≢ 0 → T (among (numbersOf a) x)) (t .0) _ _ (λ u. first-by a ts (h .1)) (λ u _. h .0) n
+
+-- ---- the calls
+
+pub order-by : (o : Order) (bytes : List ℕ) → RefusedBy (numbersOf (o .act)) (order o bytes)
+unfolding order verdict
+order-by o =
+    both (λ ns. ((r : Record) → RefusedBy ns (ordered o r)) → (bytes : List ℕ) → RefusedBy ns (order o bytes))
+    (view-numbers 16 _ (omega arith) (o .view) (λ i. ordered o)) (view-numbers 15 _ (omega arith) (o .view) (λ i. ordered o)) (o .act) λ r.
+    pick-case (RefusedBy (numbersOf (o .act))) (eqb (verdict o r) 0) _ _ (λ t. tt) (λ t. first-by (o .act) (allTests o r) (all-by o r) (eqb-no t))
+
+abbrev numbers-room : (a : Act) → T (among (numbersOf a) noRoom)
+numbers-room a = both (λ ns. T (among ns noRoom)) tt tt a
+
+pub outcome-by : (c : Call) (bytes : List ℕ) → RefusedBy (numbersOf (c .order .act)) (outcome c bytes)
+unfolding outcome
+outcome-by c bytes = room-refused (numbersOf (c .order .act)) (numbers-room (c .order .act)) (c .lent) (order (c .order) bytes) (order-by (c .order) bytes)
+
+module _ (o : Order) (bytes : List ℕ) {before after : List ℕ} {a : Answer} (h : Answers (order o bytes) before after a) where
+  order-numbers : Gives (numbersOf (o .act)) (a .number)
+  order-numbers = answer-number (numbersOf (o .act)) (numbers-room (o .act)) (order-by o bytes) h
+
+  pub removal-numbers : {rs : List ℕ} → o .act ≡ remove rs → Gives removalNumbers (a .number)
+  removal-numbers e = rw e at order-numbers
+
+  pub join-numbers : {p q : ℕ} → o .act ≡ join p q → Gives pairNumbers (a .number)
+  join-numbers e = rw e at order-numbers
+
+  pub part-numbers : {p q : ℕ} → o .act ≡ part p q → Gives pairNumbers (a .number)
+  part-numbers e = rw e at order-numbers

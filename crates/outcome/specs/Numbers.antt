@@ -1,0 +1,42 @@
+-- The numbers that each call can give, to be held against document 01's table and the order in which it judges: "No number is given
+-- otherwise." They stand as ranges, each from its first number to its last. 0 is for what is accepted and stands in no range.
+use Prim.Native.Nat.{ℕ}
+use mathlib.Core.Bool.{Bool, false, _||_}
+use mathlib.Core.List.{List, [], _∷_}
+use lib.Dec.{T, eqb}
+use Rattle.bits.specs.Choice.{within}
+
+-- the number stands in one of the ranges
+abbrev pub among : List (ℕ × ℕ) → ℕ → Bool
+among [] number = false
+among (range ∷ ranges) number = within (range .0) (range .1) number || among ranges number
+
+-- an answer's number: 0, or one of these
+abbrev pub Gives : List (ℕ × ℕ) → ℕ → Type 0
+Gives ranges number = T (eqb number 0 || among ranges number)
+
+-- ---- the calls
+
+-- "A record is judged 1 to 5, then .. Reading: then 20"
+abbrev pub readNumbers : List (ℕ × ℕ)
+readNumbers = (1, 12) ∷ (20, 20) ∷ []
+
+-- "A sheet: 21 over the whole sheet, 22 over the whole sheet, 19, 20"
+abbrev pub writeNumbers : List (ℕ × ℕ)
+writeNumbers = (19, 22) ∷ []
+
+-- "Trail: 13, 15, 20", behind 1 to 12
+abbrev pub trailNumbers : List (ℕ × ℕ)
+trailNumbers = (1, 13) ∷ (15, 15) ∷ (20, 20) ∷ []
+
+-- "Segment: 13, 23", behind 1 to 12
+abbrev pub segmentNumbers : List (ℕ × ℕ)
+segmentNumbers = (1, 13) ∷ (23, 23) ∷ []
+
+-- "Orders: 13, 14, then removal 15, 16; .. then 19, 20", behind 1 to 12
+abbrev pub removalNumbers : List (ℕ × ℕ)
+removalNumbers = (1, 16) ∷ (19, 20) ∷ []
+
+-- "Orders: 13, 14, then .. pair 17, 15, 18; then 19, 20", behind 1 to 12
+abbrev pub pairNumbers : List (ℕ × ℕ)
+pairNumbers = (1, 15) ∷ (17, 20) ∷ []
