@@ -1,7 +1,9 @@
 -- WHAT THE LIBRARY PROMISES. Each promise is a statement; its proof is one citation. Every name in a statement leads to one
 -- definition: `read`, `write`, `Allowed` (format/specs/Record), `reading`, `writing` (sheet/specs/Sheet), `Outcome`, `AnswersAs`,
--- `Gave` (outcome/specs/Outcome), `Order`, `verdict`, `edited` (orders/specs/Order), `Call`, `run`, `history`, `Follows` (orders/specs/History),
--- `Kept` (orders/specs/Kept, Bytes), `MadeAll` (orders/specs/Made).
+-- `Gave` (outcome/specs/Outcome), `Gives` and the calls' numbers (outcome/specs/Numbers), `AcceptedReading`, `AcceptedWriting`
+-- (sheet/specs/Accepted), `trailing` (trail/specs/Trail), `segmentAnswer`, `payload` (segment/specs/Segment), `Order`, `Accepted`,
+-- `edited`, `order`, `holds` (orders/specs/Order), `Call`, `run`, `history`, `Follows` (orders/specs/History), `AcceptedCall`
+-- (orders/specs/Accept), `Kept` (orders/specs/Kept, Bytes), `MadeAll` (orders/specs/Made).
 use mathlib.Core.Path.{_≡_}
 use mathlib.Core.Logic.{_≢_}
 use Prim.Native.Nat.{ℕ, _*_, _≤_}
@@ -15,6 +17,7 @@ use Rattle.bits.specs.Bits.{Bits}
 use Rattle.bits.specs.Bytes.{Byte}
 use Rattle.bits.specs.Codec as C
 use Rattle.outcome.specs.Refusals.{otherCount, tooLong, badSheet, badValue}
+use Rattle.outcome.specs.Numbers.{Gives, readNumbers, writeNumbers, trailNumbers, segmentNumbers, removalNumbers, pairNumbers}
 use Rattle.outcome.specs.Outcome.{Outcome, refused, given, numberOf, lengthOf, laid, AnswersAs, Answers, Gave}
 use Rattle.outcome.specs.declared.Answer.{Answer}
 use Rattle.outcome.proofs.Laws as O
@@ -25,18 +28,26 @@ use Rattle.format.specs.Places.{viewAt}
 use Rattle.format.proofs.Laws.Record as R
 use Rattle.format.proofs.Laws.Refuses as F
 use Rattle.sheet.specs.Sheet.{readSheet, reading, writing}
+use Rattle.sheet.specs.Accepted.{AcceptedReading, AcceptedWriting}
 use Rattle.sheet.proofs.Laws.Calls as S
+use Rattle.sheet.proofs.Laws.Numbers as SheetNumbers
 use Rattle.sheet.proofs.Laws.BothWays as B
 use Rattle.sheet.proofs.Laws.Refuses as G
 use Rattle.sheet_bytes.proofs.Laws.Room as M
+use Rattle.trail.specs.Trail.{trailing}
+use Rattle.trail.proofs.Numbers as TrailNumbers
+use Rattle.segment.specs.Segment.{payload, payloadOf, segmentAnswer}
+use Rattle.segment.proofs.Numbers as SegmentNumbers
 use Rattle.orders.specs.Least.{leastWidth}
-use Rattle.orders.specs.Act.{remove}
-use Rattle.orders.specs.Order.{Order, edited, verdict, order, holds}
+use Rattle.orders.specs.Act.{remove, join, part}
+use Rattle.orders.specs.Order.{Order, edited, Accepted, order, holds, heldAnswer}
 use Rattle.orders.specs.History.{Call, outcome, nowHolds, run}
+use Rattle.orders.specs.Accept.{AcceptedCall}
 use Rattle.orders.specs.Kept.{Kept}
 use Rattle.orders.specs.Made.{MadeAll}
+use Rattle.orders.proofs.Laws.Numbers as OrderNumbers
+use Rattle.orders.proofs.Laws.AcceptCall as AcceptCall
 use Rattle.orders.proofs.Laws.Least as L
-use Rattle.orders.proofs.Laws.Accept as A
 use Rattle.orders.proofs.Laws.Keep as K
 use Rattle.orders.proofs.Laws.Sequence as Q
 use Rattle.orders.proofs.Laws.Holds as H
@@ -54,6 +65,33 @@ record-refused = F.read-refuses
 pub sheet-refused : (sheet : List ℕ) (e left : ℕ) → readSheet sheet ≡ C.refused e left → T (eqb e badSheet || eqb e badValue || eqb e tooLong)
 sheet-refused = G.readSheet-refuses
 
+-- "No number is given otherwise": of each call, the numbers that its contract allows besides 0
+pub read-numbers : {before after : List ℕ} {a : Answer} (bytes : List ℕ) → Answers (reading bytes) before after a → Gives readNumbers (a .number)
+read-numbers = SheetNumbers.reading-numbers
+
+pub write-numbers : {before after : List ℕ} {a : Answer} (sheet : List ℕ) → Answers (writing sheet) before after a → Gives writeNumbers (a .number)
+write-numbers = SheetNumbers.writing-numbers
+
+-- as 16-bit numbers or as bytes
+pub trail-numbers : {B : Type 0} {form : List ℕ → List B} {lent : ℕ} {before after : List B} {a : Answer} (view line : ℕ) (bytes : List ℕ)
+    → AnswersAs form lent (trailing view line bytes) before after a → Gives trailNumbers (a .number)
+trail-numbers = TrailNumbers.trailing-numbers
+
+pub segment-numbers : {a : Answer} (view place : ℕ) (bytes : List ℕ) → a ≡ segmentAnswer view place bytes → Gives segmentNumbers (a .number)
+segment-numbers = SegmentNumbers.segment-numbers
+
+pub removal-numbers : (o : Order) (bytes : List ℕ) {before after : List ℕ} {a : Answer} → Answers (order o bytes) before after a
+    → {rs : List ℕ} → o .act ≡ remove rs → Gives removalNumbers (a .number)
+removal-numbers = OrderNumbers.removal-numbers
+
+pub join-numbers : (o : Order) (bytes : List ℕ) {before after : List ℕ} {a : Answer} → Answers (order o bytes) before after a
+    → {p q : ℕ} → o .act ≡ join p q → Gives pairNumbers (a .number)
+join-numbers = OrderNumbers.join-numbers
+
+pub part-numbers : (o : Order) (bytes : List ℕ) {before after : List ℕ} {a : Answer} → Answers (order o bytes) before after a
+    → {p q : ℕ} → o .act ≡ part p q → Gives pairNumbers (a .number)
+part-numbers = OrderNumbers.part-numbers
+
 -- whatever a call is, an answer other than 0 leaves the lent buffer as it was, and a length of 0
 pub refusal-writes-nothing : {A B : Type 0} {form : List A → List B} {lent : ℕ} {o : Outcome A} {before after : List B} {a : Answer}
     → AnswersAs form lent o before after a → a .number ≢ 0 → (after ≡ before) × (a .length ≡ 0)
@@ -66,6 +104,23 @@ accepted-is-allowed = R.read-back
 
 pub allowed-is-accepted : (r : Record) → Allowed r → read (write r) ≡ C.got r []
 allowed-is-accepted = R.read-there
+
+-- the calls, by their contracts: the number is 0 exactly where the bytes, or the sheet, are an allowed record's and there is room
+pub read-accepted : {before after : List ℕ} {a : Answer} (bytes : List ℕ) → All Byte bytes → Answers (reading bytes) before after a
+    → a .number ≡ 0 → AcceptedReading bytes (length before)
+read-accepted = SheetNumbers.reading-accepted
+
+pub accepted-read : {before after : List ℕ} {a : Answer} (bytes : List ℕ) → Answers (reading bytes) before after a
+    → AcceptedReading bytes (length before) → a .number ≡ 0
+accepted-read = SheetNumbers.accepted-reading
+
+pub write-accepted : {before after : List ℕ} {a : Answer} (sheet : List ℕ) → All Byte sheet → Answers (writing sheet) before after a
+    → a .number ≡ 0 → AcceptedWriting sheet (length before)
+write-accepted = SheetNumbers.writing-accepted
+
+pub accepted-write : {before after : List ℕ} {a : Answer} (sheet : List ℕ) → Answers (writing sheet) before after a
+    → AcceptedWriting sheet (length before) → a .number ≡ 0
+accepted-write = SheetNumbers.accepted-writing
 
 -- writing the sheet that reading gave gives the bytes back
 pub write-after-read : (bytes sheet : List ℕ) → All Byte bytes → reading bytes ≡ given sheet → writing sheet ≡ given bytes
@@ -94,15 +149,25 @@ sheet-back = B.read-back
 
 -- ---- DEMAND 3: orders
 
--- an order is accepted exactly where its view is there, has the count, passes the order's own tests, and the result is not too long
-pub order-accepted : (o : Order) (r : Record) → verdict o r ≡ 0 → A.Accepted o r
-order-accepted = A.accepted
+-- an order's number is 0 exactly where the bytes read as a record, its view is there and has the count, its own tests pass, the new
+-- record is at most 32,768 bytes, and it fits the second buffer: of its outcome in a sequence
+pub order-accepted : (c : Call) (bytes : List ℕ) → numberOf (outcome c bytes) ≡ 0 → AcceptedCall c bytes
+order-accepted = AcceptCall.outcome-accepted
 
-pub accepted-order : (o : Order) (r : Record) → A.Accepted o r → verdict o r ≡ 0
-accepted-order = A.verdict-zero
+pub accepted-order : (c : Call) (bytes : List ℕ) → AcceptedCall c bytes → numberOf (outcome c bytes) ≡ 0
+accepted-order = AcceptCall.accepted-outcome
+
+-- and of any answer by the contract of its call
+pub call-accepted : (o : Order) (bytes : List ℕ) {before after : List ℕ} {a : Answer} → Answers (order o bytes) before after a
+    → a .number ≡ 0 → AcceptedCall (record { order = o; lent = length before }) bytes
+call-accepted = AcceptCall.call-accepted
+
+pub accepted-call : (o : Order) (bytes : List ℕ) {before after : List ℕ} {a : Answer} → Answers (order o bytes) before after a
+    → AcceptedCall (record { order = o; lent = length before }) bytes → a .number ≡ 0
+accepted-call = AcceptCall.accepted-call
 
 -- it then leaves an allowed record
-pub order-keeps : (o : Order) (r : Record) → Allowed r → verdict o r ≡ 0 → Allowed (edited o r)
+pub order-keeps : (o : Order) (r : Record) → Allowed r → Accepted o r → Allowed (edited o r)
 order-keeps = K.order-keeps
 
 -- and every view that it does not name keeps its bits, whatever positions stand before it
@@ -157,9 +222,27 @@ holds-now = H.holds-now
 
 -- ---- UNIQUENESS: two answers that a statement allows are equal, and so are the buffers they leave
 
+-- the calls that write: read, write, trail as numbers and as bytes, remove, join, part
 pub one-answer : {A B : Type 0} {form : List A → List B} {lent : ℕ} {o : Outcome A} {before after₁ after₂ : List B} {a₁ a₂ : Answer}
     → AnswersAs form lent o before after₁ a₁ → AnswersAs form lent o before after₂ a₂ → (a₁ ≡ a₂) × (after₁ ≡ after₂)
 one-answer = O.one-answer
+
+-- the calls whose statement is an equation: a segment's answer
+pub one-segment : (view place : ℕ) (bytes : List ℕ) {a b : Answer} → a ≡ segmentAnswer view place bytes → b ≡ segmentAnswer view place bytes → a ≡ b
+one-segment view place bytes = O.one-value
+
+-- a segment's payload, a part handed back: its bytes are determined
+pub one-payload : (view place : ℕ) (bytes : List ℕ) {x y : List ℕ} → x ≡ payloadOf (payload view place bytes) → y ≡ payloadOf (payload view place bytes)
+    → x ≡ y
+one-payload view place bytes = O.one-value
+
+-- the record that now holds, a part handed back: its bytes are determined
+pub one-record : (old second : List ℕ) (number n : ℕ) {x y : List ℕ} → x ≡ holds old second number n → y ≡ holds old second number n → x ≡ y
+one-record old second number n = O.one-value
+
+-- the same in numbers
+pub one-held : (old second : List ℕ) (number n : ℕ) {a b : Answer} → a ≡ heldAnswer old second number n → b ≡ heldAnswer old second number n → a ≡ b
+one-held old second number n = O.one-value
 
 -- ---- P1 TO P11
 

@@ -71,7 +71,7 @@ order-by o =
     (view-numbers 16 _ (omega arith) (o .view) (λ i. ordered o)) (view-numbers 15 _ (omega arith) (o .view) (λ i. ordered o)) (o .act) λ r.
     pick-case (RefusedBy (numbersOf (o .act))) (eqb (verdict o r) 0) _ _ (λ t. tt) (λ t. first-by (o .act) (allTests o r) (all-by o r) (eqb-no t))
 
-abbrev numbers-room : (a : Act) → T (among (numbersOf a) noRoom)
+numbers-room : (a : Act) → T (among (numbersOf a) noRoom)
 numbers-room a = both (λ ns. T (among ns noRoom)) tt tt a
 
 pub outcome-by : (c : Call) (bytes : List ℕ) → RefusedBy (numbersOf (c .order .act)) (outcome c bytes)
