@@ -26,8 +26,8 @@ fsk_answer plain_join(const uint8_t *record, size_t record_length, uint32_t view
                       uint32_t first, uint32_t second, uint8_t *out, size_t out_length);
 fsk_answer plain_part(const uint8_t *record, size_t record_length, uint32_t view, uint32_t count,
                       uint32_t first, uint32_t second, uint8_t *out, size_t out_length);
-fsk_answer plain_holds(const uint8_t *old, size_t old_length, const uint8_t *second,
-                       size_t second_length, uint32_t number, size_t length);
+fsk_held plain_holds(const uint8_t *old, size_t old_length, const uint8_t *second,
+                     size_t second_length, uint32_t number, size_t length);
 
 /* Refusals as document 01 numbers them. */
 enum {

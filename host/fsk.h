@@ -6,7 +6,7 @@
  * and SEGMENTS of extended data, which the library carries as they are. Views, lines and segments are counted from 0.
  *
  * Every call takes numbers and byte slices (a pointer and a length; an empty slice may have a null pointer) and gives an
- * fsk_answer back. Nothing is asked of the caller: whatever the bytes are, the call answers. It keeps no pointer, allocates
+ * fsk_answer back, fsk_holds an fsk_held. Nothing is asked of the caller: whatever the bytes are, the call answers. It keeps no pointer, allocates
  * nothing, and never reads or writes outside the slices it is lent. An output must not overlap an input.
  *
  * Link with the archive libfsk.a (-lfsk). It holds code for x86-64.
@@ -23,7 +23,7 @@ extern "C" {
 
 /*
  * What a call answers.
- *   number  0: accepted. Anything else: refused, for the reason that the number names (below). fsk_holds alone means it otherwise.
+ *   number  0: accepted. Anything else: refused, for the reason that the number names (below).
  *   place   0, but for an accepted fsk_segment.
  *   length  accepted: how many elements were written to the output (what an element is, each call says). Refused: 0.
  * A refused call leaves the output as it was, to the byte. An accepted one leaves what lies beyond the written elements.
@@ -74,7 +74,7 @@ enum {
 
 /*
  * What a number means, and what to do about it: a sentence that is always there and never null, also for a number that no call
- * answers. Not for the number of fsk_holds, which is no refusal.
+ * answers.
  */
 const char *fsk_text(uint32_t number);
 const char *fsk_advice(uint32_t number);
@@ -155,12 +155,22 @@ fsk_answer fsk_part(const uint8_t *record, size_t record_length, uint32_t view, 
                     uint8_t *second, size_t second_length);
 
 /*
- * Which record now holds after an order: the old one, or what the order wrote to a second buffer. number and length are those of the
- * order's answer. Nothing is written. The answer's number is no refusal here: 1 where the second buffer's first bytes hold, which is
- * so if the order's number is 0 and its length fits the buffer; 0 where the whole old record does. length is how many bytes that is.
+ * The record that now holds after an order.
+ *   second  1: it is the first bytes of the second buffer. 0: it is the whole old record.
+ *   length  how many bytes it has.
  */
-fsk_answer fsk_holds(const uint8_t *old, size_t old_length, const uint8_t *second, size_t second_length, uint32_t number,
-                     size_t length);
+typedef struct {
+    uint32_t second;
+    size_t length;
+} fsk_held;
+
+/*
+ * Which record now holds after an order: the old one, or what the order wrote to a second buffer. number and length are those of the
+ * order's answer. The second buffer's first bytes hold if the order's number is 0 and its length fits the buffer, else the whole old
+ * record does. Nothing is written, and nothing is refused.
+ */
+fsk_held fsk_holds(const uint8_t *old, size_t old_length, const uint8_t *second, size_t second_length, uint32_t number,
+                   size_t length);
 
 #ifdef __cplusplus
 }

@@ -44,13 +44,13 @@ static uint32_t run(const removal *order, state *now)
 {
     const fsk_answer removed = fsk_remove(now->record, now->length, order->view, order->count, order->lines, order->length,
                                           now->second, MOST_RECORD);
-    const fsk_answer holds = fsk_holds(now->record, now->length, now->second, MOST_RECORD, removed.number, removed.length);
-    if (holds.number == 1) {
+    const fsk_held held = fsk_holds(now->record, now->length, now->second, MOST_RECORD, removed.number, removed.length);
+    if (held.second) {
         uint8_t *old = now->record;
         now->record = now->second;
         now->second = old;
     }
-    now->length = holds.length;
+    now->length = held.length;
     return removed.number;
 }
 

@@ -21,7 +21,7 @@
  *                     4 bytes length and that many bytes
  *            4 bytes  size of the lent output in bytes
  *            1 byte   the byte that fills the output before the call
- *            4 bytes  expected number
+ *            4 bytes  expected number; of holds, expected second
  *            4 bytes  expected place
  *            8 bytes  expected length
  *            4 bytes  number of bytes written, then these bytes
@@ -216,6 +216,7 @@ static int library(const test_case *c, fsk_answer *answer)
     uint8_t *out = output_at;
     const size_t out_len = c->out_size;
     uint32_t n[MOST_NUMBERS];
+    fsk_held held;
     for (unsigned i = 0; i < MOST_NUMBERS; i++)
         n[i] = (uint32_t)c->numbers[i];
     (void)in, (void)in_len, (void)also, (void)also_len, (void)out, (void)out_len;
@@ -258,7 +259,8 @@ static int library(const test_case *c, fsk_answer *answer)
 #endif
 #ifdef CALL_HOLDS
     case HOLDS:
-        *answer = fsk_holds(in, in_len, also, also_len, n[0], (size_t)c->numbers[1]);
+        held = fsk_holds(in, in_len, also, also_len, n[0], (size_t)c->numbers[1]);
+        *answer = (fsk_answer){held.second, 0, held.length};
         return 1;
 #endif
     default:

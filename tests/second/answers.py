@@ -98,7 +98,8 @@ def answer_part(view, count, first, second, record):
 
 
 def answer_holds(number, length, old, second):
-    """Number 1: the second buffer's first bytes hold; 0: the whole old record."""
+    """What stands as the number is `second`: 1 where the second buffer's first
+    bytes hold, 0 where the whole old record does."""
     if number == 0 and length <= len(second):
         return Outcome(1, 0, length)
     return Outcome(0, 0, len(old))

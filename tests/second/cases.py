@@ -14,7 +14,7 @@ unsigned and stand high byte first:
                     4 bytes length and that many bytes
            4 bytes  size of the lent output in bytes (0: none, or an empty one)
            1 byte   the byte that fills the output before the call
-           4 bytes  expected number
+           4 bytes  expected number; of holds, expected second
            4 bytes  expected place
            8 bytes  expected length
            4 bytes  number of bytes written, then these bytes; every byte of

@@ -5,8 +5,10 @@ ghost use Rattle.outcome.specs.Outcome.{Answers, AnswersInBytes};
 ghost use Rattle.sheet.specs.Sheet.{reading, writing};
 ghost use Rattle.trail.specs.Trail.{trailing};
 ghost use Rattle.segment.specs.Segment.{segmentAnswer};
-ghost use Rattle.orders.specs.Order.{order, heldAnswer};
+ghost use Rattle.orders.specs.Order.{order};
+ghost use Rattle.order_holds.specs.Held.{held};
 ghost use Rattle.ordering.specs.Orders.{removal, pairOrder};
+use order_holds::Held;
 use order_holds::which_holds;
 use ordering::join;
 use ordering::part;
@@ -101,8 +103,8 @@ pub extern "C" fn fsk_part(
 }
 
 #[no_mangle]
-pub extern "C" fn fsk_holds(old: &[u8], second: &[u8], number: u32, length: usize) -> Answer
-    ensures { λ r. ⌜ r ≡ heldAnswer (now (old .entry)) (now (second .entry)) number length ⌝ }
+pub extern "C" fn fsk_holds(old: &[u8], second: &[u8], number: u32, length: usize) -> Held
+    ensures { λ r. ⌜ r ≡ held (now (old .entry)) (now (second .entry)) number length ⌝ }
 {
     which_holds(old, second, number, length)
 }

@@ -1,16 +1,17 @@
--- Which of the two records holds, by the tests that the code makes.
-use mathlib.Core.Path.{_≡_, refl}
-use mathlib.Core.Logic.{_≢_}
+-- Which of the two records holds, by the tests that the code makes; and that the answer in numbers says where `holds` stands.
+use mathlib.Core.Path.{_≡_, refl, sym, subst}
+use mathlib.Core.Logic.{_≢_, _⊎_, inl, inr}
 use Prim.Native.Nat.{ℕ, _≤_, _<_}
-use mathlib.Core.Bool.{_&&_}
+use mathlib.Core.Bool.{Bool, true, false, _&&_}
 use mathlib.Core.List.{List}
 use lib.ListN.{length, take}
-use lib.Dec.{eqb, leb}
-use mir.Facts.{yes-leb, no-leb}
+use lib.Dec.{T, eqb, leb, leb→le}
+use mir.Facts.{yes-leb, no-leb, and-yes}
 use Rattle.bits.specs.Choice.{pick}
 use Rattle.bits.specs.ChoiceLaws.{T-true, T-false, eqb-true, eqb-false}
-use Rattle.outcome.specs.declared.Answer.{Answer}
-use Rattle.orders.specs.Order.{holds, heldAnswer}
+use Rattle.order_holds.specs.declared.Held.{Held}
+use Rattle.orders.specs.Order.{secondHolds, holds}
+use Rattle.order_holds.specs.Held.{held}
 
 module _ {A : Type 0} (x y : A) (number n m : ℕ) where
   refused : number ≢ 0 → pick (eqb number 0 && leb n m) x y ≡ y
@@ -35,20 +36,39 @@ module _ (old second : List ℕ) (number n : ℕ) where
   unfolding holds
   old-holds e l = too-long (take n second) old number n (length second) e l
 
-  abbrev new : Answer
-  new = record { number = 1; place = 0; length = n }
+  abbrev new : Held
+  new = record { second = 1; length = n }
 
-  abbrev whole : Answer
-  whole = record { number = 0; place = 0; length = length old }
+  abbrev whole : Held
+  whole = record { second = 0; length = length old }
 
-  pub refused-answer : number ≢ 0 → heldAnswer old second number n ≡ whole
-  unfolding heldAnswer
-  refused-answer d = refused new whole number n (length second) d
+  pub refused-held : number ≢ 0 → held old second number n ≡ whole
+  unfolding held
+  refused-held d = refused new whole number n (length second) d
 
-  pub new-answer : number ≡ 0 → n ≤ length second → heldAnswer old second number n ≡ new
-  unfolding heldAnswer
-  new-answer e l = fits new whole number n (length second) e l
+  pub new-held : number ≡ 0 → n ≤ length second → held old second number n ≡ new
+  unfolding held
+  new-held e l = fits new whole number n (length second) e l
 
-  pub old-answer : number ≡ 0 → length second < n → heldAnswer old second number n ≡ whole
-  unfolding heldAnswer
-  old-answer e l = too-long new whole number n (length second) e l
+  pub old-held : number ≡ 0 → length second < n → held old second number n ≡ whole
+  unfolding held
+  old-held e l = too-long new whole number n (length second) e l
+
+  -- ---- what the answer means
+
+  abbrev Says : List ℕ → Held → Type 0
+  Says now h =
+      ((h .second ≡ 1) × (h .length ≤ length second) × (now ≡ take (h .length) second)) ⊎ ((h .second ≡ 0) × (h .length ≡ length old) × (now ≡ old))
+
+  says : (b : Bool) → (T b → n ≤ length second) → Says (pick b (take n second) old) (pick b new whole)
+  says true l = inl (refl, l tt, refl)
+  says false l = inr (refl, refl, refl)
+
+  held-says : Says (holds old second number n) (held old second number n)
+  unfolding holds held
+  held-says = says (secondHolds second number n) (λ t. leb→le n (length second) (and-yes (eqb number 0) (leb n (length second)) t .1))
+
+  pub held-holds : (h : Held) → h ≡ held old second number n
+      → ((h .second ≡ 1) × (h .length ≤ length second) × (holds old second number n ≡ take (h .length) second))
+      ⊎ ((h .second ≡ 0) × (h .length ≡ length old) × (holds old second number n ≡ old))
+  held-holds h e = subst (Says (holds old second number n)) (sym e) held-says

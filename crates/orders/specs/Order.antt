@@ -10,7 +10,6 @@ use Rattle.bits.specs.Choice.{pick}
 use Rattle.bits.specs.Lists.{All, empty?}
 use Rattle.outcome.specs.Refusals.{otherCount, badLines, extended, noIndex, alreadySo, tooLong}
 use Rattle.outcome.specs.Outcome.{Outcome, refused, given}
-use Rattle.outcome.specs.declared.Answer.{Answer}
 use Rattle.format.specs.Limits.{mostBytes}
 use Rattle.format.specs.View.{View}
 use Rattle.format.specs.Record.{Record, write, size}
@@ -85,9 +84,3 @@ secondHolds second number n = eqb number 0 && leb n (length second)
 
 unfoldable pub holds : List ℕ → List ℕ → ℕ → ℕ → List ℕ
 holds old second number n = pick (secondHolds second number n) (take n second) old
-
--- the same for a host that takes numbers alone: 1 where the second buffer's first bytes hold, 0 where the old record does, and its
--- length
-unfoldable pub heldAnswer : List ℕ → List ℕ → ℕ → ℕ → Answer
-heldAnswer old second number n =
-    pick (secondHolds second number n) (record { number = 1; place = 0; length = n }) (record { number = 0; place = 0; length = length old })

@@ -5,7 +5,7 @@
 -- `edited`, `order`, `holds` (orders/specs/Order), `Call`, `run`, `history`, `Follows` (orders/specs/History), `AcceptedCall`
 -- (orders/specs/Accept), `Kept` (orders/specs/Kept, Bytes), `MadeAll` (orders/specs/Made).
 use mathlib.Core.Path.{_≡_}
-use mathlib.Core.Logic.{_≢_}
+use mathlib.Core.Logic.{_≢_, _⊎_}
 use Prim.Native.Nat.{ℕ, _*_, _≤_}
 use mathlib.Core.Bool.{_||_}
 use mathlib.Core.List.{List, [], _∷_, _++_, map}
@@ -52,6 +52,9 @@ use Rattle.orders.proofs.Laws.Keep as K
 use Rattle.orders.proofs.Laws.Sequence as Q
 use Rattle.orders.proofs.Laws.Holds as H
 use Rattle.orders.proofs.Laws.Calls as N
+use Rattle.order_holds.specs.Held.{held}
+use Rattle.order_holds.specs.declared.Held.{Held}
+use Rattle.order_holds.proofs.Laws as W
 use Rattle.promises.specs.Samples.{expected, computed, table}
 use Rattle.promises.proofs.Samples as P
 
@@ -219,6 +222,14 @@ repeated-hour = N.repeated
 pub holds-now : (c : Call) (bytes second : List ℕ)
     → holds bytes (laid second (outcome c bytes)) (numberOf (outcome c bytes)) (lengthOf (outcome c bytes)) ≡ nowHolds bytes (outcome c bytes)
 holds-now = H.holds-now
+
+-- for a host that takes numbers alone: whatever `which_holds` answers, whose contract is the equation with `held`
+-- (order_holds/specs/Held), second is 1 and the record that holds is the second buffer's first bytes, `length` of them; or second is 0
+-- and it is the whole old record, and `length` its length
+pub held-holds : (old second : List ℕ) (number n : ℕ) (h : Held) → h ≡ held old second number n
+    → ((h .second ≡ 1) × (h .length ≤ length second) × (holds old second number n ≡ take (h .length) second))
+    ⊎ ((h .second ≡ 0) × (h .length ≡ length old) × (holds old second number n ≡ old))
+held-holds = W.held-holds
 
 -- ---- UNIQUENESS: two answers that a statement allows are equal, and so are the buffers they leave
 
