@@ -66,7 +66,7 @@ pub fn line_value(s: &[u8], w: Widths) -> bool
     requires { ⌜ (12 ≤ length (now s)) × (length (now s) ≤ 267) × (w .c ≤ 16) × (w .b ≤ 8) × (1 ≤ w .k) × (w .k ≤ 8) ⌝ }
     ensures { λ r. ⌜ Tested (lineValue w) (now (s .entry)) (λ l. length (l .codes) ≡ length (now (s .entry)) - 12) r ⌝ }
 {
-    if !end_right(Cursor { at: 0 }, s, w) {
+    if !end_right(Cursor::start(), s, w) {
         return false;
     }
     if !end_right(Cursor { at: 48 }, s, w) {

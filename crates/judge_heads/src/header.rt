@@ -69,7 +69,7 @@ pub fn header_at(s: &[u8]) -> HeaderAt
     requires { ⌜ (24 ≤ length (now s)) × (length (now s) ≤ 32768) ⌝ }
     ensures { λ r. ⌜ Reads (headerDec (length (now (s .entry)))) (now (s .entry)) 0 (headerAt r) ⌝ }
 {
-    let id = Cursor { at: 0 }.sure(s, 32);
+    let id = Cursor::start().sure(s, 32);
     if id.value != 0x46534B00 {
         return HeaderAt::Refused(Refusal::BAD_IDENTIFIER, 0);
     }

@@ -1,8 +1,8 @@
--- `heads::header::header_at` meets its contract: the fields after one another, the scale by `scale_at`. Of each: its read at its
+-- `judge_heads::header::header_at` meets its contract: the fields after one another, the scale by `scale_at`. Of each: its read at its
 -- place, and the read with its rule.
 use native.Mathlib.Omega.{arith}
 use Prim.Native.Nat.{ℕ}
-use mathlib.Core.Path.{_≡_, refl, ap}
+use mathlib.Core.Path.{_≡_, ap}
 use mathlib.Core.List.{List}
 use lib.ListN.{length}
 use Rattle.bits.specs.CodecLaws.{fixed, ranged}
@@ -18,43 +18,46 @@ use Rattle.judge_heads.proofs.header.header_at.Tie as tie
 abbrev lent : tie.Start → List ℕ
 lent c = c .args .s .now
 
-identifier : (c : tie.After-sure) → FieldAt (lent (c .before .before)) 0 32 (c .sure .result .value) (c .sure .result .next .at)
-identifier c = field-from refl (c .sure .ensures)
+identifier : (c : tie.After-sure) → FieldAt (lent (c .before .before .before)) 0 32 (c .sure .result .value) (c .sure .result .next .at)
+identifier c = field-from (c .before .start .ensures) (c .sure .ensures)
 
-right-identifier : (c : tie.Else1) → Reads (fixed 2 32 0x46534B00 .dec) (lent (c .before .before .before .before)) 0 (found tt 32)
+right-identifier : (c : tie.Else1) → Reads (fixed 2 32 0x46534B00 .dec) (lent (c .before .before .before .before .before)) 0 (found tt 32)
 right-identifier c = fixed-ok 2 32 (identifier (c .before .before) .read 2) 0x46534B00 (c .if1 .left)
 
-version : (c : tie.After-sure2) → FieldAt (lent (c .before .before .before .before .before)) 32 32 (c .sure2 .result .value) (c .sure2 .result .next .at)
+version : (c : tie.After-sure2) → FieldAt (lent (c .before .before .before .before .before .before)) 32 32 (c .sure2 .result .value) (c .sure2 .result .next .at)
 version c = field-from (identifier (c .before .before .before) .behind) (c .sure2 .ensures)
 
-right-version : (c : tie.Else2) → Reads (fixed 3 32 0x30313000 .dec) (lent (c .before .before .before .before .before .before .before)) 32 (found tt 64)
+right-version : (c : tie.Else2) → Reads (fixed 3 32 0x30313000 .dec) (lent (c .before .before .before .before .before .before .before .before)) 32 (found tt 64)
 right-version c = fixed-ok 3 32 (version (c .before .before) .read 3) 0x30313000 (c .if2 .left)
 
-record-length : (c : tie.After-sure3) → FieldAt (lent (c .before .before .before .before .before .before .before .before)) 64 32 (c .sure3 .result .value) (c .sure3 .result .next .at)
+record-length : (c : tie.After-sure3) → FieldAt (lent (c .before .before .before .before .before .before .before .before .before)) 64 32 (c .sure3 .result .value) (c .sure3 .result .next .at)
 record-length c = field-from (version (c .before .before .before) .behind) (c .sure3 .ensures)
 
-right-length : (c : tie.Else3) → Reads (fixed 4 32 (length (lent (c .before .before .before .before .before .before .before .before .before .before))) .dec) (lent (c .before .before .before .before .before .before .before .before .before .before)) 64 (found tt 96)
-right-length c = fixed-ok 4 32 (record-length (c .before .before) .read 4) (length (lent (c .before .before .before .before .before .before .before .before .before .before))) (c .if3 .left)
+right-length : (c : tie.Else3) → Reads (fixed 4 32 (length (lent (c .before .before .before .before .before .before .before .before .before .before .before))) .dec) (lent (c .before .before .before .before .before .before .before .before .before .before .before)) 64 (found tt 96)
+right-length c = fixed-ok 4 32 (record-length (c .before .before) .read 4) (length (lent (c .before .before .before .before .before .before .before .before .before .before .before))) (c .if3 .left)
 
-device : (c : tie.After-sure4) → FieldAt (lent (c .before .before .before .before .before .before .before .before .before .before .before)) 96 16 (c .sure4 .result .value) (c .sure4 .result .next .at)
+device : (c : tie.After-sure4) → FieldAt (lent (c .before .before .before .before .before .before .before .before .before .before .before .before)) 96 16 (c .sure4 .result .value) (c .sure4 .result .next .at)
 device c = field-from (record-length (c .before .before .before) .behind) (c .sure4 .ensures)
 
-views : (c : tie.After-sure5) → FieldAt (lent (c .before .before .before .before .before .before .before .before .before .before .before .before)) 112 8 (c .sure5 .result .value) (c .sure5 .result .next .at)
+views : (c : tie.After-sure5) → FieldAt (lent (c .before .before .before .before .before .before .before .before .before .before .before .before .before)) 112 8 (c .sure5 .result .value) (c .sure5 .result .next .at)
 views c = field-from (device (c .before) .behind) (c .sure5 .ensures)
 
-right-views : (c : tie.Else4) → Reads (ranged 5 8 1 255 .dec) (lent (c .before .before .before .before .before .before .before .before .before .before .before .before .before .before)) 112 (found (c .before .before .sure5 .result .value) 120)
+right-views : (c : tie.Else4) → Reads (ranged 5 8 1 255 .dec) (lent (c .before .before .before .before .before .before .before .before .before .before .before .before .before .before .before)) 112 (found (c .before .before .sure5 .result .value) 120)
 right-views c =
     let h = views (c .before .before) .read 5 in
     ranged-ok 5 8 h 1 255 (omega (arith, c .if4 .left)) (omega (arith, below 5 8 h))
 
-read-scale : (c : tie.After-scale) → Reads (scale 5 .dec) (lent (c .before .before .before .before .before .before .before .before .before .before .before .before .before .before .before .before .before)) 120 (found (c .scale .given .0 .0) (c .scale .given .0 .1 .0 .at))
+read-scale : (c : tie.After-scale) → Reads (scale 5 .dec) (lent (c .before .before .before .before .before .before .before .before .before .before .before .before .before .before .before .before .before .before)) 120 (found (c .scale .given .0 .0) (c .scale .given .0 .1 .0 .at))
 read-scale c = at-place (views (c .before .before .before .before .before) .behind) (known (ap (scaleAt 5) (c .scale .given .1)) (c .before .before .scale-at .ensures 5))
 
 behind-scale : (c : tie.After-scale) → c .scale .given .0 .1 .0 .at ≡ 176
-behind-scale c = scale-behind 5 (omega (arith, c .before .before .before .before .before .before .before .before .before .before .before .before .before .before .before .before .before .pre)) (read-scale c)
+behind-scale c = scale-behind 5 (omega (arith, c .before .before .before .before .before .before .before .before .before .before .before .before .before .before .before .before .before .before .pre)) (read-scale c)
 
-reserved : (c : tie.After-sure6) → FieldAt (lent (c .before .before .before .before .before .before .before .before .before .before .before .before .before .before .before .before .before .before .before)) 176 16 (c .sure6 .result .value) (c .sure6 .result .next .at)
+reserved : (c : tie.After-sure6) → FieldAt (lent (c .before .before .before .before .before .before .before .before .before .before .before .before .before .before .before .before .before .before .before .before)) 176 16 (c .sure6 .result .value) (c .sure6 .result .next .at)
 reserved c = field-from (behind-scale (c .before .before)) (c .sure6 .ensures)
+
+start-requires : tie.Need-start-requires
+start-requires c κs = search needs
 
 sure-requires : tie.Need-sure-requires
 sure-requires c κs = search needs
@@ -71,7 +74,7 @@ returns-2 : tie.Need-returns-2
 unfolding headerDec header
 returns-2 c =
     made _ _ (go-on _ _ (right-identifier (c .before .before .before))
-    (stop _ _ (fixed-bad 3 32 (version (c .before .before) .read 3) 0x30313000 (omega (arith, c .before .before .before .before .before .before .before .pre)) (c .if2 .taken))))
+    (stop _ _ (fixed-bad 3 32 (version (c .before .before) .read 3) 0x30313000 (omega (arith, c .before .before .before .before .before .before .before .before .pre)) (c .if2 .taken))))
 
 sure-requires-3 : tie.Need-sure-requires-3
 sure-requires-3 c κs = search needs
@@ -80,7 +83,7 @@ returns-3 : tie.Need-returns-3
 unfolding headerDec header
 returns-3 c =
     made _ _ (go-on _ _ (right-identifier (c .before .before .before .before .before .before)) (go-on _ _ (right-version (c .before .before .before))
-    (stop _ _ (fixed-bad 4 32 (record-length (c .before .before) .read 4) (length (lent (c .before .before .before .before .before .before .before .before .before .before))) (omega (arith, c .before .before .before .before .before .before .before .before .before .before .pre)) (c .if3 .taken)))))
+    (stop _ _ (fixed-bad 4 32 (record-length (c .before .before) .read 4) (length (lent (c .before .before .before .before .before .before .before .before .before .before .before))) (omega (arith, c .before .before .before .before .before .before .before .before .before .before .before .pre)) (c .if3 .taken)))))
 
 sure-requires-4 : tie.Need-sure-requires-4
 sure-requires-4 c κs = search needs
@@ -92,11 +95,11 @@ returns-4 : tie.Need-returns-4
 unfolding headerDec header
 returns-4 c =
     made _ _ (go-on _ _ (right-identifier (c .before .before .before .before .before .before .before .before .before .before)) (go-on _ _ (right-version (c .before .before .before .before .before .before .before)) (go-on _ _ (right-length (c .before .before .before .before)) (go-on _ _ (device (c .before .before .before) .read 5)
-    (stop _ _ (ranged-low 5 8 (views (c .before .before) .read 5) 1 255 (omega (arith, c .before .before .before .before .before .before .before .before .before .before .before .before .before .before .pre)) (c .if4 .taken)))))))
+    (stop _ _ (ranged-low 5 8 (views (c .before .before) .read 5) 1 255 (omega (arith, c .before .before .before .before .before .before .before .before .before .before .before .before .before .before .before .pre)) (c .if4 .taken)))))))
 
 scale-at-requires : tie.Need-scale-at-requires
 scale-at-requires c κs =
-    omega (arith, views (c .before .before) .behind, c .before .before .before .before .before .before .before .before .before .before .before .before .before .before .pre)
+    omega (arith, views (c .before .before) .behind, c .before .before .before .before .before .before .before .before .before .before .before .before .before .before .before .pre)
 
 enum-known-p : tie.Need-enum-known-p
 enum-known-p c = search needs
@@ -106,14 +109,14 @@ enum-known-scale c = search needs
 
 sure-requires-6 : tie.Need-sure-requires-6
 sure-requires-6 c κs =
-    omega (arith, behind-scale (c .before), c .before .before .before .before .before .before .before .before .before .before .before .before .before .before .before .before .before .before .pre)
+    omega (arith, behind-scale (c .before), c .before .before .before .before .before .before .before .before .before .before .before .before .before .before .before .before .before .before .before .pre)
 
 returns-5 : tie.Need-returns-5
 unfolding headerDec header
 returns-5 c =
     made _ _ (go-on _ _ (right-identifier (c .before .before .before .before .before .before .before .before .before .before .before .before .before .before .before .before .before)) (go-on _ _ (right-version (c .before .before .before .before .before .before .before .before .before .before .before .before .before .before)) (go-on _ _ (right-length (c .before .before .before .before .before .before .before .before .before .before .before)) (go-on _ _ (device (c .before .before .before .before .before .before .before .before .before .before) .read 5)
     (go-on _ _ (right-views (c .before .before .before .before .before .before .before)) (go-on _ _ (up-to (behind-scale (c .before .before .before .before)) (read-scale (c .before .before .before .before)))
-    (fixed-bad 5 16 (reserved (c .before .before) .read 5) 0 (omega (arith, c .before .before .before .before .before .before .before .before .before .before .before .before .before .before .before .before .before .before .before .before .before .pre)) (c .if5 .taken))))))))
+    (fixed-bad 5 16 (reserved (c .before .before) .read 5) 0 (omega (arith, c .before .before .before .before .before .before .before .before .before .before .before .before .before .before .before .before .before .before .before .before .before .before .pre)) (c .if5 .taken))))))))
 
 returns-6 : tie.Need-returns-6
 unfolding headerDec header
@@ -133,6 +136,7 @@ pub header-at-spec : {M : Type 1} → statement M
 header-at-spec =
     tie.close
     (tie.spec
+    start-requires
     sure-requires
     returns
     sure-requires-2
