@@ -6,8 +6,9 @@
  * and SEGMENTS of extended data, which the library carries as they are. Views, lines and segments are counted from 0.
  *
  * Every call takes numbers and byte slices (a pointer and a length; an empty slice may have a null pointer) and gives an
- * fsk_answer back, fsk_holds an fsk_held. Nothing is asked of the caller: whatever the bytes are, the call answers. It keeps no pointer, allocates
- * nothing, and never reads or writes outside the slices it is lent. An output must not overlap an input.
+ * fsk_answer back, fsk_holds an fsk_held. Whatever the bytes and the numbers are, the call answers: all that is asked of
+ * the caller is what a call cannot see, that each pointer is valid for its length and that the output overlaps no input. A call keeps
+ * no pointer, allocates nothing, and never reads or writes outside the slices it is lent.
  *
  * Link with the archive libfsk.a (-lfsk). It holds code for x86-64.
  */
