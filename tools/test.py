@@ -177,7 +177,7 @@ class AProofFilled(unittest.TestCase):
         self.assertIn("inside c = c .before .loop .inv\n", text)
         self.assertIn("unfolding copied\nreturns c =\n    let i = c .before .loop .i in\n        i\n", text)
         self.assertIn("add-i c = search needs\n", text)
-        self.assertIn("use borrow.Author.Needs.{needs}\nuse Rattle.lay", text)
+        self.assertIn("use borrow.Author.Needs.{needs}\nuse Rattle.put_bytes", text)
         self.assertNotIn("-- src/", text)
 
     def test_fill_again(self):
