@@ -3,8 +3,7 @@
  * prints a table. First both are run once on every record: where they do not accept it with the
  * same answer and the same bytes, there is nothing to compare, and the program ends with 1.
  *
- * CALL_READ, CALL_WRITE, CALL_TRAIL, CALL_SEGMENT, CALL_REMOVE, CALL_JOIN and CALL_PART say which
- * calls the archive has. A further call is one BOTH and one row.
+ * A further call is one BOTH and one row.
  */
 #include <inttypes.h>
 #include <stdio.h>
@@ -43,53 +42,25 @@ static volatile size_t kept; /* so that no call can be left out */
         return plain_##name(__VA_ARGS__);                                                         \
     }
 
-#ifdef CALL_READ
 BOTH(read, on->record, on->length, out, room)
-#endif
-#ifdef CALL_WRITE
 BOTH(write, on->sheet, on->sheet_length, out, room)
-#endif
-#ifdef CALL_TRAIL
 BOTH(trail, on->record, on->length, on->view, on->lines - 1, out, room)
-#endif
-#ifdef CALL_SEGMENT
 BOTH(segment, on->record, on->length, on->with_segments, on->segments - 1)
-#endif
-#ifdef CALL_REMOVE
 BOTH(remove, on->record, on->length, on->ordered, on->ordered_lines, on->removed,
      on->removed_length, out, room)
-#endif
-#ifdef CALL_JOIN
 BOTH(join, on->record, on->length, on->ordered, on->ordered_lines, on->strangers[0],
      on->strangers[1], out, room)
-#endif
-#ifdef CALL_PART
 BOTH(part, on->record, on->length, on->ordered, on->ordered_lines, on->neighbours[0],
      on->neighbours[1], out, room)
-#endif
 
 static const row rows[] = {
-#ifdef CALL_READ
     {"read", library_read, by_hand_read, 0},
-#endif
-#ifdef CALL_WRITE
     {"write", library_write, by_hand_write, 0},
-#endif
-#ifdef CALL_TRAIL
     {"trail", library_trail, by_hand_trail, 0},
-#endif
-#ifdef CALL_SEGMENT
     {"segment", library_segment, by_hand_segment, 1},
-#endif
-#ifdef CALL_REMOVE
     {"remove", library_remove, by_hand_remove, 0},
-#endif
-#ifdef CALL_JOIN
     {"join", library_join, by_hand_join, 0},
-#endif
-#ifdef CALL_PART
     {"part", library_part, by_hand_part, 0},
-#endif
     {NULL, NULL, NULL, 0},
 };
 

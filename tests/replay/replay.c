@@ -5,12 +5,10 @@
  * be read during a call. So a stray read or write is caught as a fault, and
  * every byte of an output is compared with what was written or with its fill.
  *
- *     cc -std=c11 -Wall -Wextra -Werror -DCALL_READ -DCALL_TRAIL -I host \
- *        tests/replay/replay.c libhost.a -o replay && ./replay FILE
+ *     cc -std=c11 -Wall -Wextra -Werror -I host tests/replay/replay.c \
+ *        libhost.a -o replay && ./replay FILE
  *
- * CALL_READ, CALL_WRITE, CALL_TRAIL, CALL_SEGMENT, CALL_REMOVE, CALL_JOIN,
- * CALL_PART and CALL_HOLDS say which calls are linked; a case of another call
- * is wrong. All numbers in the file are unsigned, high byte first:
+ * All numbers in the file are unsigned, high byte first:
  *
  *     file   8 bytes "FSKCASES", 4 bytes number of cases, then the cases
  *     case   1 byte   call: 1 read, 2 write, 3 trail, 4 segment, 5 remove,
@@ -43,7 +41,6 @@ enum { READ = 1, WRITE, TRAIL, SEGMENT, REMOVE, JOIN, PART, HOLDS, CALLS };
 enum { MOST_NUMBERS = 4, MOST_INPUTS = 2, MOST_SHOWN = 20 };
 enum { PAGES = 1 << 16, GUARD = 1 << 20 }; /* whole pages of any usual size */
 typedef enum { AT_END, AT_START, EMPTY_AS_NULL } placing;
-typedef enum { CAME_BACK, FAULT, NOT_LINKED } result;
 
 typedef struct { const uint8_t *bytes; size_t length; } slice;
 
@@ -78,7 +75,7 @@ static const uint8_t *volatile fault_address;
 static volatile sig_atomic_t fault_signal;
 static uint32_t shown;
 
-static void stop(const char *why)
+static _Noreturn void stop(const char *why)
 {
     fprintf(stderr, "replay: %s\n", why);
     exit(2);
@@ -208,8 +205,8 @@ static void lend(const test_case *c, placing run)
 
 /* ---- the call ---- */
 
-/* Makes the case's call; 0 if it is not linked. */
-static int library(const test_case *c, fsk_answer *answer)
+/* What the library answers to the case's call. */
+static fsk_answer library(const test_case *c)
 {
     const uint8_t *in = inputs_at[0], *also = inputs_at[1];
     const size_t in_len = c->inputs[0].length, also_len = c->inputs[1].length;
@@ -219,53 +216,26 @@ static int library(const test_case *c, fsk_answer *answer)
     fsk_held held;
     for (unsigned i = 0; i < MOST_NUMBERS; i++)
         n[i] = (uint32_t)c->numbers[i];
-    (void)in, (void)in_len, (void)also, (void)also_len, (void)out, (void)out_len;
-    (void)n, (void)answer;
     switch (c->call) {
-#ifdef CALL_READ
     case READ:
-        *answer = fsk_read(in, in_len, out, out_len);
-        return 1;
-#endif
-#ifdef CALL_WRITE
+        return fsk_read(in, in_len, out, out_len);
     case WRITE:
-        *answer = fsk_write(in, in_len, out, out_len);
-        return 1;
-#endif
-#ifdef CALL_TRAIL
+        return fsk_write(in, in_len, out, out_len);
     case TRAIL:
-        *answer = fsk_trail(in, in_len, n[0], n[1], out, out_len);
-        return 1;
-#endif
-#ifdef CALL_SEGMENT
+        return fsk_trail(in, in_len, n[0], n[1], out, out_len);
     case SEGMENT:
-        *answer = fsk_segment(in, in_len, n[0], n[1]);
-        return 1;
-#endif
-#ifdef CALL_REMOVE
+        return fsk_segment(in, in_len, n[0], n[1]);
     case REMOVE:
-        *answer = fsk_remove(in, in_len, n[0], n[1], also, also_len, out, out_len);
-        return 1;
-#endif
-#ifdef CALL_JOIN
+        return fsk_remove(in, in_len, n[0], n[1], also, also_len, out, out_len);
     case JOIN:
-        *answer = fsk_join(in, in_len, n[0], n[1], n[2], n[3], out, out_len);
-        return 1;
-#endif
-#ifdef CALL_PART
+        return fsk_join(in, in_len, n[0], n[1], n[2], n[3], out, out_len);
     case PART:
-        *answer = fsk_part(in, in_len, n[0], n[1], n[2], n[3], out, out_len);
-        return 1;
-#endif
-#ifdef CALL_HOLDS
+        return fsk_part(in, in_len, n[0], n[1], n[2], n[3], out, out_len);
     case HOLDS:
         held = fsk_holds(in, in_len, also, also_len, n[0], (size_t)c->numbers[1]);
-        *answer = (fsk_answer){held.second, 0, held.length};
-        return 1;
-#endif
-    default:
-        return 0;
+        return (fsk_answer){held.second, 0, held.length};
     }
+    stop("a case has an unknown call");
 }
 
 static void on_fault(int signal_number, siginfo_t *info, void *context)
@@ -297,15 +267,15 @@ static void catch_faults(void)
             stop("faults cannot be caught");
 }
 
-static result guarded_call(const test_case *c, fsk_answer *answer)
+/* Makes the case's call; 0 if it ended with a fault. */
+static int guarded_call(const test_case *c, fsk_answer *answer)
 {
-    int linked;
     if (sigsetjmp(after_fault, 0) != 0)
-        return FAULT;
+        return 0;
     in_call = 1;
-    linked = library(c, answer);
+    *answer = library(c);
     in_call = 0;
-    return linked ? CAME_BACK : NOT_LINKED;
+    return 1;
 }
 
 /* ---- what is wrong ---- */
@@ -350,14 +320,8 @@ static int run_is_wrong(uint32_t index, const test_case *c, placing run)
 {
     fsk_answer found = {0, 0, 0};
     lend(c, run);
-    switch (guarded_call(c, &found)) {
-    case NOT_LINKED:
-        return wrong(index, c, run, "the call is not linked");
-    case FAULT:
+    if (!guarded_call(c, &found))
         return fault_is_wrong(index, c, run);
-    case CAME_BACK:
-        break;
-    }
     if (found.number != c->number || found.place != c->place || found.length != c->length)
         return wrong(index, c, run,
                      "expected number %" PRIu32 " place %" PRIu32 " length %" PRIu64
@@ -378,12 +342,7 @@ static int run_is_wrong(uint32_t index, const test_case *c, placing run)
  * written, must give the lent bytes back, in just the room that they take. */
 static int has_way_back(const test_case *c)
 {
-#if defined CALL_READ && defined CALL_WRITE
     return c->number == 0 && (c->call == READ || c->call == WRITE);
-#else
-    (void)c;
-    return 0;
-#endif
 }
 
 static test_case way_back(const test_case *c)

@@ -2,6 +2,8 @@
 
     python3 tests/second/cases.py --calls read,trail --seed 1 --count 20000 --out FILE
 
+Instead of names, --calls takes `orders` (the orders, whose sequences mix them,
+and holds) or `others`; without it all calls are taken.
 The same seed, calls and count give the same file. All numbers in the file are
 unsigned and stand high byte first:
 
@@ -46,6 +48,8 @@ MUST_MEET = {
     "part": {0, 13, 14, 15, 17, 18, 19, 20} | OF_A_RECORD,
     "holds": {0, 1},
 }
+ORDERS = ["remove", "join", "part", "holds"]
+GROUPS = {"orders": ORDERS, "others": [call for call in CALLS if call not in ORDERS]}
 
 
 def case_bytes(case, places):
@@ -93,7 +97,7 @@ def arguments():
     parser.add_argument("--places", action="store_true")
     parser.add_argument("--out", required=True)
     chosen = parser.parse_args()
-    chosen.calls = chosen.calls.split(",")
+    chosen.calls = GROUPS.get(chosen.calls) or chosen.calls.split(",")
     for call in chosen.calls:
         if call not in CALLS:
             parser.error("no call %s; there are %s" % (call, ", ".join(CALLS)))
