@@ -5,6 +5,7 @@ use crate::view::ViewWorth;
 use crate::view::view_values;
 use check_value::header::HeaderWorth;
 use check_value::header::header_value;
+use format::Header;
 
 mod view; // a view
 
@@ -30,7 +31,7 @@ pub fn values(s: &[u8]) -> Valued
     let mut seen = [0u8; 11];
     let mut p = end;
     let mut views: usize = 0;
-    let mut bytes: usize = 24;
+    let mut bytes: usize = Header::BYTES;
     while p < s.len() {
         let ViewWorth::Right(view) = view_values(s, p, w, &seen) else {
             return Valued::Wrong;

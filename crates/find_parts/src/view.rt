@@ -3,6 +3,7 @@ ghost use Prim.Native.Nat.{_+_, _≤_};
 ghost use lib.ListN.{length};
 ghost use Rattle.find_parts.specs.Finds.{BlockFound, BlocksThere, BlocksFound, ViewThere, ViewFound};
 use bits::Cursor;
+use format::Header;
 
 // A part of the bytes: from its first byte up to the byte behind it.
 pub struct Part {
@@ -51,7 +52,7 @@ pub fn view_at(s: &[u8], i: usize) -> usize
     requires { ⌜ ViewThere (now s) i ⌝ }
     ensures { λ r. ⌜ ViewFound (now (s .entry)) i r ⌝ }
 {
-    let mut a: usize = 24;
+    let mut a: usize = Header::BYTES;
     let mut n: usize = 0;
     while n < i {
         let blocks = blocks_at(s, a + 8);

@@ -23,8 +23,10 @@ pub struct Header {
     pub scale: Scale,
 }
 
-// The bytes of a record.
+// The header's own bytes, behind which the first view starts; and a record's, at least and at most.
 impl Header {
+    pub const BYTES: usize = 24;
+
     pub const LEAST_BYTES: usize = 24;
 
     pub const MOST_BYTES: usize = 32768;

@@ -7,7 +7,7 @@ ghost use Rattle.trail.specs.Trail.{trailing};
 ghost use Rattle.segment.specs.Segment.{segmentAnswer};
 ghost use Rattle.orders.specs.Order.{order};
 ghost use Rattle.order_holds.specs.Held.{held};
-ghost use Rattle.ordering.specs.Orders.{removal, pairOrder};
+ghost use Rattle.orders.specs.Called.{removal, pairOrder};
 use order_holds::Held;
 use order_holds::which_holds;
 use ordering::join;

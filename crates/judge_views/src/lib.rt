@@ -7,6 +7,7 @@ ghost use Rattle.judge_blocks.specs.Answers.{reached};
 ghost use Rattle.judge_views.specs.Views.{viewsDec, sheetBytes};
 use bits::Cursor;
 use bits::Taken;
+use format::Header;
 use format::ViewHeader;
 use format::Widths;
 use judge_blocks::Reached;
@@ -33,7 +34,7 @@ pub fn judge_views(s: &[u8], w: Widths, count: usize) -> Reached
 {
     let mut answer = Reached::At { next: 0, size: 0 };
     let mut seen = [0u8; 11];
-    let mut a: usize = 24;
+    let mut a: usize = Header::BYTES;
     let mut size: usize = 0;
     let mut v: usize = 0;
     'views: while v < count {

@@ -1,6 +1,7 @@
 // A record's listing, printed: `refused N`, or a line with length and views and one for each view.
 ghost use Prim.Native.Nat.{_≤_, _<_};
 ghost use Rattle.list_text.specs.Views.{ViewsThere};
+use format::Header;
 use format::Widths;
 use judge::Verdict;
 use judge::judge;
@@ -74,7 +75,7 @@ fn view_line(v: Listed)
 fn view_lines(s: &[u8], w: Widths, count: usize)
     requires { ⌜ ViewsThere w count (now s) ⌝ }
 {
-    let mut a: usize = 24;
+    let mut a: usize = Header::BYTES;
     let mut i: usize = 0;
     while i < count {
         let v = listed_at(s, a, w);

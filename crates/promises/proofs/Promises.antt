@@ -40,7 +40,7 @@ use Rattle.segment.specs.Segment.{payload, payloadOf, segmentAnswer}
 use Rattle.segment.proofs.Numbers as SegmentNumbers
 use Rattle.orders.specs.Least.{leastWidth}
 use Rattle.orders.specs.Act.{remove, join, part}
-use Rattle.orders.specs.Order.{Order, edited, Accepted, order, holds, heldAnswer}
+use Rattle.orders.specs.Order.{Order, edited, Accepted, order, holds}
 use Rattle.orders.specs.History.{Call, outcome, nowHolds, run}
 use Rattle.orders.specs.Accept.{AcceptedCall}
 use Rattle.orders.specs.Kept.{Kept}
@@ -252,7 +252,7 @@ pub one-record : (old second : List ℕ) (number n : ℕ) {x y : List ℕ} → x
 one-record old second number n = O.one-value
 
 -- the same in numbers
-pub one-held : (old second : List ℕ) (number n : ℕ) {a b : Answer} → a ≡ heldAnswer old second number n → b ≡ heldAnswer old second number n → a ≡ b
+pub one-held : (old second : List ℕ) (number n : ℕ) {a b : Held} → a ≡ held old second number n → b ≡ held old second number n → a ≡ b
 one-held old second number n = O.one-value
 
 -- ---- P1 TO P11

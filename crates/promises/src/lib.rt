@@ -1,6 +1,6 @@
 // What the library promises. The samples of document 01 are in specs/, the promises and their proofs in proofs/. The functions here
 // make calls one behind the other, as demands 2 and 3 have them, so that it is proved of what runs.
-ghost use Rattle.ordering.specs.Orders.{removal};
+ghost use Rattle.orders.specs.Called.{removal};
 ghost use Rattle.promises.specs.Calls.{RecordBack, SheetBack, OnlyOnce};
 use order_holds::now_holds;
 use ordering::remove;

@@ -5,6 +5,7 @@ ghost use lib.ListN.{length};
 ghost use Rattle.put_bytes.specs.Laid.{Laid};
 ghost use Rattle.read_views.specs.SheetOuts.{headerField, ViewsThere, ViewsOut, SheetThere, SheetOut};
 use crate::view::view_out;
+use format::Header;
 use format::Widths;
 use put_bytes::copy;
 use put_bytes::put_three;
@@ -25,7 +26,7 @@ fn views_out(out: &mut [u8], s: &[u8], w: Widths, count: usize) -> usize
     requires { ⌜ ViewsThere w count (now s) (length (now out)) ⌝ }
     ensures { λ r. ⌜ ViewsOut (now (s .entry)) (now (out .entry)) (now (out .exit)) r ⌝ }
 {
-    let mut p: usize = 24;
+    let mut p: usize = Header::BYTES;
     let mut i: usize = 0;
     let mut at: usize = 0;
     while i < count {

@@ -1,5 +1,6 @@
 // Runs the library's calls on each file that an argument names, and prints what came of it: the listing, the sheet's length, the
 // trails of the first lines of each view and the lengths of its first segments.
+use format::Header;
 use judge::Verdict;
 use judge::judge;
 use list_text::number;
@@ -106,7 +107,7 @@ fn of_file(path: &[u8]) {
         os::fail(path);
         return;
     }
-    let mut buffer = [0u8; 32769];
+    let mut buffer = [0u8; Header::MOST_BYTES + 1];
     let n = io::read_full(fd, &mut buffer);
     libc::close(fd);
     text(path);

@@ -5,7 +5,7 @@ use Rattle.bits.specs.Bytes.{Byte}
 use Rattle.bits.proofs.Laws.Place.{all-bytes}
 use Rattle.outcome.proofs.Laws.{answer-there}
 use Rattle.orders.proofs.Laws.Calls.{repeated}
-use Rattle.ordering.specs.Orders.{removal}
+use Rattle.orders.specs.Called.{removal}
 use borrow.Author.Needs.{needs}
 use Rattle.promises.proofs.remove_twice.Statement.{statement}
 use Rattle.promises.proofs.remove_twice.Tie as tie
