@@ -13,3 +13,4 @@ pub mod SizedLaws
 pub mod Bytes
 pub mod BytesLaws
 pub mod Reads
+pub mod OfBlock

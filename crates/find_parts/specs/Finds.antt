@@ -90,12 +90,6 @@ pub record LinesPassed (w : Widths) (s : List ℕ) (most : ℕ) (r : Passed) : T
 abbrev pub segmentStored : Segment → List ℕ
 segmentStored g = two (g .kind) ++ (two (4 + length (g .payload)) ++ g .payload)
 
-pub record SegmentsThere (s : List ℕ) : Type 0 where
-  pub short : length s ≤ 65535
-  pub value : List Segment
-  pub left : Bits
-  pub reads : segments .dec (bitsOf s) ≡ got value left
-
 -- those from byte a on are gs, and u is left behind them
 pub record SegmentsLeft (s : List ℕ) (a : ℕ) (gs : List Segment) (u : Bits) : Type 0 where
   pub fuel : ℕ

@@ -1,11 +1,13 @@
 // Segments of an extended block: each is passed by its length.
-ghost use Rattle.find_parts.specs.Finds.{SegmentsThere, SegmentsPassed};
+ghost use Rattle.bits.specs.OfBlock.{BlockThere};
+ghost use Rattle.format.specs.Segments.{segments};
+ghost use Rattle.find_parts.specs.Finds.{SegmentsPassed};
 use crate::Passed;
 use bits::Cursor;
 
 // The first segments of the block s: so many, or all where there are fewer.
 pub fn pass_segments(s: &[u8], most: usize) -> Passed
-    requires { ⌜ SegmentsThere (now s) ⌝ }
+    requires { ⌜ BlockThere segments (now s) ⌝ }
     ensures { λ r. ⌜ SegmentsPassed (now (s .entry)) most r ⌝ }
 {
     let mut next: usize = 0;

@@ -7,9 +7,7 @@ use mathlib.Core.Option.{Option, none, some}
 use mathlib.Core.List.{List}
 use lib.ListN.{length}
 use Rattle.bits.specs.Lists.{total}
-use Rattle.bits.specs.Bits.{Bits}
-use Rattle.bits.specs.Bytes.{bitsOf}
-use Rattle.bits.specs.Codec.{got}
+use Rattle.bits.specs.OfBlock.{OfBlock}
 use Rattle.format.specs.Index.{Index, indexBlock}
 use Rattle.format.specs.View.{View}
 use Rattle.format.specs.declared.Widths.{Widths}
@@ -24,14 +22,8 @@ abbrev pub entries : Option Index → ℕ
 entries none = 0
 entries (some i) = total length (i .lists)
 
-pub record IndexThere (lines : ℕ) (s : List ℕ) : Type 0 where
-  pub short : length s ≤ 65535
-  pub value : Option Index
-  pub left : Bits
-  pub reads : indexBlock lines .dec (bitsOf s) ≡ got value left
-
-pub record PairsCounted (lines : ℕ) (s : List ℕ) (n : ℕ) : Type 0 where
-  pub is : (o : Option Index) (u : Bits) → indexBlock lines .dec (bitsOf s) ≡ got o u → n ≡ entries o
+abbrev pub PairsCounted : (lines : ℕ) → List ℕ → ℕ → Type 0
+PairsCounted lines s n = OfBlock (indexBlock lines) s (λ o. n ≡ entries o)
 
 -- ---- the view that starts at byte a
 

@@ -1,6 +1,8 @@
 // The numbers of the listing for one view of an accepted record. The judge has accepted the view, so that its parts are counted by the
 // lengths and counts that it states.
-ghost use Rattle.list_numbers.specs.Counts.{IndexThere, PairsCounted, ListedThere, ListedAt};
+ghost use Rattle.bits.specs.OfBlock.{BlockThere};
+ghost use Rattle.format.specs.Index.{indexBlock};
+ghost use Rattle.list_numbers.specs.Counts.{PairsCounted, ListedThere, ListedAt};
 use bits::Cursor;
 use find_parts::line::pass_lines;
 use find_parts::segments::pass_segments;
@@ -21,7 +23,7 @@ pub struct Listed {
 
 // The pairs in the index block s of a view with so many lines: each line's count is read, and its differences are passed.
 fn count_pairs(s: &[u8], lines: usize) -> usize
-    requires { ⌜ IndexThere lines (now s) ⌝ }
+    requires { ⌜ BlockThere (indexBlock lines) (now s) ⌝ }
     ensures { λ r. ⌜ PairsCounted lines (now (s .entry)) r ⌝ }
 {
     if s.len() == 0 {

@@ -11,16 +11,17 @@ use Rattle.bits.specs.Codec.{got}
 use Rattle.bits.specs.BytesLaws.{length-bitsOf, length-in}
 use Rattle.bits.specs.CodecLaws.{encAll}
 use Rattle.bits.specs.Block.{Block}
+use Rattle.bits.specs.OfBlock.{BlockThere}
 use Rattle.bits.proofs.Laws.Parts.{part, part-length}
 use Rattle.format.specs.Limits.{mostLines}
 use Rattle.format.specs.Line.{Line, line, skeleton}
 use Rattle.format.specs.Index.{Index, indexBlock}
-use Rattle.format.specs.Segments.{Segment, segments}
+use Rattle.format.specs.Segments.{segments}
 use Rattle.format.specs.View.{View}
 use Rattle.format.specs.declared.Widths.{Widths}
 use Rattle.format.specs.Record.{Record}
 use Rattle.find_parts.specs.Stands.{BlockAt, BlocksAt, ViewAt, ViewIn, BlocksIn}
-use Rattle.find_parts.specs.Finds.{BlockFound, BlocksThere, BlocksFound, SegmentsThere}
+use Rattle.find_parts.specs.Finds.{BlockFound, BlocksThere, BlocksFound}
 use Rattle.find_parts.specs.declared.view.Part.{Part}
 use Rattle.find_parts.specs.declared.view.Blocks.{Blocks}
 use Rattle.find_parts.proofs.Laws.Prefixed.{block-end}
@@ -113,5 +114,5 @@ blocks-in I F =
       segments = segments-here B F;
     }
 
-pub segments-there : {s : List ℕ} {a e : ℕ} {gs : List Segment} → length s ≤ 32768 → BlockAt segments s a e gs → SegmentsThere (cut s a e)
-segments-there {gs = gs} k h = record { short = omega (arith, cut-long h, h .within, k); value = gs; left = []; reads = h .value }
+pub block-there : {A : Type 0} {b : Block A} {s : List ℕ} {a e : ℕ} {v : A} → length s ≤ 32768 → BlockAt b s a e v → BlockThere b (cut s a e)
+block-there {v = v} k h = record { short = omega (arith, cut-long h, h .within, k); value = v; left = []; reads = h .value }

@@ -15,6 +15,7 @@ use Rattle.bits.specs.Bits.{Bits, bitsOfNumber}
 use Rattle.bits.specs.BitsLaws.{length-bits}
 use Rattle.bits.specs.Bytes.{Byte, bitsOf}
 use Rattle.bits.specs.Codec.{fieldDec}
+use Rattle.bits.specs.OfBlock.{BlockThere}
 use Rattle.bits.specs.Reads.{found, Reads}
 use Rattle.bits.proofs.Laws.Parts.{part-bytes}
 use Rattle.outcome.specs.Refusals.{badView}
@@ -28,11 +29,11 @@ use Rattle.format.specs.Places.{segmentBits}
 use Rattle.find_parts.specs.Finds.{BlocksFound, LinesThere, LinesPassed, SegmentsPassed}
 use Rattle.find_parts.specs.declared.view.Blocks.{Blocks}
 use Rattle.find_parts.specs.declared.Passed.{Passed}
-use Rattle.find_parts.proofs.Laws.Blocks.{cut, cut-long, lines-here, index-here, segments-here, no-index}
+use Rattle.find_parts.proofs.Laws.Blocks.{cut, cut-long, block-there, lines-here, index-here, segments-here, no-index}
 use Rattle.find_parts.proofs.Laws.Lines.{none-left, lines-counted}
 use Rattle.find_parts.proofs.Laws.Segments.{segments-none}
 use Rattle.list_numbers.specs.Listing.{Listed, listed}
-use Rattle.list_numbers.specs.Counts.{entries, IndexThere, PairsCounted, ListedThere, pairsOf}
+use Rattle.list_numbers.specs.Counts.{entries, PairsCounted, ListedThere, pairsOf}
 use Rattle.find_parts.proofs.Laws.Standing.{stands-behind, number-there}
 use Rattle.find_parts.proofs.Laws.Index.{an-index}
 
@@ -69,9 +70,9 @@ segments-counted {s} {a} {e} {gs} {r} bytes h P =
     let far : length (cut s a e) ≤ r .next = split (e - a) (r .count) (λ k. omega (arith, cut-long h, segments-wide (take (r .count) gs))) (λ k. P .all k) in
     none-left gs (r .count) c (segments-none (part-bytes s a (e - a) bytes) left far)
 
-pairs-listed : {lines : ℕ} {s : List ℕ} {a e n : ℕ} {o : Option Index} → BlockAt (indexBlock lines) s a e o → PairsCounted lines (cut s a e) n
+pairs-listed : (lines : ℕ) {s : List ℕ} {a e n : ℕ} {o : Option Index} → BlockAt (indexBlock lines) s a e o → PairsCounted lines (cut s a e) n
     → pairsOf (ltb a e) n ≡ Option·map (λ (i : Index). total length (i .lists)) o
-pairs-listed {lines} {s} {a} {e} {n} {o} h P =
+pairs-listed lines {s} {a} {e} {n} {o} h P =
     let z : n ≡ entries o = P .is o [] (h .value) in
     split e a
     (λ k. let q = no-index lines (cut s a e) (omega (arith, cut-long h)) (h .value) in rw (le-ltb a e k, q))
@@ -100,14 +101,8 @@ module _ {w : Widths} {s : List ℕ} {a : ℕ} (T : ListedThere w s a) where
     lines-there =
         record { narrow = T .narrow; short = omega (arith, cut-long lines-at, lines-at .within, T .short); value = T .value .lines; left = []; reads = lines-at .value }
 
-    pub index-there : {l : Passed} → LinesPassed w (cut s (x .skeleton .from) (x .skeleton .to)) 1024 l → IndexThere (l .count) (cut s (x .index .from) (x .index .to))
-    index-there L =
-        record {
-          short = omega (arith, cut-long index-at, index-at .within, T .short);
-          value = T .value .index;
-          left = [];
-          reads = rw (lines-counted lines-at L) (index-at .value);
-        }
+    pub index-there : {l : Passed} → LinesPassed w (cut s (x .skeleton .from) (x .skeleton .to)) 1024 l → BlockThere (indexBlock (l .count)) (cut s (x .index .from) (x .index .to))
+    index-there L = rw (lines-counted lines-at L) (block-there (T .short) index-at)
 
 pub listed-is : {w : Widths} {s : List ℕ} {a : ℕ} {v : View} {x : Blocks} {l g : Passed} {n m p q t : ℕ} → All Byte s → (at : ViewAt w s a v) → BlocksFound s (a + 8) x
     → Reads (fieldDec badView 8) s (8 * a) (found n q) → Reads (fieldDec badView 8) s (8 * a + 8) (found m t)
@@ -118,4 +113,4 @@ listed-is {s = s} {v = v} {x = x} {l = l} {g = g} {n = n} {m = m} {p = p} bytes 
     let z : l .count ≡ length (v .lines) = lines-counted (lines-here (at .blocks) F) L in
     let index : BlockAt (indexBlock (l .count)) s (x .index .from) (x .index .to) (v .index) = rw z (index-here (at .blocks) F) in
     same-listed (record { position = m; number = n; lines = l .count; pairs = pairsOf (ltb (x .index .from) (x .index .to)) p; segments = g .count }) (listed v)
-    (position-is at M) (number-is at N) z (pairs-listed index P) (segments-counted bytes (segments-here (at .blocks) F) G)
+    (position-is at M) (number-is at N) z (pairs-listed (l .count) index P) (segments-counted bytes (segments-here (at .blocks) F) G)

@@ -4,7 +4,7 @@ use Rattle.bits.specs.Lists.{All}
 use Rattle.bits.specs.Bytes.{Byte}
 use Rattle.bits.proofs.Laws.Place.{all-bytes}
 use Rattle.outcome.specs.Refusals.{badView}
-use Rattle.find_parts.proofs.Laws.Blocks.{blocks-there, segments-there, behind-is}
+use Rattle.find_parts.proofs.Laws.Blocks.{blocks-there, block-there, behind-is}
 use Rattle.list_numbers.proofs.Laws.Listing.{head-there, lines-at, index-at, segments-at, lines-there, index-there, listed-is}
 use Rattle.list_numbers.proofs.listed_at.Statement.{statement}
 use Rattle.list_numbers.proofs.listed_at.Tie as tie
@@ -90,7 +90,7 @@ sub-pass-segments-2 c =
 
 pass-segments-requires : tie.Need-pass-segments-requires
 pass-segments-requires c κs =
-    segments-there (c .before .before .before .before .before .before .before .before .before .pre .short) (segments-at (c .before .before .before .before .before .before .before .before .before .pre) (c .before .before .before .before .before .blocks-at .ensures))
+    block-there (c .before .before .before .before .before .before .before .before .before .pre .short) (segments-at (c .before .before .before .before .before .before .before .before .before .pre) (c .before .before .before .before .before .blocks-at .ensures))
 
 returns : tie.Need-returns
 returns c =

@@ -6,7 +6,7 @@ use Rattle.bits.specs.Lists.{All}
 use Rattle.bits.specs.Bytes.{Byte}
 use Rattle.bits.proofs.Laws.Place.{all-bytes}
 use Rattle.outcome.specs.Refusals.{badSegment}
-use Rattle.find_parts.proofs.Laws.Blocks.{segments-there}
+use Rattle.find_parts.proofs.Laws.Blocks.{block-there}
 use Rattle.find_view.specs.Found.{ViewFound, Stands}
 use Rattle.find_view.specs.declared.FoundView.{FoundView}
 use Rattle.find_view.proofs.Laws.{short}
@@ -48,20 +48,20 @@ part-block-end c =
 
 pass-segments-requires : tie.Need-pass-segments-requires
 pass-segments-requires c κs =
-    let h = stands (c .before .before) in segments-there (short h) (h .blocks .segments)
+    let h = stands (c .before .before) in block-there (short h) (h .blocks .segments)
 
 mul-t20 : tie.Need-mul-t20
 mul-t20 c =
-    let h = stands (c .before .before .before .before .before .before) in omega (arith, segments-there (short h) (h .blocks .segments) .short, c .before .if1 .taken)
+    let h = stands (c .before .before .before .before .before .before) in omega (arith, block-there (short h) (h .blocks .segments) .short, c .before .if1 .taken)
 
 add-t21 : tie.Need-add-t21
 add-t21 c =
-    let h = stands (c .before .before .before .before .before .before) in omega (arith, segments-there (short h) (h .blocks .segments) .short, c .before .if1 .taken)
+    let h = stands (c .before .before .before .before .before .before) in omega (arith, block-there (short h) (h .blocks .segments) .short, c .before .if1 .taken)
 
 sure-requires : tie.Need-sure-requires
 sure-requires c κs =
     let h = stands (c .before .before .before .before .before .before) in
-    (segments-there (short h) (h .blocks .segments) .short, omega arith, omega (arith, header-there h (c .before .before .before .pass-segments .ensures) (bytes (c .before .before .before .before .before .before .before .before .before)) (c .before .if1 .taken)))
+    (block-there (short h) (h .blocks .segments) .short, omega arith, omega (arith, header-there h (c .before .before .before .pass-segments .ensures) (bytes (c .before .before .before .before .before .before .before .before .before)) (c .before .if1 .taken)))
 
 add-start : tie.Need-add-start
 add-start c =
