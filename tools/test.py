@@ -1,6 +1,6 @@
 """Tests of the proof loop's parts that work on texts: what rt says taken apart, a function's places, a proof file filled
-from its answers, names that are not used. They need no rt and take no time; that the loop fits the toolchain shows in
-every proof made with it.
+from its answers and compared with them, names that are not used. They need no rt and take no time; that the loop fits the
+toolchain shows in every proof made with it.
 """
 import os
 import sys
@@ -11,7 +11,7 @@ from pathlib import Path
 sys.dont_write_bytecode = True
 sys.path.insert(0, str(Path(__file__).resolve().parent))
 
-from proofloop import alike, answers, names, said, skeleton, tidy, times
+from proofloop import agree, alike, answers, names, said, skeleton, tidy, times
 from proofloop.places import Places
 from proofloop.tree import Stop, Tree
 
@@ -160,7 +160,7 @@ class ThePlaces(unittest.TestCase):
 
 
 def filled(frame, given=ANSWERS):
-    return answers.fill(skeleton.parse(frame), answers.parse(given), Places(LTS))
+    return answers.fill(skeleton.parse(frame), answers.parse(given), Places(LTS), "copy.ans")
 
 
 class AProofFilled(unittest.TestCase):
@@ -173,6 +173,7 @@ class AProofFilled(unittest.TestCase):
 
     def test_fill(self):
         text = filled(PRINTED)
+        self.assertEqual(text.split("\n")[0], "-- Made by tools/proof fill from answers/copy.ans: change it there.")
         self.assertIn("Inv-loop src i₀ i =\n    i ≤ length src\n", text)
         self.assertIn("inside c = c .before .loop .inv\n", text)
         self.assertIn("unfolding copied\nreturns c =\n    let i = c .before .loop .i in\n        i\n", text)
@@ -200,6 +201,109 @@ class AProofFilled(unittest.TestCase):
         frame, given = skeleton.parse(PRINTED), answers.parse("## returns-2\na\n")
         self.assertEqual(answers.unknown(frame, given), ["returns-2"])
         self.assertEqual(answers.searched(frame, given), ["two-at-requires", "add-i", "returns"])
+
+
+MET = "## ways Joined1\nmet : A\nmet c =\n# 0\nf («=») «At-loop»\n# 1\ng «Start»\n# 2\nh\n"
+
+
+class AProofAndItsAnswers(unittest.TestCase):
+    def agree(self, given, proof):
+        self.assertIsNone(agree.disagreement("copy.ans", given, proof))
+
+    def differ(self, given, proof, words):
+        found = agree.disagreement("copy.ans", given, proof)
+        self.assertIsNotNone(found)
+        self.assertRegex(found[1], words)
+
+    def changed(self, text, old, new):
+        """A text with a change in one place."""
+        self.assertEqual(text.count(old), 1)
+        return text.replace(old, new)
+
+    def test_filled(self):
+        for given in (ANSWERS, MET, ANSWERS + MET, "", "## returns\nf (a, b)\n"):
+            self.agree(given, filled(PRINTED, given))
+
+    def test_layout(self):
+        given = "## returns\nf (a, record { b = c })\n"
+        spread = "(\n  a,\n  record {\n    b = c;\n  },\n)"
+        self.agree(given, self.changed(filled(PRINTED, given), "(a, record { b = c })", spread))
+
+    def test_an_answer_changed(self):
+        for old, new in (("inside (c)", "inside (d)"), ("i ≤ length", "i < length"), ("    i\n", "    i j\n"),
+                         ("unfolding copied\n", ""), ("c = «At-loop»", "c = c"), ("-- The", "-- A")):
+            self.differ(self.changed(ANSWERS, old, new), filled(PRINTED), "^here is")
+
+    def test_a_proof_changed(self):
+        proof = filled(PRINTED)
+        for old, new in (("inside (c)", "inside (d)"), ("add-i c = search needs", "add-i c = omega arith"),
+                         ("        i\n", "        j\n"), ("unfolding copied\n", "unfolding copied f\n"),
+                         ("c .before .loop .inv", "d .before .loop .inv")):
+            self.differ(ANSWERS, self.changed(proof, old, new), "^here is")
+
+    def test_where(self):
+        proof = self.changed(filled(PRINTED), "inside (c)", "inside (d)")
+        line, words = agree.disagreement("copy.ans", self.changed(ANSWERS, "inside (c)", "(«Start»)"), proof)
+        self.assertEqual(proof.split("\n")[line - 1], "    inside (d)")
+        self.assertRegex(words, r"^here is `inside \(d\) add-i : .* \.\.`, and the answers give `\(«Start»\) add-i : .* \.\.`$")
+
+    def test_a_path_changed(self):
+        given = "## returns\nf «Start» «At-loop» «At-loop»\n## two-at-requires\ng «Start» «At-loop»\n"
+        proof = filled(PRINTED, given)
+        self.agree(given, proof)
+        for need, old, new in (("f", " .before .before c .before c .before", " .before .before c .before c"),
+                               ("g", " .before .before c .before", " .before .before .before c .before")):
+            changed = self.changed(proof, f"{need} c{old}\n", f"{need} c{new}\n")
+            self.differ(given, changed, "path to «At-loop» does not fit")
+        other = filled(PRINTED, given.replace("«At-loop»", "«Start»"))
+        self.differ(given, other, "path to «At-loop» does not fit the file's other paths: 2 times")
+
+    def test_an_answer_missing(self):
+        proof = filled(PRINTED)
+        self.differ(ANSWERS.partition("## returns")[0], proof, "the answers give `returns c = search needs")
+        self.differ(self.changed(ANSWERS, "## two-at-requires\ninside (c)\n", ""), proof, "the answers give `search needs ")
+        given = ANSWERS.partition("## returns")[0]
+        self.differ(f"{given}## add-i\na\n", filled(PRINTED, given), "here is `search needs .*the answers give `a ")
+
+    def test_a_need_left_over(self):
+        self.differ(ANSWERS + "## returns-2\na\n", filled(PRINTED), "asks for no returns-2")
+        proof = self.changed(filled(PRINTED), "\nreturns : ", "\nold : tie.Need-old\nold c = search needs\n\nreturns : ")
+        self.differ(ANSWERS, proof, "here is `old : tie.Need-old")
+
+    def test_use_lines(self):
+        line, proof = "use lib.ListN.{length}\n", filled(PRINTED)
+        self.differ(ANSWERS, self.changed(proof, line, "use lib.ListN.{length, drop}\n"), "here is `, drop}")
+        self.differ(self.changed(ANSWERS, line, ""), proof, "here is `lib.ListN")
+
+    def test_the_first_line(self):
+        self.differ(ANSWERS, filled(PRINTED).partition("\n")[2], "the answers give `Made by")
+        self.differ(ANSWERS, filled(PRINTED).replace("copy.ans", "find.ans"), "the answers give `answers/copy.ans")
+
+    def test_ways(self):
+        proof = filled(PRINTED, MET)
+        for old, new in (("    g ", "    h "), ("f (x .2)", "f x"), ("    h))", "    h a))"), ("met : A", "met : B")):
+            self.differ(MET, self.changed(proof, old, new), "^here is")
+        self.differ(self.changed(MET, "# 2\nh\n", ""), proof, "^here is")
+
+    def test_by_hand(self):
+        self.assertIsNone(agree.by_hand("f c = c" + " .before" * 4 + " .args\n"))
+        self.assertEqual(agree.by_hand("f c =\n    c" + " .before" * 5 + "\n"), (2, "walks back 5 places, and has no answers"))
+        self.assertEqual(agree.by_hand(filled(PRINTED)), (1, "there is no answers/copy.ans"))
+
+    def test_crate(self):
+        with tempfile.TemporaryDirectory() as top:
+            Path(top, "crates.txt").write_text("a:\n")
+            tree = Tree(top)
+            tree.write(tree.proof("a", "copy"), filled(PRINTED))
+            tree.write(tree.answers("a", "copy"), ANSWERS)
+            tree.write(tree.proof("a", "m/copy"), filled(PRINTED).replace("copy.ans", "m.copy.ans"))
+            tree.write(tree.answers("a", "m/copy"), ANSWERS)
+            tree.write(tree.proof("a", "whole"), "whole-spec H = ?\n")
+            self.assertEqual(agree.crate(tree, "a"), [])
+            tree.write(tree.answers("a", "whole"), "## returns\n")
+            tree.write(tree.answers("a", "gone"), "## returns\n")
+            found = [(path.parent.name, words[:20]) for path, _, words in agree.crate(tree, "a")]
+        self.assertEqual(found, [("answers", "there is no crates/a"), ("whole", "the proof file does ")])
 
 
 def unused(text):

@@ -8,6 +8,8 @@ from dataclasses import dataclass, field
 from .skeleton import NEEDS
 from .tree import Stop
 
+MADE = "-- Made by tools/proof fill from answers/{}: change it there."  # a proof file's first line
+
 HELP = """\
 Writes proofs/FN/Proof.antt from crates/CRATE/answers/FN.ans (`/` in FN as `.`). The proof file must be there, as
 `tools/proof skel` wrote it or filled before: its declarations and their order stay, and the answers are put in anew.
@@ -56,13 +58,13 @@ def parse(text):
     return answers
 
 
-def fill(skeleton, answers, places):
-    """The proof file."""
+def fill(skeleton, answers, places, source):
+    """The proof file, made from the answers file of that name."""
     helpers = [helper(skeleton, places, *entry) for entry in answers.helpers]
     invariants = [invariant(part, answers) for part in skeleton.invariants]
     needs = [need(part, answers, places) for part in skeleton.needs]
     body = "\n\n".join(invariants + helpers + needs)
-    head = answers.head.split("\n") if answers.head else []
+    head = [MADE.format(source), *(answers.head.split("\n") if answers.head else [])]
     uses = [line for line in skeleton.uses if line != NEEDS]
     if "search needs" in body and NEEDS not in head:
         uses.insert(0, NEEDS)

@@ -21,12 +21,15 @@ class Tree:
 
     # ---- files
 
+    def crates(self):
+        """The names of all crates, bottom up."""
+        lines = (line.partition("#")[0] for line in self.read(self.top / "crates.txt").splitlines())
+        return [line.partition(":")[0].strip() for line in lines if ":" in line]
+
     def crate(self, name):
         """A crate's folder."""
-        lines = (line.partition("#")[0] for line in self.read(self.top / "crates.txt").splitlines())
-        listed = [line.partition(":")[0].strip() for line in lines if ":" in line]
-        if name not in listed:
-            raise Stop(f"crates.txt lists no crate {name}; it lists {' '.join(listed)}")
+        if name not in self.crates():
+            raise Stop(f"crates.txt lists no crate {name}; it lists {' '.join(self.crates())}")
         return self.top / "crates" / name
 
     def proof(self, crate, fn):
