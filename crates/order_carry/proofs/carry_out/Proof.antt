@@ -1,3 +1,4 @@
+-- Made by tools/proof fill from answers/carry_out.ans: change it there.
 -- The new record is measured; it is too long, there is no room for it, or it is put.
 use Rattle.bits.specs.Lists.{All}
 use Rattle.bits.specs.Bytes.{Byte}

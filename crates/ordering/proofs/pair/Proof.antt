@@ -1,3 +1,4 @@
+-- Made by tools/proof fill from answers/pair.ans: change it there.
 -- The view, then the order on it.
 use mathlib.Core.Path.{refl, subst}
 use Rattle.outcome.proofs.Laws.{answer-refused}

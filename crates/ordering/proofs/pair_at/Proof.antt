@@ -1,3 +1,4 @@
+-- Made by tools/proof fill from answers/pair_at.ans: change it there.
 -- The order's own tests, then the new record.
 use native.Mathlib.Omega.{arith}
 use Prim.Native.Nat.{min, max}

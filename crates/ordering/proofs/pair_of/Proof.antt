@@ -1,3 +1,4 @@
+-- Made by tools/proof fill from answers/pair_of.ans: change it there.
 -- The higher line and the lower one.
 use native.Mathlib.Omega.{arith}
 use mathlib.Core.Path.{ap₂}

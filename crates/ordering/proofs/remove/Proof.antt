@@ -1,3 +1,4 @@
+-- Made by tools/proof fill from answers/remove.ans: change it there.
 -- The view, then the removal's own tests, then the new record.
 use mathlib.Core.Path.{_≡_, sym, _∙_, subst}
 use mathlib.Core.Bool.{true}

@@ -1,3 +1,4 @@
+-- Made by tools/proof fill from answers/index.index_put.ans: change it there.
 -- The width, then the lists at it.
 use native.Mathlib.Omega.{arith}
 use mathlib.Core.Path.{_≡_, refl, subst}

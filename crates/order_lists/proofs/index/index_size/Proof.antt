@@ -1,3 +1,4 @@
+-- Made by tools/proof fill from answers/index.index_size.ans: change it there.
 -- The lists are measured at the block's width; their largest number gives the new one.
 use native.Mathlib.Omega.{arith}
 use mathlib.Core.Path.{_≡_, subst}

@@ -1,3 +1,4 @@
+-- Made by tools/proof fill from answers/list.list_put.ans: change it there.
 -- Bits kept free, then line by line, then the count into them. The invariant holds of whatever lines the list has: the differences of
 -- those that stay are put, and counted.
 use native.Mathlib.Omega.{arith}

@@ -1,3 +1,4 @@
+-- Made by tools/proof fill from answers/lists.list_at.ans: change it there.
 -- The count is read, and the differences follow it.
 use native.Mathlib.Omega.{arith}
 use mathlib.Core.Path.{_≡_, refl, ap}

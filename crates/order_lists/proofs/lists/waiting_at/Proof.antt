@@ -1,3 +1,4 @@
+-- Made by tools/proof fill from answers/lists.waiting_at.ans: change it there.
 -- Only in the list of the higher line, and only where it joins.
 use mathlib.Core.Path.{sym, ap, _∙_}
 use mathlib.Core.Bool.{Bool}

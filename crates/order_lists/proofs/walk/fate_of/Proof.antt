@@ -1,3 +1,4 @@
+-- Made by tools/proof fill from answers/walk.fate_of.ans: change it there.
 -- The line that is left out, then those that the removal names.
 use native.Mathlib.Omega.{arith}
 use mathlib.Core.Path.{sym, ap, _∙_}

@@ -1,3 +1,4 @@
+-- Made by tools/proof fill from answers/walk.step_on.ans: change it there.
 -- At the end of the block's list the waiting line is left; else the block's next line is read, and the waiting one may come before it.
 use native.Mathlib.Omega.{arith}
 use mathlib.Core.Path.{_≡_}

@@ -1,3 +1,4 @@
+-- Made by tools/proof fill from answers/width.least_width.ans: change it there.
 -- Width by width, up to 16. The invariant: no width before this one holds the number.
 use native.Mathlib.Omega.{arith}
 use Prim.Native.Nat.{_-_, _^_, _≤_}

@@ -1,3 +1,4 @@
+-- Made by tools/proof fill from answers/measure.lists_size.ans: change it there.
 -- No index stays none; one that is there is sized.
 use Rattle.order_record.proofs.Laws.Index.{lists-none, with-index, index-there, lists-some}
 use Rattle.order_record.proofs.measure.lists_size.Statement.{statement}

@@ -1,3 +1,4 @@
+-- Made by tools/proof fill from answers/measure.measure.ans: change it there.
 -- Each block is measured; the rest of the record is as long as it was.
 use native.Mathlib.Omega.{arith}
 use Rattle.bits.specs.Lists.{All}

@@ -1,3 +1,4 @@
+-- Made by tools/proof fill from answers/measure.skeleton_size.ans: change it there.
 -- A pair order leaves the block as it is; a removal leaves the lines that are counted.
 use Rattle.order_record.proofs.Laws.Skeleton.{lines-there, skeleton-same, skeleton-kept}
 use Rattle.order_record.proofs.measure.skeleton_size.Statement.{statement}

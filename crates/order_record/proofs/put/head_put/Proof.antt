@@ -1,3 +1,4 @@
+-- Made by tools/proof fill from answers/put.head_put.ans: change it there.
 -- Its parts, one behind the other.
 use Rattle.put_bytes.proofs.Laws.{laid-next}
 use borrow.Author.Needs.{needs}

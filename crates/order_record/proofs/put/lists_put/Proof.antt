@@ -1,3 +1,4 @@
+-- Made by tools/proof fill from answers/put.lists_put.ans: change it there.
 -- Its length, then the block, where there is one.
 use native.Mathlib.Omega.{arith}
 use lib.ListN.{length-take, length-drop}

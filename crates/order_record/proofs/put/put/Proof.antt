@@ -1,3 +1,4 @@
+-- Made by tools/proof fill from answers/put.put.ans: change it there.
 -- Its parts, one behind the other: the first bytes, the two blocks, and the rest from the extended length on.
 use native.Mathlib.Omega.{arith}
 use lib.ListN.{length-take, length-drop}

@@ -1,3 +1,4 @@
+-- Made by tools/proof fill from answers/put.skeleton_put.ans: change it there.
 -- Its length, then the block: copied, or with the lines that are left.
 use native.Mathlib.Omega.{arith}
 use lib.ListN.{length-take, length-drop}
