@@ -1,3 +1,4 @@
+-- Made by tools/proof fill from answers/code_right.ans: change it there.
 -- `worth::line::code_right` meets its contract: the lowest k bits, and by the top one of them what they extend to.
 use native.Mathlib.Omega.{arith}
 use native.Mathlib.Nat.{mod-lt}

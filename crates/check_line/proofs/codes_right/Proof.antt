@@ -1,3 +1,4 @@
+-- Made by tools/proof fill from answers/codes_right.ans: change it there.
 -- `worth::line::codes_right` meets its contract. The loop's invariant: the codes before byte i are right, so what is read from there
 -- is what is read of them all. The measure is the bytes left.
 use native.Mathlib.Omega.{arith}

@@ -1,3 +1,4 @@
+-- Made by tools/proof fill from answers/end_right.ans: change it there.
 -- `worth::line::end_right` meets its contract: four reads, then the four tests in the format's order.
 use native.Mathlib.Omega.{arith}
 use Prim.Native.Nat.{_+_, _^_}

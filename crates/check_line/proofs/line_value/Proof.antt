@@ -1,3 +1,4 @@
+-- Made by tools/proof fill from answers/line_value.ans: change it there.
 -- `check_line::line_value` meets its contract: the start, the finish, then the codes up to the field's end.
 use Prim.Native.Nat.{ℕ, _+_}
 use mathlib.Core.Path.{subst}

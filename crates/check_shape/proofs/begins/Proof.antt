@@ -1,3 +1,4 @@
+-- Made by tools/proof fill from answers/begins.ans: change it there.
 -- A field with the tag stands there, and so do the two bytes of its length.
 use mathlib.Core.Path.{sym, _∙_}
 use native.Mathlib.Omega.{arith}

@@ -1,3 +1,4 @@
+-- Made by tools/proof fill from answers/index_end.ans: change it there.
 -- Test by test: an 04 or none, its length, its lists.
 use borrow.Author.Tests.{not-true, not-false}
 use mathlib.Core.Path.{subst}

@@ -1,3 +1,4 @@
+-- Made by tools/proof fill from answers/pass.ans: change it there.
 -- Field by field. The invariant is which fields are left, whatever fields stand from byte p on; the measure is the bytes that are
 -- left.
 use mathlib.Core.Path.{_≡_, sym, _∙_, subst}

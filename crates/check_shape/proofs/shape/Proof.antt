@@ -1,3 +1,4 @@
+-- Made by tools/proof fill from answers/shape.ans: change it there.
 -- View by view. The invariant is which views are left, whatever fields stand behind the 01; the measure is the bytes that are left.
 use borrow.Author.Tests.{not-true, not-false}
 use mathlib.Core.Path.{subst}

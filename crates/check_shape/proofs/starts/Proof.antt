@@ -1,3 +1,4 @@
+-- Made by tools/proof fill from answers/starts.ans: change it there.
 -- The first field's tag is the byte where the field stands.
 use Rattle.check_shape.proofs.Laws.Stand.{tag-tells, none-starts}
 use borrow.Author.Needs.{needs}

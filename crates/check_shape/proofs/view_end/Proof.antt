@@ -1,3 +1,4 @@
+-- Made by tools/proof fill from answers/view_end.ans: change it there.
 -- Test by test: the 02, the lines, the index, the segments. Each stands where the one before has ended.
 use borrow.Author.Tests.{not-true, not-false}
 use mathlib.Core.Path.{subst}

@@ -1,3 +1,4 @@
+-- Made by tools/proof fill from answers/values.ans: change it there.
 -- `values::values` meets its contract: the header, then view by view. The loop's invariant: the views before this byte are right and
 -- take so many bytes, whatever views stand behind the 01. The measure is the bytes left.
 use Prim.Native.Nat.{_+_, _-_, _≤_}

@@ -1,3 +1,4 @@
+-- Made by tools/proof fill from answers/find_view.ans: change it there.
 -- The judge's verdict, then the view.
 use native.Mathlib.Omega.{arith}
 use mathlib.Core.Path.{subst}

@@ -1,3 +1,4 @@
+-- Made by tools/proof fill from answers/judge.ans: change it there.
 -- The header, then the views, and what may be left behind them.
 use native.Mathlib.Omega.{arith}
 use Prim.Native.Nat.{_≤_}

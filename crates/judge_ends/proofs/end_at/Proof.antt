@@ -1,3 +1,4 @@
+-- Made by tools/proof fill from answers/end_at.ans: change it there.
 -- `blocks::line::end_at` meets its contract: four fields, each read behind the one before. A field that passes the end of the block
 -- gives its own place.
 use native.Mathlib.Omega.{arith}

@@ -1,3 +1,4 @@
+-- Made by tools/proof fill from answers/zeros_at.ans: change it there.
 -- `blocks::line::zeros_at` meets its contract. The loop's invariant: reading zero bits from the cursor on gives what it gives from
 -- the start, as the bits between were zero. The measure is the bits left.
 use native.Mathlib.Omega.{arith}

@@ -1,3 +1,4 @@
+-- Made by tools/proof fill from answers/judge_views.ans: change it there.
 -- Three loops, left by one label from every depth: each way out is met at one place, with what it says of the views.
 use native.Mathlib.Omega.{arith}
 use native.Mathlib.Numerals.{add-one}

@@ -1,3 +1,4 @@
+-- Made by tools/proof fill from answers/count_pairs.ans: change it there.
 -- List by list. The invariant is which lists are left, whatever index the block has; the measure is how many lines are left.
 use Prim.Native.Nat.{_+_, _-_, _*_, _≤_, _<_}
 use native.Mathlib.Omega.{arith}

@@ -1,3 +1,4 @@
+-- Made by tools/proof fill from answers/listed_at.ans: change it there.
 -- The view is there, and code finds its header and its blocks; each count is that of what its block reads as.
 use native.Mathlib.Omega.{arith}
 use Rattle.bits.specs.Lists.{All}

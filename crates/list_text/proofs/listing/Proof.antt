@@ -1,3 +1,4 @@
+-- Made by tools/proof fill from answers/listing.ans: change it there.
 -- The judge's verdict, and then the views.
 use mathlib.Core.Path.{ap, subst}
 use Rattle.format.specs.declared.Header.{Header}

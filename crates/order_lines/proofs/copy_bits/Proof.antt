@@ -1,3 +1,4 @@
+-- Made by tools/proof fill from answers/copy_bits.ans: change it there.
 -- Up to sixteen bits at a time. The invariant: the bits up to here are put.
 use native.Mathlib.Omega.{arith}
 use mathlib.Core.Path.{_≡_, refl}

@@ -1,3 +1,4 @@
+-- Made by tools/proof fill from answers/lines_right.ans: change it there.
 -- The list number by number. The loop's invariant: what is left of it is as right as the whole.
 use mathlib.Core.Path.{sym}
 use Prim.Native.Nat.{_-_}

@@ -1,3 +1,4 @@
+-- Made by tools/proof fill from answers/rank_of.ans: change it there.
 -- Halving: the loop's invariant says between which bounds the answer is.
 use Prim.Native.Nat.{_+_, _-_, _/_, _<_}
 use mathlib.Core.Path.{_≡_, _∙_}

@@ -1,3 +1,4 @@
+-- Made by tools/proof fill from answers/named_view.ans: change it there.
 -- The view, and then its count.
 use mathlib.Core.Path.{subst}
 use Rattle.find_view.specs.Found.{ViewFound, Stands}

@@ -1,3 +1,4 @@
+-- Made by tools/proof fill from answers/read_then_write.ans: change it there.
 -- The sheet that was read is written.
 use Rattle.bits.specs.Lists.{All}
 use Rattle.bits.specs.Bytes.{Byte}

@@ -1,3 +1,4 @@
+-- Made by tools/proof fill from answers/remove_twice.ans: change it there.
 -- What the first call leaves is what the second is lent.
 use mathlib.Core.Path.{refl}
 use Rattle.bits.specs.Lists.{All}

@@ -1,3 +1,4 @@
+-- Made by tools/proof fill from answers/write_then_read.ans: change it there.
 -- The record that was written is read.
 use Rattle.bits.specs.Lists.{All}
 use Rattle.bits.specs.Bytes.{Byte}

@@ -1,3 +1,4 @@
+-- Made by tools/proof fill from answers/add_at.ans: change it there.
 -- The byte is below 256, so that the sum has no overflow.
 use native.Mathlib.Omega.{arith}
 use mathlib.Core.Path.{ap}

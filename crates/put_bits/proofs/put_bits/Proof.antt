@@ -1,3 +1,4 @@
+-- Made by tools/proof fill from answers/put_bits.ans: change it there.
 -- The first one, two or three bytes of the window are stored: as many as the number reaches into.
 use mathlib.Core.Path.{_≡_}
 use Prim.Native.Nat.{ℕ, suc, _+_, _/_, _%_, _≤_, _<_}

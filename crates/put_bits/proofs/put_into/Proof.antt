@@ -1,3 +1,4 @@
+-- Made by tools/proof fill from answers/put_into.ans: change it there.
 -- The number is added to the one, two or three bytes that it reaches into.
 use native.Mathlib.Omega.{arith}
 use mathlib.Core.Path.{_≡_}

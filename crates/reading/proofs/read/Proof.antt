@@ -1,3 +1,4 @@
+-- Made by tools/proof fill from answers/read.ans: change it there.
 -- The judge's verdict, and then the writer's bytes.
 use native.Mathlib.Omega.{arith}
 use mathlib.Core.Path.{subst}

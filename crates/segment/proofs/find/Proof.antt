@@ -1,3 +1,4 @@
+-- Made by tools/proof fill from answers/find.ans: change it there.
 -- The view, and then its segments. Code stops at the segment of that place or at the block's end, and the laws say what either means.
 use Prim.Native.Nat.{_+_}
 use native.Mathlib.Omega.{arith}

@@ -1,3 +1,4 @@
+-- Made by tools/proof fill from answers/payload.ans: change it there.
 -- Each case of what is found is a part of the record: the payload's, or one with no bytes.
 use native.Mathlib.Omega.{arith}
 use mathlib.Core.Path.{subst}

@@ -1,3 +1,4 @@
+-- Made by tools/proof fill from answers/segment.ans: change it there.
 -- Each case of what is found is an answer; the payload's first bit is among a record's bits, so that it fits.
 use native.Mathlib.Omega.{arith}
 use mathlib.Core.Path.{subst}

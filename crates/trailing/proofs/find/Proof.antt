@@ -1,3 +1,4 @@
+-- Made by tools/proof fill from answers/find.ans: change it there.
 -- The view, and then the line: lines are passed up to the one that is asked for; there is none, or its walk is found.
 use native.Mathlib.Omega.{arith}
 use mathlib.Core.Path.{ap₂, subst}

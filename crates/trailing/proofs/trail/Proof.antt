@@ -1,3 +1,4 @@
+-- Made by tools/proof fill from answers/trail.ans: change it there.
 -- What is found, and then its elements, as numbers.
 use native.Mathlib.Omega.{arith}
 use mathlib.Core.Path.{subst}

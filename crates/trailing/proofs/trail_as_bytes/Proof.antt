@@ -1,3 +1,4 @@
+-- Made by tools/proof fill from answers/trail_as_bytes.ans: change it there.
 -- What is found, and then its elements, as bytes.
 use native.Mathlib.Omega.{arith}
 use mathlib.Core.Path.{subst}

@@ -1,3 +1,4 @@
+-- Made by tools/proof fill from answers/walk_at.ans: change it there.
 -- The line is there, so its start, its count and its codes are; the heading and what the codes draw are the trail's.
 use native.Mathlib.Omega.{arith}
 use mathlib.Core.Path.{_≡_}

@@ -1,3 +1,4 @@
+-- Made by tools/proof fill from answers/in_order.ans: change it there.
 -- The fields, then the grammar over them.
 use mathlib.Core.Path.{_≡_, subst}
 use mathlib.Core.Bool.{Bool}

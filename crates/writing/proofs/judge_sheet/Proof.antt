@@ -1,3 +1,4 @@
+-- Made by tools/proof fill from answers/judge_sheet.ans: change it there.
 -- Test by test: fields and grammar, the values, the record's size.
 use borrow.Author.Tests.{not-true, not-false}
 use native.Mathlib.Omega.{arith}

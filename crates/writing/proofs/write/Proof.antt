@@ -1,3 +1,4 @@
+-- Made by tools/proof fill from answers/write.ans: change it there.
 -- The judge of the sheet, and then the writer's bytes.
 use native.Mathlib.Omega.{arith}
 use mathlib.Core.Path.{subst}

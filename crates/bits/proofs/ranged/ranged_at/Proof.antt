@@ -1,3 +1,4 @@
+-- Made by tools/proof fill from answers/ranged.ranged_at.ans: change it there.
 -- `bits::ranged::ranged_at` meets its contract: a field of 8 bits, then the two tests of its range. Whichever fails, the refusal is
 -- at the byte.
 use native.Mathlib.Omega.{arith}

@@ -1,3 +1,4 @@
+-- Made by tools/proof fill from answers/index.index_values.ans: change it there.
 -- `values::index::index_values` meets its contract: nothing, or the width and then the lists, each as it is told.
 use Prim.Native.Nat.{_+_, _-_}
 use mathlib.Core.Path.{_≡_, subst}

@@ -1,3 +1,4 @@
+-- Made by tools/proof fill from answers/run.line_values.ans: change it there.
 -- `values::run::line_values` meets its contract. The loop's invariant: the lines before this byte are right and take so many bits,
 -- whatever fields stand from byte p on. The measure is the bytes left.
 use Prim.Native.Nat.{_+_, _-_, _≤_}

@@ -1,3 +1,4 @@
+-- Made by tools/proof fill from answers/run.list_values.ans: change it there.
 -- `values::run::list_values` meets its contract. The loop's invariant: the lists before this byte are right and take so many bits,
 -- whatever fields stand from byte p on. The measure is the bytes left.
 use Prim.Native.Nat.{ℕ, _+_, _-_, _%_, _≤_}

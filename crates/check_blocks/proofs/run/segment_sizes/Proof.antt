@@ -1,3 +1,4 @@
+-- Made by tools/proof fill from answers/run.segment_sizes.ans: change it there.
 -- `values::run::segment_sizes` meets its contract. The loop's invariant: what the segments before this byte take, whatever fields
 -- stand from byte p on. The measure is the bytes left.
 use Prim.Native.Nat.{_+_, _-_, _≤_}

@@ -1,3 +1,4 @@
+-- Made by tools/proof fill from answers/header.head_value.ans: change it there.
 -- `worth::header::head_value` meets its contract: a view header's fields, up to the field's end.
 use native.Mathlib.Omega.{arith}
 use mathlib.Core.Path.{ap}

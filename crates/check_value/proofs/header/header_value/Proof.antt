@@ -1,3 +1,4 @@
+-- Made by tools/proof fill from answers/header.header_value.ans: change it there.
 -- `worth::header::header_value` meets its contract: two bytes, then the scale up to the field's end.
 use native.Mathlib.Omega.{arith}
 use mathlib.Core.Path.{ap}

@@ -1,3 +1,4 @@
+-- Made by tools/proof fill from answers/list.list_value.ans: change it there.
 -- `worth::list::list_value` meets its contract. The loop's invariant: the neighbours before byte i are right, so the test of the rest
 -- says what the test of them all says. The measure is the bytes left.
 use native.Mathlib.Omega.{arith}

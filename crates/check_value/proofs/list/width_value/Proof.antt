@@ -1,3 +1,4 @@
+-- Made by tools/proof fill from answers/list.width_value.ans: change it there.
 -- `worth::list::width_value` meets its contract: one byte with a range, which is the whole field.
 use native.Mathlib.Omega.{arith}
 use mathlib.Core.Path.{ap}

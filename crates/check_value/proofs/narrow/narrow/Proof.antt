@@ -1,3 +1,4 @@
+-- Made by tools/proof fill from answers/narrow.narrow.ans: change it there.
 -- `worth::narrow::narrow` meets its contract: a shift of 1 that loses no bit is the power.
 use native.Mathlib.Omega.{arith}
 use native.Mathlib.Nat.{one-mul}

@@ -1,3 +1,4 @@
+-- Made by tools/proof fill from answers/view.view_values.ans: change it there.
 -- `values::view::view_values` meets its contract: the header, the lines, the index, the segments, each as it is told. Each stands
 -- where the one before has ended.
 use Prim.Native.Nat.{ℕ, _+_, _-_, _≤_}

@@ -1,3 +1,4 @@
+-- Made by tools/proof fill from answers/site.site_at.ans: change it there.
 -- The view is there, and its lines are counted.
 use native.Mathlib.Omega.{arith}
 use mathlib.Core.List.{[]}

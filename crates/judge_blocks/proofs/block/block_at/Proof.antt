@@ -1,3 +1,4 @@
+-- Made by tools/proof fill from answers/block.block_at.ans: change it there.
 -- `blocks::block::block_at` meets its contract: the length is read where it is there, and the block behind it is as long as it says.
 use native.Mathlib.Omega.{arith}
 use Prim.Native.Nat.{_-_, _+_, _*_}

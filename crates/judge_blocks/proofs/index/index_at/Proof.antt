@@ -1,3 +1,4 @@
+-- Made by tools/proof fill from answers/index.index_at.ans: change it there.
 -- `blocks::index::index_at` meets its contract: the block is found by `block_at`, and `judge_index` judges it by itself.
 use native.Mathlib.Omega.{arith}
 use Prim.Native.Nat.{ℕ, _-_}

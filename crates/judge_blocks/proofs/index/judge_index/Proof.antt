@@ -1,3 +1,4 @@
+-- Made by tools/proof fill from answers/index.judge_index.ans: change it there.
 -- `blocks::index::judge_index` meets its contract. `loop` goes over the lists, `loop2` over a list's differences. The invariants: from
 -- the cursor on, the loop's values give what all of them give from their first on, with the bytes of the lists before in `size`; so
 -- what stops a loop is what the whole block is refused for. A list has at most 65,535 numbers, 131,073 bytes in the sheet, so `size`

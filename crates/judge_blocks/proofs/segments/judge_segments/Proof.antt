@@ -1,3 +1,4 @@
+-- Made by tools/proof fill from answers/segments.judge_segments.ans: change it there.
 -- `judge_segments` meets its contract. The loop's invariant: the answer from here on, with the bytes of the n segments passed added,
 -- is the whole answer; a segment takes fewer bytes than the bits it has.
 use native.Mathlib.Omega.{arith}

@@ -1,3 +1,4 @@
+-- Made by tools/proof fill from answers/segments.segments_at.ans: change it there.
 -- `blocks::segments::segments_at` meets its contract: the block is found by `block_at`, and `judge_segments` judges it by itself.
 use native.Mathlib.Omega.{arith}
 use Prim.Native.Nat.{ℕ, _-_}

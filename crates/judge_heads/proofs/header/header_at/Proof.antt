@@ -1,3 +1,4 @@
+-- Made by tools/proof fill from answers/header.header_at.ans: change it there.
 -- `judge_heads::header::header_at` meets its contract: the fields after one another, the scale by `scale_at`. Of each: its read at its
 -- place, and the read with its rule.
 use native.Mathlib.Omega.{arith}

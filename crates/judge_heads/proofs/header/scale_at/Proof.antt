@@ -1,3 +1,4 @@
+-- Made by tools/proof fill from answers/header.scale_at.ans: change it there.
 -- `heads::header::scale_at` meets its contract: seven bytes, each read behind the one before. A byte that is refused gives its own
 -- place.
 use native.Mathlib.Omega.{arith}

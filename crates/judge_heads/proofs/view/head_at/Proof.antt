@@ -1,3 +1,4 @@
+-- Made by tools/proof fill from answers/view.head_at.ans: change it there.
 -- `heads::view::head_at` meets its contract: there is room for the header, its fields are read by `head_fields`, and the skeleton's
 -- length stands behind them.
 use native.Mathlib.Omega.{arith}

@@ -1,3 +1,4 @@
+-- Made by tools/proof fill from answers/view.head_fields.ans: change it there.
 -- `heads::view::head_fields` meets its contract: six reads, then the four tests in the format's order. A number that is not right
 -- gives its own place.
 use native.Mathlib.Omega.{arith}

@@ -1,3 +1,4 @@
+-- Made by tools/proof fill from answers/view.blocks_out.ans: change it there.
 -- The view's blocks are there, and the code finds them. What their writers lay, one behind the other, is what is asked.
 use native.Mathlib.Omega.{arith}
 use mathlib.Core.List.{[]}

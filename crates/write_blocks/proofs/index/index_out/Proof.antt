@@ -1,3 +1,4 @@
+-- Made by tools/proof fill from answers/index.index_out.ans: change it there.
 -- No index where no 04 is; else its width, then its lists.
 use native.Mathlib.Omega.{arith}
 use mathlib.Core.Path.{sym, _∙_}

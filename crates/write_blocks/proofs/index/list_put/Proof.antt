@@ -1,3 +1,4 @@
+-- Made by tools/proof fill from answers/index.list_put.ans: change it there.
 -- Number by number. The invariant holds of whatever list the bytes are: the differences of those passed are put.
 use native.Mathlib.Omega.{arith}
 use native.Mathlib.Nat.{mul-le-mul-right, suc-mul}

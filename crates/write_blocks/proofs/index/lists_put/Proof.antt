@@ -1,3 +1,4 @@
+-- Made by tools/proof fill from answers/index.lists_put.ans: change it there.
 -- List by list. The invariant holds of whatever lists the fields are: those passed are put.
 use native.Mathlib.Omega.{arith}
 use mathlib.Core.Path.{_≡_, refl}

@@ -1,3 +1,4 @@
+-- Made by tools/proof fill from answers/line.codes_put.ans: change it there.
 -- Code by code. The invariant holds of whatever codes the bytes are: those passed are put.
 use native.Mathlib.Omega.{arith}
 use native.Mathlib.Nat.{mod-lt, mul-le-mul-right, suc-mul}

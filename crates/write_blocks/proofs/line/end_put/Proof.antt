@@ -1,3 +1,4 @@
+-- Made by tools/proof fill from answers/line.end_put.ans: change it there.
 -- The six bytes are those of the end, and so are the four numbers put.
 use native.Mathlib.Omega.{arith}
 use mathlib.Core.Path.{_∙_}

@@ -1,3 +1,4 @@
+-- Made by tools/proof fill from answers/line.line_put.ans: change it there.
 -- The value has the line's ends and codes where the code takes them, and put one behind the other they are the line.
 use native.Mathlib.Omega.{arith}
 use Rattle.write_blocks.proofs.Laws.Line.{held-long, held-start, held-finish, held-codes, line-room, start-put, start-place, codes-behind, line-put}

@@ -1,3 +1,4 @@
+-- Made by tools/proof fill from answers/line.lines_out.ans: change it there.
 -- Line by line. The invariant holds of whatever lines the fields are: those passed are put.
 use native.Mathlib.Omega.{arith}
 use mathlib.Core.Path.{_≡_, refl, sym, _∙_}

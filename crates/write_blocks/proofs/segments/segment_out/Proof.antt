@@ -1,3 +1,4 @@
+-- Made by tools/proof fill from answers/segments.segment_out.ans: change it there.
 -- Type, length and payload, one behind the other.
 use native.Mathlib.Omega.{arith}
 use mathlib.Core.Path.{_≡_}

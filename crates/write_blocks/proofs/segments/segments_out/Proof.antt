@@ -1,3 +1,4 @@
+-- Made by tools/proof fill from answers/segments.segments_out.ans: change it there.
 -- Segment by segment. The invariant holds of whatever segments the fields are: those passed are laid.
 use native.Mathlib.Omega.{arith}
 use mathlib.Core.Path.{_≡_, refl, sym, _∙_}

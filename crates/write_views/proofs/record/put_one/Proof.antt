@@ -1,3 +1,4 @@
+-- Made by tools/proof fill from answers/record.put_one.ans: change it there.
 -- One byte, stored.
 use mathlib.Core.Path.{_≡_, refl, ap}
 use mathlib.Core.List.{[], _∷_}

@@ -1,3 +1,4 @@
+-- Made by tools/proof fill from answers/record.record_out.ans: change it there.
 -- The header, then the views: the sheet's first bytes are the header's.
 use native.Mathlib.Omega.{arith}
 use lib.ListN.{length-take, length-drop}

@@ -1,3 +1,4 @@
+-- Made by tools/proof fill from answers/record.views_out.ans: change it there.
 -- View by view. The invariant holds of whatever views the fields are: those passed are laid.
 use native.Mathlib.Omega.{arith}
 use mathlib.Core.Path.{_≡_, refl}

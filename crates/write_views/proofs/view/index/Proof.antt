@@ -1,3 +1,4 @@
+-- Made by tools/proof fill from answers/view.index.ans: change it there.
 -- The block behind the first two bytes, then its length in these.
 use native.Mathlib.Omega.{arith}
 use lib.ListN.{length-take, length-drop}

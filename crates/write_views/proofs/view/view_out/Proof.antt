@@ -1,3 +1,4 @@
+-- Made by tools/proof fill from answers/view.view_out.ans: change it there.
 -- The header's bytes, then the three blocks, one behind the other.
 use native.Mathlib.Omega.{arith}
 use mathlib.Core.Path.{_≡_}
