@@ -1,7 +1,8 @@
+-- Made by tools/proof fill from answers/two_at.ans: change it there.
 -- Two bytes are below 256 each.
-use borrow.Author.Needs.{needs}
 use Prim.Native.Nat.{_+_}
 use native.Mathlib.Omega.{arith}
+use borrow.Author.Needs.{needs}
 use Rattle.bits.proofs.two_at.Statement.{statement}
 use Rattle.bits.proofs.two_at.Tie as tie
 

@@ -1,5 +1,5 @@
+-- Made by tools/proof fill from answers/line.line_end.ans: change it there.
 -- The line is there, so its count is, and all that it counts.
-use borrow.Author.Needs.{needs}
 use mathlib.Core.Path.{_≡_}
 use Prim.Native.Nat.{_+_, _*_}
 use native.Mathlib.Omega.{arith}
@@ -8,6 +8,7 @@ use Rattle.bits.proofs.Laws.Apart.{same}
 use Rattle.outcome.specs.Refusals.{badLine}
 use Rattle.find_parts.specs.Stands.{endBits}
 use Rattle.find_parts.proofs.Laws.Line.{line-at, line-ends}
+use borrow.Author.Needs.{needs}
 use Rattle.find_parts.proofs.line.line_end.Statement.{statement}
 use Rattle.find_parts.proofs.line.line_end.Tie as tie
 

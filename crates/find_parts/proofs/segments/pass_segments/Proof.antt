@@ -1,6 +1,6 @@
+-- Made by tools/proof fill from answers/segments.pass_segments.ans: change it there.
 -- Segment by segment. The invariant is which segments are left, whatever segments the block has; the measure is how many may still
 -- be passed.
-use borrow.Author.Needs.{needs}
 use borrow.Author.Tests.{ltb-true, ltb-false}
 use Prim.Native.Nat.{_-_, _≤_, _<_}
 use native.Mathlib.Omega.{arith}
@@ -10,14 +10,17 @@ use Rattle.bits.specs.Bytes.{Byte}
 use Rattle.bits.proofs.Laws.Place.{all-bytes}
 use Rattle.outcome.specs.Refusals.{badSegment}
 use Rattle.find_parts.proofs.Laws.Segments.{SegmentAt, Past, past-none, past-next, segment-next, its-length}
+use borrow.Author.Needs.{needs}
 use Rattle.find_parts.proofs.segments.pass_segments.Statement.{statement}
 use Rattle.find_parts.proofs.segments.pass_segments.Tie as tie
 
 abbrev Inv-loop : tie.InvT-loop
-Inv-loop s most next₀ count₀ next count = (count ≤ most) × Past s count next
+Inv-loop s most next₀ count₀ next count =
+    (count ≤ most) × Past s count next
 
 abbrev μ-loop : tie.MeasureT-loop
-μ-loop s most next₀ count₀ next count = most - count
+μ-loop s most next₀ count₀ next count =
+    most - count
 
 bytes : (c : tie.At-loop Inv-loop μ-loop) → All Byte (c .before .before .args .s .now)
 bytes c = all-bytes (c .before .before .args .s .now) (λ i. c .before .shared-slice-known .given i .fits)
@@ -33,16 +36,20 @@ here c =
     segment-next (bytes (c .before .before)) (c .before .before .loop .inv .1 (pre .value) (pre .left) (pre .reads) .1) (further c)
 
 loop-holds : tie.Need-loop-holds Inv-loop μ-loop
-loop-holds c = (omega arith, past-none (c .before .args .s .now))
+loop-holds c =
+    (omega arith, past-none (c .before .args .s .now))
 
 mul-t9 : tie.Need-mul-t9 Inv-loop μ-loop
-mul-t9 c = omega (arith, further c, c .before .before .before .before .pre .short)
+mul-t9 c =
+    omega (arith, further c, c .before .before .before .before .pre .short)
 
 add-t10 : tie.Need-add-t10 Inv-loop μ-loop
-add-t10 c = omega (arith, further c, c .before .before .before .before .pre .short)
+add-t10 c =
+    omega (arith, further c, c .before .before .before .before .pre .short)
 
 sure-requires : tie.Need-sure-requires Inv-loop μ-loop
-sure-requires c κs = (c .before .before .before .before .pre .short, omega arith, omega (arith, here c .there .within))
+sure-requires c κs =
+    (c .before .before .before .before .pre .short, omega arith, omega (arith, here c .there .within))
 
 add-next : tie.Need-add-next Inv-loop μ-loop
 add-next c =
@@ -53,7 +60,8 @@ add-count : tie.Need-add-count Inv-loop μ-loop
 add-count c = search needs
 
 loop-less : tie.Need-loop-less Inv-loop μ-loop
-loop-less c = omega (arith, c .before .before .before .loop-test .taken)
+loop-less c =
+    omega (arith, c .before .before .before .loop-test .taken)
 
 loop-again : tie.Need-loop-again Inv-loop μ-loop
 loop-again c =
