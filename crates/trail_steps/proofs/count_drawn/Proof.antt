@@ -1,3 +1,4 @@
+-- Made by tools/proof fill from answers/count_drawn.ans: change it there.
 -- The invariant: the count and what the codes that are left draw is what all of them draw.
 use mathlib.Core.Path.{_≡_}
 use mathlib.Core.Logic.{⊎-elim}
@@ -12,16 +13,19 @@ use Rattle.trail_steps.proofs.count_drawn.Statement.{statement}
 use Rattle.trail_steps.proofs.count_drawn.Tie as tie
 
 abbrev Inv-loop : tie.InvT-loop
-Inv-loop s k n top q₀ count₀ i₀ q count i = (count ≤ i) × Onward k n s (q₀ .at) i (q .at) (λ codes rest. count + drawn k rest ≡ drawn k codes)
+Inv-loop s k n top q₀ count₀ i₀ q count i =
+    (count ≤ i) × Onward k n s (q₀ .at) i (q .at) (λ codes rest. count + drawn k rest ≡ drawn k codes)
 
 abbrev μ-loop : tie.MeasureT-loop
-μ-loop s k n top q₀ count₀ i₀ q count i = n - i
+μ-loop s k n top q₀ count₀ i₀ q count i =
+    n - i
 
 level-turn-requires : tie.Need-level-turn-requires Inv-loop μ-loop
 level-turn-requires c κs = search needs
 
 loop-holds : tie.Need-loop-holds Inv-loop μ-loop
-loop-holds c = (omega arith, onward-start (c .before .before .pre) (zero-add _))
+loop-holds c =
+    (omega arith, onward-start (c .before .before .pre) (zero-add _))
 
 sure-requires : tie.Need-sure-requires Inv-loop μ-loop
 sure-requires c κs =
@@ -49,7 +53,8 @@ loop-again c =
     (c .before .if1 .came)
 
 returns : tie.Need-returns Inv-loop μ-loop
-returns c = record { is = λ codes q r. omega (arith, onward-end (omega arith) (c .before .loop .inv .1) .is codes q r) }
+returns c =
+    record { is = λ codes q r. omega (arith, onward-end (omega arith) (c .before .loop .inv .1) .is codes q r) }
 
 pub count-drawn-spec : {M : Type 1} → statement M
 count-drawn-spec =

@@ -1,3 +1,4 @@
+-- Made by tools/proof fill from answers/trail_bytes.ans: change it there.
 -- The invariant is that of trail_numbers, with the bytes of the numbers laid. Each number goes to the rest of the buffer, lent on.
 use mathlib.Core.Path.{_≡_, refl}
 use mathlib.Core.Logic.{⊎-elim}
@@ -15,16 +16,28 @@ use Rattle.trail_steps.proofs.trail_bytes.Statement.{statement}
 use Rattle.trail_steps.proofs.trail_bytes.Tie as tie
 
 abbrev Inv-loop : tie.InvT-loop
-Inv-loop out₀ s k n half heading q₀ pen₀ at₀ i₀ out q pen at i = Drawing (joined two) half k n heading s (q₀ .at) out₀ i (q .at) pen out at
+Inv-loop out₀ s k n half heading q₀ pen₀ at₀ i₀ out q pen at i =
+    Drawing (joined two) half k n heading s (q₀ .at) out₀ i (q .at) pen out at
 
 abbrev μ-loop : tie.MeasureT-loop
-μ-loop out₀ s k n half heading q₀ pen₀ at₀ i₀ out q pen at i = n - i
+μ-loop out₀ s k n half heading q₀ pen₀ at₀ i₀ out q pen at i =
+    n - i
+
+-- there is room for what a step draws
+room : (c : tie.After-stepped Inv-loop μ-loop) → c .before .before .before .before .before .loop .at + 2 ≤ length (c .before .before .before .before .before .loop .out)
+room c =
+    let o = c .before .before .before .before .before .loop .inv in
+    let pre = c .before .before .before .before .before .before .before .before .before .pre in
+    let st = rw (c .stepped .given .1) at (c .before .before .step .ensures) in
+    let l = room-left o (c .before .before .before .before .loop-test .taken) (c .before .before .before .sure .ensures .0 badLine) st (pre .there) in
+    omega (arith, pre .enough, o .same, o .laid .count, twos-length (o .new))
 
 start-requires : tie.Need-start-requires Inv-loop μ-loop
 start-requires c κs = search needs
 
 loop-holds : tie.Need-loop-holds Inv-loop μ-loop
-loop-holds c = rw (c .start .ensures) (drawing-start refl (c .before .before .before .pre))
+loop-holds c =
+    rw (c .start .ensures) (drawing-start refl (c .before .before .before .pre))
 
 sure-requires : tie.Need-sure-requires Inv-loop μ-loop
 sure-requires c κs =
@@ -39,20 +52,13 @@ step-requires c κs =
 enum-known-stepped : tie.Need-enum-known-stepped Inv-loop μ-loop
 enum-known-stepped c = search needs
 
--- there is room for what a step draws
-room : (c : tie.After-stepped Inv-loop μ-loop) → c .before .before .before .before .before .loop .at + 2 ≤ length (c .before .before .before .before .before .loop .out)
-room c =
-    let o = c .before .before .before .before .before .loop .inv in
-    let pre = c .before .before .before .before .before .before .before .before .before .pre in
-    let st = rw (c .stepped .given .1) at (c .before .before .step .ensures) in
-    let l = room-left o (c .before .before .before .before .loop-test .taken) (c .before .before .before .sure .ensures .0 badLine) st (pre .there) in
-    omega (arith, pre .enough, o .same, o .laid .count, twos-length (o .new))
-
 sub-put-two : tie.Need-sub-put-two Inv-loop μ-loop
-sub-put-two c = omega (arith, room (c .before))
+sub-put-two c =
+    omega (arith, room (c .before))
 
 part-put-two-start : tie.Need-part-put-two-start Inv-loop μ-loop
-part-put-two-start c = omega (arith, room (c .before))
+part-put-two-start c =
+    omega (arith, room (c .before))
 
 part-put-two-end : tie.Need-part-put-two-end Inv-loop μ-loop
 part-put-two-end c = search needs
@@ -65,7 +71,8 @@ put-two-requires c κs =
     (simp (length-take, length-drop) (omega (arith, room (c .before .before))), omega (arith, pre .few))
 
 add-at : tie.Need-add-at Inv-loop μ-loop
-add-at c = omega (arith, room (c .before .before .before .before .before), c .before .before .put-two .ensures .count)
+add-at c =
+    omega (arith, room (c .before .before .before .before .before), c .before .before .put-two .ensures .count)
 
 enum-known-stepped-2 : tie.Need-enum-known-stepped-2 Inv-loop μ-loop
 enum-known-stepped-2 c = search needs

@@ -1,3 +1,4 @@
+-- Made by tools/proof fill from answers/trail_numbers.ans: change it there.
 -- The invariant: the numbers drawn so far are laid, and the walk goes on over the codes that are left.
 use mathlib.Core.Path.{refl}
 use mathlib.Core.Logic.{⊎-elim}
@@ -14,16 +15,28 @@ use Rattle.trail_steps.proofs.trail_numbers.Statement.{statement}
 use Rattle.trail_steps.proofs.trail_numbers.Tie as tie
 
 abbrev Inv-loop : tie.InvT-loop
-Inv-loop out₀ s k n half heading q₀ pen₀ at₀ i₀ out q pen at i = Drawing (λ xs. xs) half k n heading s (q₀ .at) out₀ i (q .at) pen out at
+Inv-loop out₀ s k n half heading q₀ pen₀ at₀ i₀ out q pen at i =
+    Drawing (λ xs. xs) half k n heading s (q₀ .at) out₀ i (q .at) pen out at
 
 abbrev μ-loop : tie.MeasureT-loop
-μ-loop out₀ s k n half heading q₀ pen₀ at₀ i₀ out q pen at i = n - i
+μ-loop out₀ s k n half heading q₀ pen₀ at₀ i₀ out q pen at i =
+    n - i
+
+-- there is room for what a step draws
+room : (c : tie.After-stepped Inv-loop μ-loop) → c .before .before .before .before .before .loop .at < length (c .before .before .before .before .before .loop .out)
+room c =
+    let o = c .before .before .before .before .before .loop .inv in
+    let pre = c .before .before .before .before .before .before .before .before .before .pre in
+    let st = rw (c .stepped .given .1) at (c .before .before .step .ensures) in
+    let l = room-left o (c .before .before .before .before .loop-test .taken) (c .before .before .before .sure .ensures .0 badLine) st (pre .there) in
+    omega (arith, pre .enough, o .same, o .laid .count)
 
 start-requires : tie.Need-start-requires Inv-loop μ-loop
 start-requires c κs = search needs
 
 loop-holds : tie.Need-loop-holds Inv-loop μ-loop
-loop-holds c = rw (c .start .ensures) (drawing-start refl (c .before .before .before .pre))
+loop-holds c =
+    rw (c .start .ensures) (drawing-start refl (c .before .before .before .pre))
 
 sure-requires : tie.Need-sure-requires Inv-loop μ-loop
 sure-requires c κs =
@@ -38,28 +51,22 @@ step-requires c κs =
 enum-known-stepped : tie.Need-enum-known-stepped Inv-loop μ-loop
 enum-known-stepped c = search needs
 
--- there is room for what a step draws
-room : (c : tie.After-stepped Inv-loop μ-loop) → c .before .before .before .before .before .loop .at < length (c .before .before .before .before .before .loop .out)
-room c =
-    let o = c .before .before .before .before .before .loop .inv in
-    let pre = c .before .before .before .before .before .before .before .before .before .pre in
-    let st = rw (c .stepped .given .1) at (c .before .before .step .ensures) in
-    let l = room-left o (c .before .before .before .before .loop-test .taken) (c .before .before .before .sure .ensures .0 badLine) st (pre .there) in
-    omega (arith, pre .enough, o .same, o .laid .count)
-
 cast-out : tie.Need-cast-out Inv-loop μ-loop
 cast-out c =
     let st = rw (c .before .stepped .given .1) at (c .before .before .before .step .ensures) in
     omega (arith, element-small (omega arith) (c .before .before .before .before .before .before .loop .inv .below) st)
 
 mul-out : tie.Need-mul-out Inv-loop μ-loop
-mul-out c = omega (arith, room (c .before))
+mul-out c =
+    omega (arith, room (c .before))
 
 slice-write-out : tie.Need-slice-write-out Inv-loop μ-loop
-slice-write-out c = omega (arith, room (c .before))
+slice-write-out c =
+    omega (arith, room (c .before))
 
 add-at : tie.Need-add-at Inv-loop μ-loop
-add-at c = omega (arith, room (c .before))
+add-at c =
+    omega (arith, room (c .before))
 
 enum-known-stepped-2 : tie.Need-enum-known-stepped-2 Inv-loop μ-loop
 enum-known-stepped-2 c = search needs
@@ -87,7 +94,8 @@ same-length : tie.Need-same-length Inv-loop μ-loop
 same-length c = search needs
 
 returns : tie.Need-returns Inv-loop μ-loop
-returns c = drawing-end (c .before .loop .inv) (omega arith)
+returns c =
+    drawing-end (c .before .loop .inv) (omega arith)
 
 pub trail-numbers-spec : {M : Type 1} → statement M
 trail-numbers-spec =

@@ -1,5 +1,5 @@
+-- Made by tools/proof fill from answers/index.index_out.ans: change it there.
 -- Nothing for an empty block; else the start, the width as it stands in the block, and the lists: one behind the other.
-use borrow.Author.Needs.{needs}
 use native.Mathlib.Omega.{arith}
 use mathlib.Core.Path.{_≡_, ap}
 use Prim.Native.Nat.{_+_, _≤_}
@@ -18,6 +18,7 @@ use Rattle.find_parts.proofs.Laws.Blocks.{no-index}
 use Rattle.read_blocks.proofs.Laws.Index.{IndexParts, index-parts, one-value}
 use Rattle.sheet_bytes.specs.Bytes.{listBytes}
 use Rattle.sheet_bytes.proofs.Laws.Sizes.{joined-size, list-size}
+use borrow.Author.Needs.{needs}
 use Rattle.read_blocks.proofs.index.index_out.Statement.{statement}
 use Rattle.read_blocks.proofs.index.index_out.Tie as tie
 

@@ -1,5 +1,5 @@
+-- Made by tools/proof fill from answers/index.list_out.ans: change it there.
 -- The start with the count, then the neighbours: one behind the other.
-use borrow.Author.Needs.{needs}
 use native.Mathlib.Omega.{arith}
 use mathlib.Core.Path.{_≡_}
 use Prim.Native.Nat.{_≤_}
@@ -10,6 +10,7 @@ use Rattle.outcome.specs.Refusals.{badIndex}
 use Rattle.put_bytes.proofs.Laws.{laid-next, twos-length}
 use Rattle.read_blocks.specs.ListOuts.{numbersDec}
 use Rattle.read_blocks.proofs.Laws.Index.{ListParts, list-parts, list-reads, numbers-length, one-value}
+use borrow.Author.Needs.{needs}
 use Rattle.read_blocks.proofs.index.list_out.Statement.{statement}
 use Rattle.read_blocks.proofs.index.list_out.Tie as tie
 

@@ -1,5 +1,5 @@
+-- Made by tools/proof fill from answers/index.lists_out.ans: change it there.
 -- List by list; the invariant is what is laid and what is still read.
-use borrow.Author.Needs.{needs}
 use native.Mathlib.Omega.{arith}
 use mathlib.Core.Path.{_≡_, refl, ap}
 use Prim.Native.Nat.{_-_, _*_, _≤_}
@@ -15,6 +15,7 @@ use Rattle.sheet_bytes.specs.Bytes.{listBytes}
 use Rattle.read_blocks.proofs.Laws.Underway.{Underway, at-first, same-room, one-more, at-last}
 use Rattle.read_blocks.proofs.Laws.Index.{ListAt, list-at, one-value}
 use Rattle.sheet_bytes.proofs.Laws.Sizes.{list-size}
+use borrow.Author.Needs.{needs}
 use Rattle.read_blocks.proofs.index.lists_out.Statement.{statement}
 use Rattle.read_blocks.proofs.index.lists_out.Tie as tie
 

@@ -1,5 +1,5 @@
+-- Made by tools/proof fill from answers/index.numbers_out.ans: change it there.
 -- Neighbour by neighbour; the invariant is what is laid and what is still read.
-use borrow.Author.Needs.{needs}
 use native.Mathlib.Omega.{arith}
 use mathlib.Core.Path.{_≡_, refl, ap}
 use Prim.Native.Nat.{ℕ, _-_, _*_, _≤_}
@@ -11,6 +11,7 @@ use Rattle.put_bytes.specs.HighFirst.{two}
 use Rattle.read_blocks.specs.ListOuts.{numbersDec}
 use Rattle.read_blocks.proofs.Laws.Underway.{Underway, at-first, same-room, one-more, at-last}
 use Rattle.read_blocks.proofs.Laws.Index.{NumberAt, number-at, numbers-end, twos, one-value}
+use borrow.Author.Needs.{needs}
 use Rattle.read_blocks.proofs.index.numbers_out.Statement.{statement}
 use Rattle.read_blocks.proofs.index.numbers_out.Tie as tie
 

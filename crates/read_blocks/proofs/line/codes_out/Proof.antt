@@ -1,5 +1,5 @@
+-- Made by tools/proof fill from answers/line.codes_out.ans: change it there.
 -- One code after the other. The invariant holds the codes read, whose bytes are laid; the measure is how many are left.
-use borrow.Author.Needs.{needs}
 use mathlib.Core.Path.{_≡_, refl}
 use Prim.Native.Nat.{_+_, _-_, _*_, _≤_}
 use native.Mathlib.Omega.{arith}
@@ -9,14 +9,17 @@ use denote.Ref.{now}
 use Rattle.bits.proofs.Laws.Reads.{below}
 use Rattle.outcome.specs.Refusals.{badLine}
 use Rattle.read_blocks.proofs.Laws.Line.{CodesDone, codes-none, codes-more, codes-all, code-there}
+use borrow.Author.Needs.{needs}
 use Rattle.read_blocks.proofs.line.codes_out.Statement.{statement}
 use Rattle.read_blocks.proofs.line.codes_out.Tie as tie
 
 abbrev Inv-loop : tie.InvT-loop
-Inv-loop out₀ s k n q₀ i₀ out q i = (i ≤ n) × (q .at ≡ q₀ .at + i * k) × (length out ≡ length out₀) × CodesDone k s (q₀ .at) out₀ out (q .at) i
+Inv-loop out₀ s k n q₀ i₀ out q i =
+    (i ≤ n) × (q .at ≡ q₀ .at + i * k) × (length out ≡ length out₀) × CodesDone k s (q₀ .at) out₀ out (q .at) i
 
 abbrev μ-loop : tie.MeasureT-loop
-μ-loop out₀ s k n q₀ i₀ out q i = n - i
+μ-loop out₀ s k n q₀ i₀ out q i =
+    n - i
 
 loop-holds : tie.Need-loop-holds Inv-loop μ-loop
 loop-holds c =
@@ -29,7 +32,8 @@ sure-requires c κs =
     (search needs, search needs, omega (arith, c .before .loop .inv .1, code-there (a .k) (c .loop-test .taken)))
 
 code-byte-requires : tie.Need-code-byte-requires Inv-loop μ-loop
-code-byte-requires c κs = (below badLine _ (c .sure .ensures .0 badLine), search needs, search needs)
+code-byte-requires c κs =
+    (below badLine _ (c .sure .ensures .0 badLine), search needs, search needs)
 
 slice-write-out : tie.Need-slice-write-out Inv-loop μ-loop
 slice-write-out c = search needs

@@ -1,5 +1,5 @@
+-- Made by tools/proof fill from answers/line.end_out.ans: change it there.
 -- Six bytes, stored one by one.
-use borrow.Author.Needs.{needs}
 use mathlib.Core.Path.{_≡_, refl}
 use mathlib.Core.List.{[], _∷_}
 use Prim.Native.Nat.{_/_, _%_}
@@ -8,6 +8,7 @@ use lib.ListN.{length-set}
 use denote.Ref.{now}
 use Rattle.put_bytes.proofs.Laws.{stored}
 use Rattle.sheet_bytes.specs.Bytes.{endBytes}
+use borrow.Author.Needs.{needs}
 use Rattle.read_blocks.proofs.line.end_out.Statement.{statement}
 use Rattle.read_blocks.proofs.line.end_out.Tie as tie
 
@@ -21,25 +22,29 @@ cast-out-2 : tie.Need-cast-out-2
 cast-out-2 c = search needs
 
 slice-write-out-2 : tie.Need-slice-write-out-2
-slice-write-out-2 c = simp length-set (omega (arith, c .before .before .pre))
+slice-write-out-2 c =
+    simp length-set (omega (arith, c .before .before .pre))
 
 cast-out-3 : tie.Need-cast-out-3
 cast-out-3 c = search needs
 
 slice-write-out-3 : tie.Need-slice-write-out-3
-slice-write-out-3 c = simp length-set (omega (arith, c .before .before .before .pre))
+slice-write-out-3 c =
+    simp length-set (omega (arith, c .before .before .before .pre))
 
 cast-out-4 : tie.Need-cast-out-4
 cast-out-4 c = search needs
 
 slice-write-out-4 : tie.Need-slice-write-out-4
-slice-write-out-4 c = simp length-set (omega (arith, c .before .before .before .before .pre))
+slice-write-out-4 c =
+    simp length-set (omega (arith, c .before .before .before .before .pre))
 
 cast-out-5 : tie.Need-cast-out-5
 cast-out-5 c = search needs
 
 slice-write-out-5 : tie.Need-slice-write-out-5
-slice-write-out-5 c = simp length-set (omega (arith, c .before .before .before .before .before .pre))
+slice-write-out-5 c =
+    simp length-set (omega (arith, c .before .before .before .before .before .pre))
 
 cast-out-6 : tie.Need-cast-out-6
 cast-out-6 c = search needs

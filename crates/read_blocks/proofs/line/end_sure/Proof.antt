@@ -1,7 +1,8 @@
+-- Made by tools/proof fill from answers/line.end_sure.ans: change it there.
 -- Four fields, one behind the other.
-use borrow.Author.Needs.{needs}
 use Rattle.outcome.specs.Refusals.{badLine}
 use Rattle.read_blocks.proofs.Laws.Line.{end-is}
+use borrow.Author.Needs.{needs}
 use Rattle.read_blocks.proofs.line.end_sure.Statement.{statement}
 use Rattle.read_blocks.proofs.line.end_sure.Tie as tie
 

@@ -1,9 +1,10 @@
+-- Made by tools/proof fill from answers/line.line_out.ans: change it there.
 -- The line that the judge has found is there: so are its parts, each where the code reads it. What the code lays of them is then
 -- that line's field.
-use borrow.Author.Needs.{needs}
 use native.Mathlib.Omega.{arith}
 use Rattle.outcome.specs.Refusals.{badLine}
 use Rattle.read_blocks.proofs.Laws.Line.{start-there, count-there, finish-there, parts-there, line-laid}
+use borrow.Author.Needs.{needs}
 use Rattle.read_blocks.proofs.line.line_out.Statement.{statement}
 use Rattle.read_blocks.proofs.line.line_out.Tie as tie
 

@@ -1,20 +1,23 @@
+-- Made by tools/proof fill from answers/line.lines_out.ans: change it there.
 -- One line after the other. The invariant holds the lines that are laid and those still to be read; the measure is the bits that
 -- are left.
-use borrow.Author.Needs.{needs}
 use mathlib.Core.Path.{_≡_, refl}
 use Prim.Native.Nat.{_-_}
 use native.Mathlib.Omega.{arith}
 use lib.ListN.{length, length-take, length-drop}
 use Rattle.find_parts.proofs.Laws.Lines.{line-next}
 use Rattle.read_blocks.proofs.Laws.Lines.{LinesDone, lines-start, line-room, line-fits, line-on, lines-more, lines-all}
+use borrow.Author.Needs.{needs}
 use Rattle.read_blocks.proofs.line.lines_out.Statement.{statement}
 use Rattle.read_blocks.proofs.line.lines_out.Tie as tie
 
 abbrev Inv-loop : tie.InvT-loop
-Inv-loop out₀ s w end p₀ n₀ at₀ out p n at = (length out ≡ length out₀) × LinesDone w s out₀ out (p .at) n at
+Inv-loop out₀ s w end p₀ n₀ at₀ out p n at =
+    (length out ≡ length out₀) × LinesDone w s out₀ out (p .at) n at
 
 abbrev μ-loop : tie.MeasureT-loop
-μ-loop out₀ s w end p₀ n₀ at₀ out p n at = end - p .at
+μ-loop out₀ s w end p₀ n₀ at₀ out p n at =
+    end - p .at
 
 mul-end : tie.Need-mul-end Inv-loop μ-loop
 mul-end c = search needs
@@ -28,7 +31,8 @@ loop-holds c =
     (refl, rw (c .start .ensures) (lines-start (s .pre .reads) (s .pre .room)))
 
 sub-if1 : tie.Need-sub-if1 Inv-loop μ-loop
-sub-if1 c = omega (arith, c .before .loop .inv .1 .left .within)
+sub-if1 c =
+    omega (arith, c .before .loop .inv .1 .left .within)
 
 sub-line-out : tie.Need-sub-line-out Inv-loop μ-loop
 sub-line-out c =
@@ -90,7 +94,8 @@ same-length : tie.Need-same-length Inv-loop μ-loop
 same-length c = search needs
 
 returns : tie.Need-returns Inv-loop μ-loop
-returns c = lines-all (c .before .before .loop .inv .1) (c .if1 .left) refl refl
+returns c =
+    lines-all (c .before .before .loop .inv .1) (c .if1 .left) refl refl
 
 pub lines-out-spec : {M : Type 1} → statement M
 lines-out-spec =

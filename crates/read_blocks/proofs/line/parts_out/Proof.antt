@@ -1,7 +1,8 @@
+-- Made by tools/proof fill from answers/line.parts_out.ans: change it there.
 -- How the field starts, its ends and its codes, each laid where the part before ended.
-use borrow.Author.Needs.{needs}
 use Rattle.put_bytes.proofs.Laws.{laid-next}
 use Rattle.read_blocks.proofs.Laws.Line.{parts-laid}
+use borrow.Author.Needs.{needs}
 use Rattle.read_blocks.proofs.line.parts_out.Statement.{statement}
 use Rattle.read_blocks.proofs.line.parts_out.Tie as tie
 

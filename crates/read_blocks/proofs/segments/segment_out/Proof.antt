@@ -1,9 +1,10 @@
+-- Made by tools/proof fill from answers/segments.segment_out.ans: change it there.
 -- The start, then two parts of the block: one behind the other.
-use borrow.Author.Needs.{needs}
 use native.Mathlib.Omega.{arith}
 use mathlib.Core.Path.{_≡_}
 use Prim.Native.Nat.{_+_, _-_}
 use Rattle.put_bytes.proofs.Laws.{laid-next}
+use borrow.Author.Needs.{needs}
 use Rattle.read_blocks.proofs.segments.segment_out.Statement.{statement}
 use Rattle.read_blocks.proofs.segments.segment_out.Tie as tie
 
@@ -75,12 +76,10 @@ same-length c = search needs
 
 returns : tie.Need-returns
 returns c =
-    let kind = c .before .before .before .before .before .before .before in
-    let first = kind .before .before .before .before .before in
-    let a = first .before .before .before .before .args in
+    let a = c .before .before .before .before .before .before .before .before .before .before .before .before .before .before .before .before .args in
     let b : a .a + 2 - a .a ≡ 2 = omega arith in
     let e : a .a + a .n - (a .a + 4) ≡ a .n - 4 = omega arith in
-    rw (b, e) at (laid-next (laid-next (first .put-three .ensures) (kind .copy .ensures)) (c .before .before .copy2 .ensures))
+    rw (b, e) at (laid-next (laid-next (c .before .before .before .before .before .before .before .before .before .before .before .before .put-three .ensures) (c .before .before .before .before .before .before .before .copy .ensures)) (c .before .before .copy2 .ensures))
 
 pub segment-out-spec : {M : Type 1} → statement M
 segment-out-spec =

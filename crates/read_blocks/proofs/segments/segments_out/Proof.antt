@@ -1,5 +1,5 @@
+-- Made by tools/proof fill from answers/segments.segments_out.ans: change it there.
 -- Segment by segment; the invariant is what is laid and what is still read.
-use borrow.Author.Needs.{needs}
 use native.Mathlib.Omega.{arith}
 use mathlib.Core.Path.{_≡_, refl, ap}
 use Prim.Native.Nat.{ℕ, _+_, _-_, _*_, _≤_}
@@ -18,6 +18,7 @@ use Rattle.sheet_bytes.specs.Bytes.{segmentBytes}
 use Rattle.read_blocks.proofs.Laws.Underway.{Underway, at-first, same-room, one-more, at-last}
 use Rattle.find_parts.proofs.Laws.Segments.{SegmentAt, segment-at, its-length}
 use Rattle.read_blocks.proofs.Laws.Segments.{its-field}
+use borrow.Author.Needs.{needs}
 use Rattle.read_blocks.proofs.segments.segments_out.Statement.{statement}
 use Rattle.read_blocks.proofs.segments.segments_out.Tie as tie
 
@@ -28,14 +29,8 @@ Inv-loop out₀ s at₀ a₀ out at a =
     × ((k : ℕ) × Underway segmentBytes segmentSize (segments .dec (bitsOf s)) (fillDec segment badSegment k (drop (8 * a) (bitsOf s))) out₀ out at)
 
 abbrev μ-loop : tie.MeasureT-loop
-μ-loop out₀ s at₀ a₀ out at a = length s - a
-
-loop-holds : tie.Need-loop-holds Inv-loop μ-loop
-unfolding segments
-loop-holds c =
-    let s = c .before .before .args .s .now in
-    let there = c .before .before .pre in
-    (omega arith, refl, (length (bitsOf s), at-first segmentBytes segmentSize (there .reads) (there .room)))
+μ-loop out₀ s at₀ a₀ out at a =
+    length s - a
 
 -- the segment that starts at a
 here : (c : tie.In-loop Inv-loop μ-loop) → SegmentAt (c .before .before .before .before .args .s .now) (c .before .loop .a) (c .before .loop .inv .2 .1 .rest) (c .before .loop .inv .2 .1 .left)
@@ -54,6 +49,13 @@ laid-here : (c : tie.After-segment-out Inv-loop μ-loop) → Laid (segmentBytes 
     (c .segment-out .last .0) (c .segment-out .result)
 laid-here c = rw (its-field (here (c .before .before .before)) _ (length-here (c .before .before))) at (c .segment-out .ensures)
 
+loop-holds : tie.Need-loop-holds Inv-loop μ-loop
+unfolding segments
+loop-holds c =
+    let s = c .before .before .args .s .now in
+    let there = c .before .before .pre in
+    (omega arith, refl, (length (bitsOf s), at-first segmentBytes segmentSize (there .reads) (there .room)))
+
 mul-segment-out : tie.Need-mul-segment-out Inv-loop μ-loop
 mul-segment-out c = search needs
 
@@ -61,7 +63,8 @@ add-segment-out : tie.Need-add-segment-out Inv-loop μ-loop
 add-segment-out c = search needs
 
 sure-requires : tie.Need-sure-requires Inv-loop μ-loop
-sure-requires c κs = omega (arith, here c .there .within)
+sure-requires c κs =
+    omega (arith, here c .there .within)
 
 sub-segment-out : tie.Need-sub-segment-out Inv-loop μ-loop
 sub-segment-out c = search needs
@@ -82,10 +85,12 @@ add-at c =
     omega (arith, laid-here (c .before .before) .count, ap (total segmentSize) (here (c .before .before .before .before .before) .is))
 
 add-a : tie.Need-add-a Inv-loop μ-loop
-add-a c = omega (arith, length-here (c .before .before .before .before), here (c .before .before .before .before .before) .there .within)
+add-a c =
+    omega (arith, length-here (c .before .before .before .before), here (c .before .before .before .before .before) .there .within)
 
 loop-less : tie.Need-loop-less Inv-loop μ-loop
-loop-less c = omega (arith, length-here (c .before .before .before .before), here (c .before .before .before .before .before) .there .within)
+loop-less c =
+    omega (arith, length-here (c .before .before .before .before), here (c .before .before .before .before .before) .there .within)
 
 loop-again : tie.Need-loop-again Inv-loop μ-loop
 loop-again c =

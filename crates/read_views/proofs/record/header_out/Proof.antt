@@ -1,6 +1,7 @@
+-- Made by tools/proof fill from answers/record.header_out.ans: change it there.
 -- How the field starts, and the record's bytes in it, each laid where the part before ended.
-use borrow.Author.Needs.{needs}
 use Rattle.put_bytes.proofs.Laws.{laid-next}
+use borrow.Author.Needs.{needs}
 use Rattle.read_views.proofs.record.header_out.Statement.{statement}
 use Rattle.read_views.proofs.record.header_out.Tie as tie
 

@@ -1,9 +1,10 @@
+-- Made by tools/proof fill from answers/record.sheet_out.ans: change it there.
 -- The header's field, which takes 12 bytes, and the views' fields behind it.
-use borrow.Author.Needs.{needs}
 use native.Mathlib.Omega.{arith}
 use lib.ListN.{length-take, length-drop}
 use Rattle.bits.proofs.Laws.Place.{all-bytes}
 use Rattle.read_views.proofs.Laws.Record.{header-room, views-room, views-wide, sheet-laid}
+use borrow.Author.Needs.{needs}
 use Rattle.read_views.proofs.record.sheet_out.Statement.{statement}
 use Rattle.read_views.proofs.record.sheet_out.Tie as tie
 

@@ -1,6 +1,6 @@
+-- Made by tools/proof fill from answers/record.views_out.ans: change it there.
 -- One view after the other. The invariant holds the views that are laid and those still to be read; the measure is how many are
 -- left.
-use borrow.Author.Needs.{needs}
 use mathlib.Core.Path.{_≡_, refl}
 use Prim.Native.Nat.{_-_}
 use native.Mathlib.Omega.{arith}
@@ -9,6 +9,7 @@ use Rattle.format.proofs.Laws.Record.{narrow}
 use Rattle.find_parts.proofs.Laws.Record.{record-apart}
 use Rattle.find_parts.proofs.Laws.Views.{view-next}
 use Rattle.read_views.proofs.Laws.Views.{ViewsDone, views-start, view-room, view-fits, views-more, views-all}
+use borrow.Author.Needs.{needs}
 use Rattle.read_views.proofs.record.views_out.Statement.{statement}
 use Rattle.read_views.proofs.record.views_out.Tie as tie
 

@@ -1,11 +1,12 @@
+-- Made by tools/proof fill from answers/view.view_out.ans: change it there.
 -- The view is there, and so are its header's eight bytes and its blocks. The field's start, the header and the blocks' fields, one
 -- behind the other, are the view's.
-use borrow.Author.Needs.{needs}
 use native.Mathlib.Omega.{arith}
 use lib.ListN.{length-take, length-drop}
 use Rattle.bits.proofs.Laws.Place.{all-bytes}
 use Rattle.find_parts.proofs.Laws.View.{view-apart}
 use Rattle.read_views.proofs.Laws.View.{blocks-wide, view-laid}
+use borrow.Author.Needs.{needs}
 use Rattle.read_views.proofs.view.view_out.Statement.{statement}
 use Rattle.read_views.proofs.view.view_out.Tie as tie
 
