@@ -11,9 +11,9 @@ from .tree import Stop
 MADE = "-- Made by tools/proof fill from answers/{}: change it there."  # a proof file's first line
 
 HELP = """\
-Writes proofs/FN/Proof.antt from crates/CRATE/answers/FN.ans (`/` in FN as `.`). The proof file must be there, as
-`tools/proof skel` wrote it or filled before: its declarations and their order stay, and the answers are put in anew.
-Run `rt fmt` afterwards, and `tools/proof tidy CRATE` once the function is proved.
+Writes proofs/FN/Proof.antt from crates/CRATE/answers/FN.ans (`/` in FN as `.`); its first line says so. The proof file
+must be there, as `tools/proof skel` wrote it or filled before: its declarations and their order stay, and the answers are
+put in anew. Run `rt fmt` afterwards, and `tools/proof tidy CRATE` once the function is proved.
 
 An answers file. The lines up to the first `## ` go to the top of the proof (comments, use lines). Then blocks:
   ## NEED [NEED ..]   the answer to these needs (or an invariant, a measure). It may begin with an `unfolding` line.
