@@ -6,4 +6,3 @@ pub mod ListsPut
 pub mod Width
 pub mod Index
 pub mod Acts
-pub mod Near

@@ -2,4 +2,3 @@ pub mod Walk
 pub mod List
 pub mod Lists
 pub mod Index
-pub mod Near

@@ -3,6 +3,5 @@
 pub mod index; // the index block
 mod list; // one list, measured or put
 pub mod lists; // all lists
-pub mod near; // whether two lines are neighbours
 pub mod walk; // one list, line by line
 pub mod width; // the least width

@@ -11,7 +11,7 @@ ghost use Rattle.ordering.specs.Orders.{PairThere, PairDone};
 use find_parts::site::Site;
 use order_carry::carry_out;
 use order_lists::lists::Change;
-use order_lists::near::are_near;
+use order_near::are_near;
 use order_removal::lines_right;
 use order_view::NamedView;
 use order_view::named_view;

@@ -23,7 +23,7 @@ use Rattle.orders.proofs.Laws.Right.{Right}
 use Rattle.order_removal.specs.Rank.{Rising}
 use Rattle.find_parts.proofs.Laws.Blocks.{cut, cut-long, no-index}
 use Rattle.find_parts.proofs.Laws.Index.{an-index}
-use Rattle.order_lists.specs.Near.{NearThere, Near}
+use Rattle.order_near.specs.Near.{NearThere, Near}
 use Rattle.order_record.specs.Rebuilt.{Means}
 use Rattle.find_parts.specs.declared.site.Site.{Site}
 use Rattle.order_record.proofs.Laws.Acts.{join-means, part-means}

@@ -9,7 +9,7 @@ use Rattle.outcome.proofs.Laws.{answer-refused}
 use Rattle.format.specs.Places.{viewAt}
 use Rattle.find_parts.proofs.Laws.Blocks.{cut, few-lines}
 use Rattle.find_parts.proofs.Laws.Record.{record-apart}
-use Rattle.order_lists.specs.Near.{Near}
+use Rattle.order_near.specs.Near.{Near}
 use Rattle.orders.specs.Called.{pairAct, pairOrder}
 use Rattle.ordering.proofs.Laws.View.{right, few, tested, placed}
 use Rattle.ordering.proofs.Laws.Pair.{none-rise, pair-means, near-there, no-index-there, no-first, no-second, nothing-to-do, pair-passes}

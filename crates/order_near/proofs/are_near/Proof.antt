@@ -8,13 +8,13 @@ use lib.ListN.{getD}
 use Rattle.bits.specs.Codec.{fieldDec}
 use Rattle.bits.specs.Reads.{Reads, found}
 use Rattle.outcome.specs.Refusals.{badIndex}
-use Rattle.order_lists.specs.Near.{FindThere}
+use Rattle.order_near.specs.Near.{FindThere}
 use Rattle.find_parts.proofs.Laws.Index.{width-is}
 use Rattle.order_lists.proofs.Laws.Index.{before, width-there, width-narrow, as-many, lists-stand}
-use Rattle.order_lists.proofs.Laws.Near.{near-is}
+use Rattle.order_near.proofs.Laws.{near-is}
 use borrow.Author.Needs.{needs}
-use Rattle.order_lists.proofs.near.are_near.Statement.{statement}
-use Rattle.order_lists.proofs.near.are_near.Tie as tie
+use Rattle.order_near.proofs.are_near.Statement.{statement}
+use Rattle.order_near.proofs.are_near.Tie as tie
 
 read : (c : tie.After-sure) → Reads (fieldDec badIndex 8) (c .before .before .before .args .s .now) 0 (found (c .sure .result .value) (c .sure .result .next .at))
 read c = subst (λ (n : ℕ). Reads (fieldDec badIndex 8) (c .before .before .before .args .s .now) n (found (c .sure .result .value) (c .sure .result .next .at))) (c .before .start .ensures) (c .sure .ensures .0 badIndex)

@@ -1,11 +1,12 @@
-// Whether two lines are neighbours: the list of the higher one is found, list by list, and looked through.
-ghost use Rattle.order_lists.specs.Near.{HasThere, Has, FindThere, FoundAt, NearThere, Near};
-use crate::lists::list_at;
-use crate::walk::Walk;
-use crate::walk::step_on;
+// Whether two lines of a view are neighbours, by the index block of an accepted record: the list of the higher one is found, list by
+// list, and looked through for the lower one.
+ghost use Rattle.order_near.specs.Near.{HasThere, Has, FindThere, FoundAt, NearThere, Near};
 use bits::Cursor;
+use order_lists::lists::list_at;
+use order_lists::walk::Walk;
+use order_lists::walk::step_on;
 
-// Whether line `low` is in the list that starts here.
+// Whether line `low` is in the list that `from` is at the start of. Its differences have w bits.
 fn list_has(s: &[u8], w: usize, from: Walk, low: usize) -> bool
     requires { ⌜ HasThere w (now s) from ⌝ }
     ensures { λ r. ⌜ Has w (now (s .entry)) from low r ⌝ }
@@ -21,7 +22,7 @@ fn list_has(s: &[u8], w: usize, from: Walk, low: usize) -> bool
     false
 }
 
-// The list of this line in the block s, whose lists have numbers of w bits.
+// The list of line `line` in the index block s: behind those of the lines before it. Counts and differences have w bits.
 fn list_of(s: &[u8], w: usize, line: usize) -> Walk
     requires { ⌜ FindThere w (now s) line ⌝ }
     ensures { λ r. ⌜ FoundAt w (now (s .entry)) line r ⌝ }
@@ -37,7 +38,8 @@ fn list_of(s: &[u8], w: usize, line: usize) -> Walk
     list.walk
 }
 
-// Whether lines `high` and `low` are neighbours, by the index block s.
+// Whether line `low` is a neighbour of line `high`, which is not below it, by the index block s: being neighbours is written once, at
+// the higher line.
 pub fn are_near(s: &[u8], high: usize, low: usize) -> bool
     requires { ⌜ NearThere (now s) high ⌝ }
     ensures { λ r. ⌜ Near (now (s .entry)) high low r ⌝ }

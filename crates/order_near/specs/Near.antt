@@ -1,4 +1,4 @@
--- Whether a line is in another's list: what the code that finds the list and looks through it asks and answers.
+-- Whether a line is in another's list of the index block s: what the code that finds the list and looks through it asks and answers.
 use mathlib.Core.Path.{_≡_}
 use Prim.Native.Nat.{ℕ, _≤_, _<_}
 use mathlib.Core.Bool.{Bool}
@@ -10,11 +10,11 @@ use Rattle.bits.specs.Bytes.{bitsOf}
 use Rattle.bits.specs.Codec.{got}
 use Rattle.format.specs.Index.{Index, indexBlock}
 use Rattle.orders.specs.Survive.{elem}
 use Rattle.order_lists.specs.Walk.{WalkAt}
 use Rattle.order_lists.specs.Lists.{ListsAt}
 use Rattle.order_lists.specs.declared.walk.Walk.{Walk}
 
--- ---- one list
+-- ---- one list, at the walk k
 
 pub record HasThere (w : ℕ) (s : List ℕ) (k : Walk) : Type 0 where
   pub narrow : w ≤ 16
@@ -27,7 +27,7 @@ pub record HasThere (w : ℕ) (s : List ℕ) (k : Walk) : Type 0 where
 pub record Has (w : ℕ) (s : List ℕ) (k : Walk) (low : ℕ) (r : Bool) : Type 0 where
   pub is : (ns : List ℕ) (u : Bits) → WalkAt w s k ns u → r ≡ elem low ns
 
--- ---- a line's list
+-- ---- the list of line `line`
 
 pub record FindThere (w : ℕ) (s : List ℕ) (line : ℕ) : Type 0 where
   pub narrow : w ≤ 16
@@ -42,7 +42,7 @@ pub record FoundAt (w : ℕ) (s : List ℕ) (line : ℕ) (r : Walk) : Type 0 whe
   pub none : r .waiting ≡ 0
   pub is : (ls : List (List ℕ)) (u : Bits) → ListsAt w s 0 8 ls u → line < length ls → (v : Bits) × WalkAt w s r (getD ls line []) v
 
--- ---- the index block, of a view with so many lines
+-- ---- whether line `low` is in the list of line `high`, in the index block of a view whose line count is `lines`
 
 pub record NearThere (s : List ℕ) (high : ℕ) : Type 0 where
   pub short : length s ≤ 65535

@@ -3,9 +3,9 @@
 use native.Mathlib.Omega.{arith}
 use mathlib.Core.Path.{_≡_}
 use Prim.Native.Nat.{_-_, _≤_}
-use Rattle.order_lists.proofs.Laws.Near.{PassingAll, NextList, next-list, passing-first, passing-next, passing-done}
-use Rattle.order_lists.proofs.near.list_of.Statement.{statement}
-use Rattle.order_lists.proofs.near.list_of.Tie as tie
+use Rattle.order_near.proofs.Laws.{PassingAll, NextList, next-list, passing-first, passing-next, passing-done}
+use Rattle.order_near.proofs.list_of.Statement.{statement}
+use Rattle.order_near.proofs.list_of.Tie as tie
 
 abbrev Inv-loop : tie.InvT-loop
 Inv-loop s w line p₀ l₀ p l =

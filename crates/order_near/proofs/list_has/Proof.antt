@@ -2,9 +2,9 @@
 -- Line by line. The invariant: the line is in the list if it is in what is still to come.
 use native.Mathlib.Omega.{arith}
 use mathlib.Core.Path.{_≡_}
-use Rattle.order_lists.proofs.Laws.Near.{LookingAll, looking-first, looking-found, looking-next, looking-done}
-use Rattle.order_lists.proofs.near.list_has.Statement.{statement}
-use Rattle.order_lists.proofs.near.list_has.Tie as tie
+use Rattle.order_near.proofs.Laws.{LookingAll, looking-first, looking-found, looking-next, looking-done}
+use Rattle.order_near.proofs.list_has.Statement.{statement}
+use Rattle.order_near.proofs.list_has.Tie as tie
 
 abbrev Inv-loop : tie.InvT-loop
 Inv-loop s w low k₀ k =

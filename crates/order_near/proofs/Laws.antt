@@ -15,15 +15,15 @@ use Rattle.bits.specs.Codec.{fieldDec}
 use Rattle.bits.specs.Reads.{found, Reads}
 use Rattle.outcome.specs.Refusals.{badIndex}
 use Rattle.orders.specs.Survive.{elem}
 use Rattle.order_lists.specs.Walk.{putIn, WalkAt, Steps}
 use Rattle.order_lists.specs.Lists.{ListsAt, ListHere, EntryAt}
-use Rattle.order_lists.specs.Near.{Has, FoundAt, Near}
+use Rattle.order_near.specs.Near.{Has, FoundAt, Near}
 use Rattle.order_lists.specs.declared.walk.Walk.{Walk}
 use Rattle.order_lists.specs.declared.walk.Step.{Step}
 use Rattle.order_lists.specs.declared.lists.Entry.{Entry}
 use Rattle.order_lists.proofs.Laws.Lists.{first-here, others-at}
 use Rattle.find_parts.proofs.Laws.Index.{width-is}
 use Rattle.order_lists.proofs.Laws.Index.{before, as-many, lists-stand}
 
 -- ---- one list
 
