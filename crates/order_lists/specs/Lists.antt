@@ -83,14 +83,14 @@ pub record ListsNumbered (w : ℕ) (s : List ℕ) (lines : ℕ) (ch : Change) (r
       → (r .lists ≡ length (newFrom (listed removal) ch 0 ls)) × (r .entries ≡ total length (newFrom (listed removal) ch 0 ls))
       × (r .most ≡ maxOf (numbersFrom 0 (newFrom (listed removal) ch 0 ls)))
 
--- ---- all lists put at a width
+-- ---- all lists put at a width, behind the byte that says it
 
-pub record ListsPutThere (w : ℕ) (s : List ℕ) (lines : ℕ) (ch : Change) (removal : List ℕ) (width : ℕ) (out : List ℕ) (at : ℕ) : Type 0 where
+pub record ListsPutThere (w : ℕ) (s : List ℕ) (lines : ℕ) (ch : Change) (removal : List ℕ) (width : ℕ) (out : List ℕ) : Type 0 where
   pub there : ListsThere w s lines ch removal
   pub narrow : width ≤ 16
   pub fits : Along up (FitsList width) 0 (newFrom (listed removal) ch 0 (there .value))
-  pub room : Room out at (length (encAlong (neighbours width) up 0 (newFrom (listed removal) ch 0 (there .value))))
+  pub room : Room out 8 (length (encAlong (neighbours width) up 0 (newFrom (listed removal) ch 0 (there .value))))
 
-pub record ListsPut (w : ℕ) (s : List ℕ) (lines : ℕ) (ch : Change) (removal : List ℕ) (width : ℕ) (old : List ℕ) (at : ℕ) (now : List ℕ) (r : ℕ) : Type 0 where
+pub record ListsPut (w : ℕ) (s : List ℕ) (lines : ℕ) (ch : Change) (removal : List ℕ) (width : ℕ) (old now : List ℕ) (r : ℕ) : Type 0 where
   pub is : (ls : List (List ℕ)) (u : Bits) → ListsAt w s 0 8 ls u → length ls ≡ lines → Along up (FitsList width) 0 (newFrom (listed removal) ch 0 ls)
-      → Puts (encAlong (neighbours width) up 0 (newFrom (listed removal) ch 0 ls)) old at now r
+      → Puts (encAlong (neighbours width) up 0 (newFrom (listed removal) ch 0 ls)) old 8 now r

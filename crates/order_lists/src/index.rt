@@ -40,7 +40,7 @@ pub fn index_put(
     ensures { λ r. ⌜ IndexPut (now (s .entry)) lines change (now (removal .entry)) (now (out .entry)) (now (out .exit)) r ⌝ }
 {
     let w = Cursor::start().sure(s, 8);
-    let at = put_bits(out, 0, width, 8);
-    let end = lists_put(out, at, s, w.value, lines, change, removal, width);
+    put_bits(out, 0, width, 8);
+    let end = lists_put(out, s, w.value, lines, change, removal, width);
     (end + 7) / 8
 }

@@ -9,7 +9,16 @@ use crate::walk::step_on;
 use put_bits::put_bits;
 use put_bits::put_into;
 
-// How many neighbours a list has, and its largest difference.
+// A list of the old index under the order: the walk along it in the block, the line that is put in where one waits, the line that is
+// left out, and the new number of the line whose list it is.
+pub struct OldList {
+    pub walk: Walk,
+    pub low: usize,
+    pub drop: usize,
+    pub own: usize,
+}
+
+// How many neighbours the new list has, and its largest difference.
 pub struct Numbers {
     pub count: usize,
     pub most: usize,
@@ -21,27 +30,19 @@ pub fn larger(a: usize, b: usize) -> usize
     if a < b { b } else { a }
 }
 
-// The list that starts here, of the line whose new number is l.
-pub fn list_numbers(
-    s: &[u8],
-    w: usize,
-    from: Walk,
-    low: usize,
-    drop: usize,
-    lines: &[u8],
-    l: usize,
-) -> Numbers
-    requires { ⌜ ListThere w (now s) from low drop (now lines) l ⌝ }
-    ensures { λ r. ⌜ Numbered w (now (s .entry)) from low drop (now (lines .entry)) l r ⌝ }
+// The list `list` of the index block s, whose numbers have w bits, after the order.
+pub fn list_numbers(s: &[u8], w: usize, list: OldList, removal: &[u8]) -> Numbers
+    requires { ⌜ ListThere w (now s) list (now removal) ⌝ }
+    ensures { λ r. ⌜ Numbered w (now (s .entry)) list (now (removal .entry)) r ⌝ }
 {
-    let mut k = from;
-    let mut before = l;
+    let mut k = list.walk;
+    let mut before = list.own;
     let mut count: usize = 0;
     let mut most: usize = 0;
     while 0 < k.left + k.waiting {
-        let step = step_on(s, w, k, low);
+        let step = step_on(s, w, k, list.low);
         k = step.next;
-        let Fate::Stays(line) = fate_of(lines, drop, step.line) else {
+        let Fate::Stays(line) = fate_of(removal, list.drop, step.line) else {
             continue;
         };
         most = larger(most, before - line);
@@ -51,30 +52,28 @@ pub fn list_numbers(
     Numbers { count, most }
 }
 
-// The list that starts here, of the line whose new number is l, put at this width. Its count stands first and is known last.
+// The same list put at place `at` of the output, with numbers of `width` bits; the answer is the place behind it. Its count stands
+// first and is known last.
 pub fn list_put(
     out: &mut [u8],
     at: usize,
     s: &[u8],
     w: usize,
-    from: Walk,
-    low: usize,
-    drop: usize,
-    lines: &[u8],
-    l: usize,
+    list: OldList,
+    removal: &[u8],
     width: usize,
 ) -> usize
-    requires { ⌜ PutThere w (now s) from low drop (now lines) l width (now out) at ⌝ }
-    ensures { λ r. ⌜ ListPut w (now (s .entry)) from low drop (now (lines .entry)) l width (now (out .entry)) at (now (out .exit)) r ⌝ }
+    requires { ⌜ PutThere w (now s) list (now removal) width (now out) at ⌝ }
+    ensures { λ r. ⌜ ListPut w (now (s .entry)) list (now (removal .entry)) width (now (out .entry)) at (now (out .exit)) r ⌝ }
 {
     let mut p = put_bits(out, at, 0, width);
-    let mut k = from;
-    let mut before = l;
+    let mut k = list.walk;
+    let mut before = list.own;
     let mut count: usize = 0;
     while 0 < k.left + k.waiting {
-        let step = step_on(s, w, k, low);
+        let step = step_on(s, w, k, list.low);
         k = step.next;
-        let Fate::Stays(line) = fate_of(lines, drop, step.line) else {
+        let Fate::Stays(line) = fate_of(removal, list.drop, step.line) else {
             continue;
         };
         p = put_bits(out, p, before - line, width);

@@ -2,6 +2,7 @@
 // passed where the removal names its line.
 ghost use mathlib.Core.Path.{_≡_};
 ghost use Rattle.order_lists.specs.Lists.{waits, leaves, EntryThere, EntryAt, ListsThere, ListsNumbered, ListsPutThere, ListsPut};
+use crate::list::OldList;
 use crate::list::larger;
 use crate::list::list_numbers;
 use crate::list::list_put;
@@ -83,14 +84,21 @@ pub fn lists_numbers(s: &[u8], w: usize, lines: usize, change: Change, removal: 
     while l < lines {
         let waiting = waiting_at(change, l);
         let drop = left_out_at(change, l);
-        let list = list_at(s, w, p, l, waiting);
+        let found = list_at(s, w, p, l, waiting);
         let rank = rank_of(removal, l);
-        p = list.next;
+        p = found.next;
         l += 1;
         if rank.gone {
             continue;
         }
-        let numbers = list_numbers(s, w, list.walk, change.low, drop, removal, lists);
+        let walk = found.walk;
+        let list = OldList {
+            walk,
+            low: change.low,
+            drop,
+            own: lists,
+        };
+        let numbers = list_numbers(s, w, list, removal);
         entries += numbers.count;
         most = larger(most, larger(numbers.count, numbers.most));
         lists += 1;
@@ -102,10 +110,10 @@ pub fn lists_numbers(s: &[u8], w: usize, lines: usize, change: Change, removal: 
     }
 }
 
-// The same lists put at a width, from place `at` of the output on.
+// The same lists put with numbers of `width` bits, where they stand in an index block: behind the byte of its width. The answer is
+// the place behind them.
 pub fn lists_put(
     out: &mut [u8],
-    at: usize,
     s: &[u8],
     w: usize,
     lines: usize,
@@ -113,35 +121,31 @@ pub fn lists_put(
     removal: &[u8],
     width: usize,
 ) -> usize
-    requires { ⌜ ListsPutThere w (now s) lines change (now removal) width (now out) at ⌝ }
-    ensures { λ r. ⌜ ListsPut w (now (s .entry)) lines change (now (removal .entry)) width (now (out .entry)) at (now (out .exit)) r ⌝ }
+    requires { ⌜ ListsPutThere w (now s) lines change (now removal) width (now out) ⌝ }
+    ensures { λ r. ⌜ ListsPut w (now (s .entry)) lines change (now (removal .entry)) width (now (out .entry)) (now (out .exit)) r ⌝ }
 {
-    let mut q = at;
+    let mut q: usize = 8;
     let mut p: usize = 8;
     let mut l: usize = 0;
     let mut lists: usize = 0;
     while l < lines {
         let waiting = waiting_at(change, l);
         let drop = left_out_at(change, l);
-        let list = list_at(s, w, p, l, waiting);
+        let found = list_at(s, w, p, l, waiting);
         let rank = rank_of(removal, l);
-        p = list.next;
+        p = found.next;
         l += 1;
         if rank.gone {
             continue;
         }
-        q = list_put(
-            out,
-            q,
-            s,
-            w,
-            list.walk,
-            change.low,
+        let walk = found.walk;
+        let list = OldList {
+            walk,
+            low: change.low,
             drop,
-            removal,
-            lists,
-            width,
-        );
+            own: lists,
+        };
+        q = list_put(out, q, s, w, list, removal, width);
         lists += 1;
     }
     q

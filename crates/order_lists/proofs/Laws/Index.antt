@@ -87,9 +87,9 @@ module _ (ls : List (List ℕ)) where
   unfolding leastWidth
   least-is e f = f ∙ ap (find 15 1) e
 
-  block-laid : {old mid now : List ℕ} {p q r : ℕ} → PutMore old 0 w 8 mid p → Puts (encAlong (neighbours w) up 0 ls) mid p now q → r ≡ (q + 7) / 8
+  block-laid : {old mid now : List ℕ} {p q r : ℕ} → PutMore old 0 w 8 mid p → Puts (encAlong (neighbours w) up 0 ls) mid 8 now q → r ≡ (q + 7) / 8
       → Laid (inBytes (indexBlock 0 .enc (some (indexOf ls)))) old now r
-  block-laid {old} h P e = rw (index-enc 0 (indexOf ls)) (put-laid (P .is (bitsOfNumber 8 w) old (h .is [] old (put-none old))) e)
+  block-laid {old} h P e = rw (index-enc 0 (indexOf ls)) (put-laid (P .is (bitsOfNumber 8 w) old (rw (h .place) at (h .is [] old (put-none old)))) e)
 
   -- ---- how much there is
 
@@ -132,19 +132,19 @@ module _ (s : List ℕ) (lines : ℕ) (ch : Change) (removal : List ℕ) {v q : 
               (x, rw (a, b, x) (sym (new-long (left removal ch i))));
         }
 
-  lists-are : {width : ℕ} {i : Index} {u : Bits} {mid now : List ℕ} {at p : ℕ} → indexBlock lines .dec (bitsOf s) ≡ got (some i) u → width ≡ leastWidth (left removal ch i)
-      → Along up (Falls 0) 0 (left removal ch i) → length (left removal ch i) ≤ 1024 → ListsPut v s lines ch removal width mid at now p
-      → Puts (encAlong (neighbours (leastWidth (left removal ch i))) up 0 (left removal ch i)) mid at now p
+  lists-are : {width : ℕ} {i : Index} {u : Bits} {mid now : List ℕ} {p : ℕ} → indexBlock lines .dec (bitsOf s) ≡ got (some i) u → width ≡ leastWidth (left removal ch i)
+      → Along up (Falls 0) 0 (left removal ch i) → length (left removal ch i) ≤ 1024 → ListsPut v s lines ch removal width mid now p
+      → Puts (encAlong (neighbours (leastWidth (left removal ch i))) up 0 (left removal ch i)) mid 8 now p
   lists-are {i = i} e x f n L =
       rw (width-is lines s e h, x) at L .is (i .lists) (before s lines e .after) (lists-stand s lines e) (as-many s lines e) (least-right (left removal ch i) f n .lists)
 
-  pub put-end : {width : ℕ} {i : Index} {u : Bits} {mid now : List ℕ} {at p : ℕ} → indexBlock lines .dec (bitsOf s) ≡ got (some i) u → width ≡ leastWidth (left removal ch i)
-      → Along up (Falls 0) 0 (left removal ch i) → length (left removal ch i) ≤ 1024 → ListsPut v s lines ch removal width mid at now p
-      → p ≡ at + length (encAlong (neighbours (leastWidth (left removal ch i))) up 0 (left removal ch i))
+  pub put-end : {width : ℕ} {i : Index} {u : Bits} {mid now : List ℕ} {p : ℕ} → indexBlock lines .dec (bitsOf s) ≡ got (some i) u → width ≡ leastWidth (left removal ch i)
+      → Along up (Falls 0) 0 (left removal ch i) → length (left removal ch i) ≤ 1024 → ListsPut v s lines ch removal width mid now p
+      → p ≡ 8 + length (encAlong (neighbours (leastWidth (left removal ch i))) up 0 (left removal ch i))
   put-end e x f n L = lists-are e x f n L .place
 
   pub put-index : {width : ℕ} {i : Index} {u : Bits} {old mid now : List ℕ} {at p r : ℕ} → indexBlock lines .dec (bitsOf s) ≡ got (some i) u → width ≡ leastWidth (left removal ch i)
-      → PutMore old 0 width 8 mid at → ListsPut v s lines ch removal width mid at now p → r ≡ (p + 7) / 8 → IndexPut s lines ch removal old now r
+      → PutMore old 0 width 8 mid at → ListsPut v s lines ch removal width mid now p → r ≡ (p + 7) / 8 → IndexPut s lines ch removal old now r
   put-index {i = i} d k m L z =
       record {
         is = λ j u e f n.

@@ -30,6 +30,7 @@ use Rattle.order_lists.specs.Walk.{putIn, stayed, WalkAt}
 use Rattle.order_lists.specs.List.{become, Numbered}
 use Rattle.order_lists.specs.Lists.{waits, leaves, newList, newFrom, ListsAt, ListHere, EntryAt, ListsNumbered}
 use Rattle.order_lists.specs.declared.walk.Walk.{Walk}
+use Rattle.order_lists.specs.declared.list.OldList.{OldList}
 use Rattle.order_lists.specs.declared.list.Numbers.{Numbers}
 use Rattle.order_lists.specs.declared.lists.Change.{Change}
 use Rattle.order_lists.specs.declared.lists.Entry.{Entry}
@@ -109,10 +110,14 @@ pub waits-le : (ch : Change) (l : ℕ) → waits ch l ≤ 1
 waits-le ch l =
     pick-case (λ (n : ℕ). n ≤ 1) (eqb l (ch .high)) _ _ (λ t. pick-case (λ (n : ℕ). n ≤ 1) (ch .joins) 1 0 (λ u. omega arith) (λ u. omega arith)) (λ t. omega arith)
 
--- the list that a walk gives is the line's own
-pub same-list : (removal : List ℕ) (ch : Change) (l : ℕ) (k : Walk) {drop : ℕ} (ns : List ℕ) → k .waiting ≡ waits ch l → drop ≡ leaves ch l
-    → become k (ch .low) drop removal ns ≡ newList (listed removal) ch l ns
-same-list removal ch l k ns e f = ap₂ (λ (n m : ℕ). stayed (listed removal) m (putIn n (ch .low) ns)) e f
+-- the list at the walk k under the order, as code has it
+abbrev pub under : Change → Walk → ℕ → ℕ → OldList
+under ch k drop own = record { walk = k; low = ch .low; drop = drop; own = own }
+
+-- what it becomes is the line's new list
+pub same-list : (removal : List ℕ) (ch : Change) (l : ℕ) (k : Walk) (own : ℕ) {drop : ℕ} (ns : List ℕ) → k .waiting ≡ waits ch l → drop ≡ leaves ch l
+    → become (under ch k drop own) removal ns ≡ newList (listed removal) ch l ns
+same-list removal ch l k own ns e f = ap₂ (λ (n m : ℕ). stayed (listed removal) m (putIn n (ch .low) ns)) e f
 
 -- ---- measuring: of all lists after the order, those before are measured, and ys are still to come
 
@@ -153,21 +158,21 @@ module _ (w : ℕ) (s removal : List ℕ) (ch : Change) (lines : ℕ) where
     module _ {drop : ℕ} (n : elem l (listed removal) ≡ false) (b : waiting ≡ waits ch l) (d : drop ≡ leaves ch l) where
       -- the list that stays, as the code asks for it
       pub list-falls : {all : List (List ℕ)} {u : Bits} → (t : Turn (newList (listed removal) ch) (listed removal) lines (Stand w s u) (Measured all lists entries most) l p)
-          → Falls 0 lists (become (e .walk) (ch .low) drop removal (t .value))
-      list-falls t = rw (same-list removal ch l (e .walk) (t .value) (E .waits ∙ b) d) (t .stays n .falls .0)
+          → Falls 0 lists (become (under ch (e .walk) drop lists) removal (t .value))
+      list-falls t = rw (same-list removal ch l (e .walk) lists (t .value) (E .waits ∙ b) d) (t .stays n .falls .0)
 
       pub count-few : {all : List (List ℕ)} {u : Bits} {r : Numbers} → (t : Turn (newList (listed removal) ch) (listed removal) lines (Stand w s u) (Measured all lists entries most) l p)
-          → Numbered w s (e .walk) (ch .low) drop removal lists r → r .count ≤ lists + 1
+          → Numbered w s (under ch (e .walk) drop lists) removal r → r .count ≤ lists + 1
       count-few t N =
           let f = list-falls t in
           let (y, v) = N .is (t .value) (next-behind t) (next-walk t E) f in
-          omega (arith, y, falls-count 0 lists (become (e .walk) (ch .low) drop removal (t .value)) (omega arith) f)
+          omega (arith, y, falls-count 0 lists (become (under ch (e .walk) drop lists) removal (t .value)) (omega arith) f)
 
-      pub going-stays : {r : Numbers} {bigger : ℕ} → Numbered w s (e .walk) (ch .low) drop removal lists r → bigger ≡ max most (max (r .count) (r .most))
+      pub going-stays : {r : Numbers} {bigger : ℕ} → Numbered w s (under ch (e .walk) drop lists) removal r → bigger ≡ max most (max (r .count) (r .most))
           → GoingAll w s removal ch lines (l + 1) (e .next) (lists + 1) (entries + r .count) bigger
       going-stays N z ls u a c f =
           let t = turn (G ls u a c f) k in
-          let i = same-list removal ch l (e .walk) (t .value) (E .waits ∙ b) d in
+          let i = same-list removal ch l (e .walk) lists (t .value) (E .waits ∙ b) d in
           let (y, v) = N .is (t .value) (next-behind t) (next-walk t E) (list-falls t) in
           stays-on t (next-at t E) (rw z (measured-more (newList (listed removal) ch l (t .value)) (newFrom (listed removal) ch (l + 1) (t .others)) (t .stays n) (rw i at y) (rw i at v)))
 

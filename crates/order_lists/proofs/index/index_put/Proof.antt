@@ -59,14 +59,14 @@ lists-put-requires c κs =
       };
       narrow = fits (c .before .before .before .before .before .before .before .before .before .before) .high;
       fits = fits (c .before .before .before .before .before .before .before .before .before .before) .lists;
-      room = record { room = omega (arith, m .place, m .same, r .room); near = omega (arith, m .place, r .near) };
+      room = record { room = omega (arith, m .same, r .room); near = r .near };
     })
 
 add-result : tie.Need-add-result
 add-result c =
     let p = c .before .before .before .before .before .before .before .before .before .before .before .before .before .pre in
     let r = block-room (left (c .before .before .before .before .before .before .before .before .before .before .before .before .before .args .removal .now) (c .before .before .before .before .before .before .before .before .before .before .before .before .before .args .change) (p .there .value)) {out = c .before .before .before .before .before .before .before .before .before .before .before .before .before .args .out .now} (p .small) (p .room) in
-    omega (arith, put-end (c .before .before .before .before .before .before .before .before .before .before .before .before .before .args .s .now) (c .before .before .before .before .before .before .before .before .before .before .before .before .before .args .lines) (c .before .before .before .before .before .before .before .before .before .before .before .before .before .args .change) (c .before .before .before .before .before .before .before .before .before .before .before .before .before .args .removal .now) (read (c .before .before .before .before .before .before .before .before)) (p .there .reads) (p .least) (p .there .falls) (p .there .kept) (c .before .before .lists-put .ensures), c .before .before .before .before .before .before .put-bits .ensures .place, r .near)
+    omega (arith, put-end (c .before .before .before .before .before .before .before .before .before .before .before .before .before .args .s .now) (c .before .before .before .before .before .before .before .before .before .before .before .before .before .args .lines) (c .before .before .before .before .before .before .before .before .before .before .before .before .before .args .change) (c .before .before .before .before .before .before .before .before .before .before .before .before .before .args .removal .now) (read (c .before .before .before .before .before .before .before .before)) (p .there .reads) (p .least) (p .there .falls) (p .there .kept) (c .before .before .lists-put .ensures), r .near)
 
 same-length : tie.Need-same-length
 same-length c = search needs

@@ -16,25 +16,25 @@ use Rattle.order_lists.proofs.list.list_numbers.Statement.{statement}
 use Rattle.order_lists.proofs.list.list_numbers.Tie as tie
 
 abbrev Inv-loop : tie.InvT-loop
-Inv-loop s w low drop lines l k₀ before₀ count₀ most₀ k before count most =
-    (count + (k .left + k .waiting) ≤ 65536) × MeasuringAll w s low drop lines l k₀ k before count most
+Inv-loop s w list removal k₀ before₀ count₀ most₀ k before count most =
+    (count + (k .left + k .waiting) ≤ 65536) × MeasuringAll w s list removal k before count most
 
 abbrev μ-loop : tie.MeasureT-loop
-μ-loop s w low drop lines l k₀ before₀ count₀ most₀ k before count most =
+μ-loop s w list removal k₀ before₀ count₀ most₀ k before count most =
     k .left + k .waiting
 
-going : (c : tie.At-loop Inv-loop μ-loop) → Measuring (c .before .before .before .args .w) (c .before .before .before .args .s .now) (c .before .before .before .args .low) (c .before .before .before .args .drop) (c .before .before .before .args .lines .now) (become (c .before .before .before .args .from) (c .before .before .before .args .low) (c .before .before .before .args .drop) (c .before .before .before .args .lines .now) (c .before .before .before .pre .value)) (c .before .before .before .args .l) (c .loop .k) (c .before .before .before .pre .behind) (c .loop .before) (c .loop .count) (c .loop .most)
-going c = let p = c .before .before .before .pre in c .loop .inv .1 (p .value) (p .behind) (p .at) (p .falls)
+going : (c : tie.At-loop Inv-loop μ-loop) → Measuring (c .before .before .before .before .args .w) (c .before .before .before .before .args .s .now) (c .before .before .before .before .args .list) (c .before .before .before .before .args .removal .now) (become (c .before .before .before .before .args .list) (c .before .before .before .before .args .removal .now) (c .before .before .before .before .pre .value)) (c .loop .k) (c .before .before .before .before .pre .behind) (c .loop .before) (c .loop .count) (c .loop .most)
+going c = let p = c .before .before .before .before .pre in c .loop .inv .1 (p .value) (p .behind) (p .at) (p .falls)
 
-fares : (c : tie.After-fate-of Inv-loop μ-loop) (r : Fate) → c .fate-of .result ≡ r → Fares (listed (c .before .before .before .before .before .before .before .before .args .lines .now)) (c .before .before .before .before .before .before .before .before .args .drop) (c .before .before .step-on .result .line) r
-fares c r e = subst (λ (x : Fate). Fares (listed (c .before .before .before .before .before .before .before .before .args .lines .now)) (c .before .before .before .before .before .before .before .before .args .drop) (c .before .before .step-on .result .line) x) e (c .fate-of .ensures)
+fares : (c : tie.After-fate-of Inv-loop μ-loop) (r : Fate) → c .fate-of .result ≡ r → Fares (listed (c .before .before .before .before .before .before .before .before .before .args .removal .now)) (c .before .before .before .before .before .before .before .before .before .args .list .drop) (c .before .before .step-on .result .line) r
+fares c r e = subst (λ (x : Fate). Fares (listed (c .before .before .before .before .before .before .before .before .before .args .removal .now)) (c .before .before .before .before .before .before .before .before .before .args .list .drop) (c .before .before .step-on .result .line) x) e (c .fate-of .ensures)
 
-stays : (c : tie.After-line Inv-loop μ-loop) → T (not (gone (listed (c .before .before .before .before .before .before .before .before .before .before .args .lines .now)) (c .before .before .before .before .before .before .before .before .before .before .args .drop) (c .before .before .before .before .step-on .result .line))) × (c .line .given .0 .0 ≡ c .before .before .before .before .step-on .result .line - below (listed (c .before .before .before .before .before .before .before .before .before .before .args .lines .now)) (c .before .before .before .before .step-on .result .line))
+stays : (c : tie.After-line Inv-loop μ-loop) → T (not (gone (listed (c .before .before .before .before .before .before .before .before .before .before .before .args .removal .now)) (c .before .before .before .before .before .before .before .before .before .before .before .args .list .drop) (c .before .before .before .before .step-on .result .line))) × (c .line .given .0 .0 ≡ c .before .before .before .before .step-on .result .line - below (listed (c .before .before .before .before .before .before .before .before .before .before .before .args .removal .now)) (c .before .before .before .before .step-on .result .line))
 stays c = fares (c .before .before) _ (c .line .given .1)
 
 loop-holds : tie.Need-loop-holds Inv-loop μ-loop
 loop-holds c =
-    (omega (arith, c .before .before .pre .few, c .before .before .pre .at .one), measuring-first)
+    (omega (arith, c .before .before .before .pre .few, c .before .before .before .pre .at .one), measuring-first)
 
 add-if1 : tie.Need-add-if1 Inv-loop μ-loop
 add-if1 c =
@@ -42,13 +42,13 @@ add-if1 c =
 
 step-on-requires : tie.Need-step-on-requires Inv-loop μ-loop
 step-on-requires c κs =
-    let p = c .before .before .before .before .before .pre in
+    let p = c .before .before .before .before .before .before .pre in
     let m = going (c .before .before) in
     record { narrow = p .narrow; short = p .short; more = omega (arith, c .if1 .taken); lines = m .ms; behind = p .behind; at = m .at }
 
 fate-of-requires : tie.Need-fate-of-requires Inv-loop μ-loop
 fate-of-requires c κs =
-    c .before .before .before .before .before .before .before .pre .rising
+    c .before .before .before .before .before .before .before .before .pre .rising
 
 enum-known-line : tie.Need-enum-known-line Inv-loop μ-loop
 enum-known-line c = search needs

@@ -21,34 +21,34 @@ use Rattle.order_lists.proofs.list.list_put.Statement.{statement}
 use Rattle.order_lists.proofs.list.list_put.Tie as tie
 
 abbrev Inv-loop : tie.InvT-loop
-Inv-loop out₀ at s w low drop lines l width p₀ k₀ before₀ count₀ out p k before count =
-    (count + (k .left + k .waiting) ≤ 65536) × (length out ≡ length out₀) × PuttingAll w s low drop lines l width k₀ k before count out₀ p₀ out p
+Inv-loop out₀ at s w list removal width p₀ k₀ before₀ count₀ out p k before count =
+    (count + (k .left + k .waiting) ≤ 65536) × (length out ≡ length out₀) × PuttingAll w s list removal width k before count out₀ p₀ out p
 
 abbrev μ-loop : tie.MeasureT-loop
-μ-loop out₀ at s w low drop lines l width p₀ k₀ before₀ count₀ out p k before count =
+μ-loop out₀ at s w list removal width p₀ k₀ before₀ count₀ out p k before count =
     k .left + k .waiting
 
 abbrev new : (c : tie.Start Inv-loop μ-loop) → List ℕ
-new c = become (c .args .from) (c .args .low) (c .args .drop) (c .args .lines .now) (c .pre .there .value)
+new c = become (c .args .list) (c .args .removal .now) (c .pre .there .value)
 
-going : (c : tie.At-loop Inv-loop μ-loop) → PuttingList (c .before .before .before .before .before .before .before .before .args .w) (c .before .before .before .before .before .before .before .before .args .s .now) (c .before .before .before .before .before .before .before .before .args .low) (c .before .before .before .before .before .before .before .before .args .drop) (c .before .before .before .before .before .before .before .before .args .lines .now) (new (c .before .before .before .before .before .before .before .before)) (c .before .before .before .before .before .before .before .before .args .l) (c .before .before .before .before .before .before .before .before .args .width) (c .loop .k) (c .before .before .before .before .before .before .before .before .pre .there .behind) (c .loop .before) (c .loop .count) (c .before .before .before .put-bits .last .0) (c .before .before .before .put-bits .result) (c .loop .out) (c .loop .p)
-going c = let p = c .before .before .before .before .before .before .before .before .pre in c .loop .inv .2 (p .there .value) (p .there .behind) (p .there .at) (p .fits)
+going : (c : tie.At-loop Inv-loop μ-loop) → PuttingList (c .before .before .before .before .before .before .before .before .before .args .w) (c .before .before .before .before .before .before .before .before .before .args .s .now) (c .before .before .before .before .before .before .before .before .before .args .list) (c .before .before .before .before .before .before .before .before .before .args .removal .now) (new (c .before .before .before .before .before .before .before .before .before)) (c .before .before .before .before .before .before .before .before .before .args .width) (c .loop .k) (c .before .before .before .before .before .before .before .before .before .pre .there .behind) (c .loop .before) (c .loop .count) (c .before .before .before .before .put-bits .last .0) (c .before .before .before .before .put-bits .result) (c .loop .out) (c .loop .p)
+going c = let p = c .before .before .before .before .before .before .before .before .before .pre in c .loop .inv .2 (p .there .value) (p .there .behind) (p .there .at) (p .fits)
 
-fares : (c : tie.After-fate-of Inv-loop μ-loop) (r : Fate) → c .fate-of .result ≡ r → Fares (listed (c .before .before .before .before .before .before .before .before .before .before .before .before .before .args .lines .now)) (c .before .before .before .before .before .before .before .before .before .before .before .before .before .args .drop) (c .before .before .step-on .result .line) r
-fares c r e = subst (λ (x : Fate). Fares (listed (c .before .before .before .before .before .before .before .before .before .before .before .before .before .args .lines .now)) (c .before .before .before .before .before .before .before .before .before .before .before .before .before .args .drop) (c .before .before .step-on .result .line) x) e (c .fate-of .ensures)
+fares : (c : tie.After-fate-of Inv-loop μ-loop) (r : Fate) → c .fate-of .result ≡ r → Fares (listed (c .before .before .before .before .before .before .before .before .before .before .before .before .before .before .args .removal .now)) (c .before .before .before .before .before .before .before .before .before .before .before .before .before .before .args .list .drop) (c .before .before .step-on .result .line) r
+fares c r e = subst (λ (x : Fate). Fares (listed (c .before .before .before .before .before .before .before .before .before .before .before .before .before .before .args .removal .now)) (c .before .before .before .before .before .before .before .before .before .before .before .before .before .before .args .list .drop) (c .before .before .step-on .result .line) x) e (c .fate-of .ensures)
 
-stays : (c : tie.After-line Inv-loop μ-loop) → T (not (gone (listed (c .before .before .before .before .before .before .before .before .before .before .before .before .before .before .before .args .lines .now)) (c .before .before .before .before .before .before .before .before .before .before .before .before .before .before .before .args .drop) (c .before .before .before .before .step-on .result .line))) × (c .line .given .0 .0 ≡ c .before .before .before .before .step-on .result .line - below (listed (c .before .before .before .before .before .before .before .before .before .before .before .before .before .before .before .args .lines .now)) (c .before .before .before .before .step-on .result .line))
+stays : (c : tie.After-line Inv-loop μ-loop) → T (not (gone (listed (c .before .before .before .before .before .before .before .before .before .before .before .before .before .before .before .before .args .removal .now)) (c .before .before .before .before .before .before .before .before .before .before .before .before .before .before .before .before .args .list .drop) (c .before .before .before .before .step-on .result .line))) × (c .line .given .0 .0 ≡ c .before .before .before .before .step-on .result .line - below (listed (c .before .before .before .before .before .before .before .before .before .before .before .before .before .before .before .before .args .removal .now)) (c .before .before .before .before .step-on .result .line))
 stays c = fares (c .before .before) _ (c .line .given .1)
 
 put-bits-requires : tie.Need-put-bits-requires Inv-loop μ-loop
 put-bits-requires c κs =
     let p = c .before .before .before .before .pre in
-    let b = list-bits (c .before .before .before .before .args .width) (c .before .before .before .before .args .l) (new (c .before .before .before .before)) in
+    let b = list-bits (c .before .before .before .before .args .width) (c .before .before .before .before .args .list .own) (new (c .before .before .before .before)) in
     record { below = pow-pos (c .before .before .before .before .args .width); narrow = p .narrow; room = omega (arith, b, p .room .room); near = omega (arith, b, p .room .near) }
 
 loop-holds : tie.Need-loop-holds Inv-loop μ-loop
 loop-holds c =
-    (omega (arith, c .before .before .before .before .before .before .before .pre .there .few, c .before .before .before .before .before .before .before .pre .there .at .one), refl, putting-first)
+    (omega (arith, c .before .before .before .before .before .before .before .before .pre .there .few, c .before .before .before .before .before .before .before .before .pre .there .at .one), refl, putting-first)
 
 add-if1 : tie.Need-add-if1 Inv-loop μ-loop
 add-if1 c =
@@ -56,13 +56,13 @@ add-if1 c =
 
 step-on-requires : tie.Need-step-on-requires Inv-loop μ-loop
 step-on-requires c κs =
-    let p = c .before .before .before .before .before .before .before .before .before .before .pre .there in
+    let p = c .before .before .before .before .before .before .before .before .before .before .before .pre .there in
     let m = going (c .before .before) in
     record { narrow = p .narrow; short = p .short; more = omega (arith, c .if1 .taken); lines = m .ms; behind = p .behind; at = m .at }
 
 fate-of-requires : tie.Need-fate-of-requires Inv-loop μ-loop
 fate-of-requires c κs =
-    c .before .before .before .before .before .before .before .before .before .before .before .before .pre .there .rising
+    c .before .before .before .before .before .before .before .before .before .before .before .before .before .pre .there .rising
 
 enum-known-line : tie.Need-enum-known-line Inv-loop μ-loop
 enum-known-line c = search needs
@@ -84,11 +84,11 @@ sub-put-bits c =
 
 put-bits-requires-2 : tie.Need-put-bits-requires-2 Inv-loop μ-loop
 put-bits-requires-2 c κs =
-    let p = c .before .before .before .before .before .before .before .before .before .before .before .before .before .before .before .before .before .pre in
+    let p = c .before .before .before .before .before .before .before .before .before .before .before .before .before .before .before .before .before .before .pre in
     let m = going (c .before .before .before .before .before .before .before .before .before) in
-    let b = list-bits (c .before .before .before .before .before .before .before .before .before .before .before .before .before .before .before .before .before .args .width) (c .before .before .before .before .before .before .before .before .before .before .before .before .before .before .before .before .before .args .l) (new (c .before .before .before .before .before .before .before .before .before .before .before .before .before .before .before .before .before)) in
+    let b = list-bits (c .before .before .before .before .before .before .before .before .before .before .before .before .before .before .before .before .before .before .args .width) (c .before .before .before .before .before .before .before .before .before .before .before .before .before .before .before .before .before .before .args .list .own) (new (c .before .before .before .before .before .before .before .before .before .before .before .before .before .before .before .before .before .before)) in
     let r = put-room (c .before .before .before .before .before .before .step-on .ensures) (c .before .before .line .given .0 .0) (stays (c .before .before) .1) (stays (c .before .before) .0) m in
-    let first = c .before .before .before .before .before .before .before .before .before .before .before .before .put-bits .ensures in
+    let first = c .before .before .before .before .before .before .before .before .before .before .before .before .before .put-bits .ensures in
     record {
       below = put-fits (c .before .before .before .before .before .before .step-on .ensures) (c .before .before .line .given .0 .0) (stays (c .before .before) .1) (stays (c .before .before) .0) m .1;
       narrow = p .narrow;
@@ -110,20 +110,20 @@ loop-again-2 c =
 
 put-into-requires : tie.Need-put-into-requires Inv-loop μ-loop
 put-into-requires c κs =
-    let p = c .before .before .before .before .before .before .before .before .before .before .before .pre in
-    let b = list-bits (c .before .before .before .before .before .before .before .before .before .before .before .args .width) (c .before .before .before .before .before .before .before .before .before .before .before .args .l) (new (c .before .before .before .before .before .before .before .before .before .before .before)) in
+    let p = c .before .before .before .before .before .before .before .before .before .before .before .before .pre in
+    let b = list-bits (c .before .before .before .before .before .before .before .before .before .before .before .before .args .width) (c .before .before .before .before .before .before .before .before .before .before .before .before .args .list .own) (new (c .before .before .before .before .before .before .before .before .before .before .before .before)) in
     let e = all-counted (omega (arith, c .before .if1 .left)) (going (c .before .before .before)) in
-    let first = c .before .before .before .before .before .before .put-bits .ensures in
+    let first = c .before .before .before .before .before .before .before .put-bits .ensures in
     let n = c .before .before .before .loop .inv .1 in
     record { below = rw e (p .fits .count); narrow = p .narrow; room = omega (arith, b, first .same, n, p .room .room); near = omega (arith, b, p .room .near) }
 
 same-length : tie.Need-same-length Inv-loop μ-loop
 same-length c =
-    omega (arith, c .before .before .put-into .ensures .same, c .before .before .before .before .before .before .loop .inv .1, c .before .before .before .before .before .before .before .before .before .put-bits .ensures .same)
+    omega (arith, c .before .before .put-into .ensures .same, c .before .before .before .before .before .before .loop .inv .1, c .before .before .before .before .before .before .before .before .before .before .put-bits .ensures .same)
 
 returns : tie.Need-returns Inv-loop μ-loop
 returns c =
-    put-all (omega (arith, c .before .before .before .before .if1 .left)) (c .before .before .before .before .before .before .before .before .before .put-bits .ensures) (c .before .before .before .before .before .before .loop .inv .2) (c .before .before .put-into .ensures)
+    put-all (omega (arith, c .before .before .before .before .if1 .left)) (c .before .before .before .before .before .before .before .before .before .before .put-bits .ensures) (c .before .before .before .before .before .before .loop .inv .2) (c .before .before .put-into .ensures)
 
 pub list-put-spec : {M : Type 1} → statement M
 list-put-spec =

@@ -27,8 +27,8 @@ next c = let p = c .before .before .before .before .pre in turn (c .before .loop
 kept : (c : tie.Else1 Inv-loop μ-loop) → elem (c .before .before .before .before .before .before .loop .l) (listed (c .before .before .before .before .before .before .before .before .before .args .removal .now)) ≡ false
 kept c = sym (c .before .rank-of .ensures .gone) ∙ c .if1 .left
 
-few : (c : tie.After-list-numbers Inv-loop μ-loop) → c .list-numbers .result .count ≤ c .before .before .before .before .before .before .before .loop .lists + 1
-few c = count-few (c .before .before .before .before .before .before .before .before .before .before .args .w) (c .before .before .before .before .before .before .before .before .before .before .args .s .now) (c .before .before .before .before .before .before .before .before .before .before .args .removal .now) (c .before .before .before .before .before .before .before .before .before .before .args .change) (c .before .before .before .before .before .before .before .before .before .before .args .lines) (c .before .before .before .before .before .before .before .loop .inv .2) (c .before .before .before .before .before .before .loop-test .taken) (c .before .before .before .list-at .ensures) (kept (c .before)) (c .before .before .before .before .before .waiting-at .ensures) (c .before .before .before .before .left-out-at .ensures) (next (c .before .before .before .before .before .before)) (c .list-numbers .ensures)
+few : (c : tie.After-list-numbers Inv-loop μ-loop) → c .list-numbers .result .count ≤ c .before .before .before .before .before .before .before .before .loop .lists + 1
+few c = count-few (c .before .before .before .before .before .before .before .before .before .before .before .args .w) (c .before .before .before .before .before .before .before .before .before .before .before .args .s .now) (c .before .before .before .before .before .before .before .before .before .before .before .args .removal .now) (c .before .before .before .before .before .before .before .before .before .before .before .args .change) (c .before .before .before .before .before .before .before .before .before .before .before .args .lines) (c .before .before .before .before .before .before .before .before .loop .inv .2) (c .before .before .before .before .before .before .before .loop-test .taken) (c .before .before .before .before .list-at .ensures) (kept (c .before .before)) (c .before .before .before .before .before .before .waiting-at .ensures) (c .before .before .before .before .before .left-out-at .ensures) (next (c .before .before .before .before .before .before .before)) (c .list-numbers .ensures)
 
 loop-holds : tie.Need-loop-holds Inv-loop μ-loop
 loop-holds c =
@@ -64,9 +64,9 @@ loop-again c =
 
 list-numbers-requires : tie.Need-list-numbers-requires Inv-loop μ-loop
 list-numbers-requires c κs =
-    let p = c .before .before .before .before .before .before .before .before .before .pre in
-    let x = next (c .before .before .before .before .before) in
-    let E = c .before .before .list-at .ensures in
+    let p = c .before .before .before .before .before .before .before .before .before .before .pre in
+    let x = next (c .before .before .before .before .before .before) in
+    let E = c .before .before .before .list-at .ensures in
     record {
       narrow = p .narrow;
       short = p .short;
@@ -75,12 +75,12 @@ list-numbers-requires c κs =
       value = x .value;
       behind = next-behind x;
       at = next-walk x E;
-      falls = list-falls (c .before .before .before .before .before .before .before .before .before .args .w) (c .before .before .before .before .before .before .before .before .before .args .s .now) (c .before .before .before .before .before .before .before .before .before .args .removal .now) (c .before .before .before .before .before .before .before .before .before .args .change) (c .before .before .before .before .before .before .before .before .before .args .lines) (c .before .before .before .before .before .before .loop .inv .2) (c .before .before .before .before .before .loop-test .taken) E (kept (c)) (c .before .before .before .before .waiting-at .ensures) (c .before .before .before .left-out-at .ensures) x;
+      falls = list-falls (c .before .before .before .before .before .before .before .before .before .before .args .w) (c .before .before .before .before .before .before .before .before .before .before .args .s .now) (c .before .before .before .before .before .before .before .before .before .before .args .removal .now) (c .before .before .before .before .before .before .before .before .before .before .args .change) (c .before .before .before .before .before .before .before .before .before .before .args .lines) (c .before .before .before .before .before .before .before .loop .inv .2) (c .before .before .before .before .before .before .loop-test .taken) E (kept (c .before)) (c .before .before .before .before .before .waiting-at .ensures) (c .before .before .before .before .left-out-at .ensures) x;
     }
 
 add-entries : tie.Need-add-entries Inv-loop μ-loop
 add-entries c =
-    omega (arith, few (c .before), c .before .before .before .before .before .before .before .before .loop .inv .0, c .before .before .before .before .before .before .before .before .loop .inv .1, c .before .before .before .before .before .before .before .before .before .before .before .pre .few, c .before .before .before .before .before .before .before .loop-test .taken)
+    omega (arith, few (c .before), c .before .before .before .before .before .before .before .before .before .loop .inv .0, c .before .before .before .before .before .before .before .before .before .loop .inv .1, c .before .before .before .before .before .before .before .before .before .before .before .before .pre .few, c .before .before .before .before .before .before .before .before .loop-test .taken)
 
 larger-requires : tie.Need-larger-requires Inv-loop μ-loop
 larger-requires c κs = search needs
@@ -90,17 +90,17 @@ larger-requires-2 c κs = search needs
 
 add-lists : tie.Need-add-lists Inv-loop μ-loop
 add-lists c =
-    omega (arith, few (c .before .before .before), c .before .before .before .before .before .before .before .before .before .before .loop .inv .0, c .before .before .before .before .before .before .before .before .before .before .loop .inv .1, c .before .before .before .before .before .before .before .before .before .before .before .before .before .pre .few, c .before .before .before .before .before .before .before .before .before .loop-test .taken)
+    omega (arith, few (c .before .before .before), c .before .before .before .before .before .before .before .before .before .before .before .loop .inv .0, c .before .before .before .before .before .before .before .before .before .before .before .loop .inv .1, c .before .before .before .before .before .before .before .before .before .before .before .before .before .before .pre .few, c .before .before .before .before .before .before .before .before .before .before .loop-test .taken)
 
 loop-less-2 : tie.Need-loop-less-2 Inv-loop μ-loop
 loop-less-2 c =
-    omega (arith, c .before .before .before .before .before .before .before .before .before .loop-test .taken)
+    omega (arith, c .before .before .before .before .before .before .before .before .before .before .loop-test .taken)
 
 loop-again-2 : tie.Need-loop-again-2 Inv-loop μ-loop
 loop-again-2 c = (
-  omega (arith, c .before .before .before .before .before .before .before .before .before .before .loop .inv .0),
-  omega (arith, few (c .before .before .before), c .before .before .before .before .before .before .before .before .before .before .loop .inv .0, c .before .before .before .before .before .before .before .before .before .before .loop .inv .1, c .before .before .before .before .before .before .before .before .before .before .before .before .before .pre .few, c .before .before .before .before .before .before .before .before .before .loop-test .taken),
-  going-stays (c .before .before .before .before .before .before .before .before .before .before .before .before .before .args .w) (c .before .before .before .before .before .before .before .before .before .before .before .before .before .args .s .now) (c .before .before .before .before .before .before .before .before .before .before .before .before .before .args .removal .now) (c .before .before .before .before .before .before .before .before .before .before .before .before .before .args .change) (c .before .before .before .before .before .before .before .before .before .before .before .before .before .args .lines) (c .before .before .before .before .before .before .before .before .before .before .loop .inv .2) (c .before .before .before .before .before .before .before .before .before .loop-test .taken) (c .before .before .before .before .before .before .list-at .ensures) (kept (c .before .before .before .before)) (c .before .before .before .before .before .before .before .before .waiting-at .ensures) (c .before .before .before .before .before .before .before .left-out-at .ensures) (c .before .before .before .list-numbers .ensures) (c .larger2 .ensures ∙ ap (max (c .before .before .before .before .before .before .before .before .before .before .loop .most)) (c .before .larger .ensures)),
+  omega (arith, c .before .before .before .before .before .before .before .before .before .before .before .loop .inv .0),
+  omega (arith, few (c .before .before .before), c .before .before .before .before .before .before .before .before .before .before .before .loop .inv .0, c .before .before .before .before .before .before .before .before .before .before .before .loop .inv .1, c .before .before .before .before .before .before .before .before .before .before .before .before .before .before .pre .few, c .before .before .before .before .before .before .before .before .before .before .loop-test .taken),
+  going-stays (c .before .before .before .before .before .before .before .before .before .before .before .before .before .before .args .w) (c .before .before .before .before .before .before .before .before .before .before .before .before .before .before .args .s .now) (c .before .before .before .before .before .before .before .before .before .before .before .before .before .before .args .removal .now) (c .before .before .before .before .before .before .before .before .before .before .before .before .before .before .args .change) (c .before .before .before .before .before .before .before .before .before .before .before .before .before .before .args .lines) (c .before .before .before .before .before .before .before .before .before .before .before .loop .inv .2) (c .before .before .before .before .before .before .before .before .before .before .loop-test .taken) (c .before .before .before .before .before .before .before .list-at .ensures) (kept (c .before .before .before .before .before)) (c .before .before .before .before .before .before .before .before .before .waiting-at .ensures) (c .before .before .before .before .before .before .before .before .left-out-at .ensures) (c .before .before .before .list-numbers .ensures) (c .larger2 .ensures ∙ ap (max (c .before .before .before .before .before .before .before .before .before .before .before .loop .most)) (c .before .larger .ensures)),
 )
 
 returns : tie.Need-returns Inv-loop μ-loop

@@ -16,14 +16,14 @@ use Rattle.order_lists.proofs.lists.lists_put.Statement.{statement}
 use Rattle.order_lists.proofs.lists.lists_put.Tie as tie
 
 abbrev Inv-loop : tie.InvT-loop
-Inv-loop out₀ at s w lines change removal width q₀ p₀ l₀ lists₀ out q p l lists =
-    (lists ≤ l) × (length out ≡ length out₀) × PutAll w s removal change width lines l p lists out₀ q₀ out q
+Inv-loop out₀ s w lines change removal width q₀ p₀ l₀ lists₀ out q p l lists =
+    (lists ≤ l) × (length out ≡ length out₀) × PutAll w s removal change width lines l p lists out₀ out q
 
 abbrev μ-loop : tie.MeasureT-loop
-μ-loop out₀ at s w lines change removal width q₀ p₀ l₀ lists₀ out q p l lists =
+μ-loop out₀ s w lines change removal width q₀ p₀ l₀ lists₀ out q p l lists =
     lines - l
 
-next : (c : tie.In-loop Inv-loop μ-loop) → Turn (newList (listed (c .before .before .before .before .before .args .removal .now)) (c .before .before .before .before .before .args .change)) (listed (c .before .before .before .before .before .args .removal .now)) (c .before .before .before .before .before .args .lines) (Stand (c .before .before .before .before .before .args .w) (c .before .before .before .before .before .args .s .now) (c .before .before .before .before .before .pre .there .behind)) (ToPut (c .before .before .before .before .before .args .width) (newFrom (listed (c .before .before .before .before .before .args .removal .now)) (c .before .before .before .before .before .args .change) 0 (c .before .before .before .before .before .pre .there .value)) (c .before .loop .lists) (c .before .before .before .before .before .args .out .now) (c .before .before .before .before .before .args .at) (c .before .loop .out) (c .before .loop .q)) (c .before .loop .l) (c .before .loop .p)
+next : (c : tie.In-loop Inv-loop μ-loop) → Turn (newList (listed (c .before .before .before .before .before .args .removal .now)) (c .before .before .before .before .before .args .change)) (listed (c .before .before .before .before .before .args .removal .now)) (c .before .before .before .before .before .args .lines) (Stand (c .before .before .before .before .before .args .w) (c .before .before .before .before .before .args .s .now) (c .before .before .before .before .before .pre .there .behind)) (ToPut (c .before .before .before .before .before .args .width) (newFrom (listed (c .before .before .before .before .before .args .removal .now)) (c .before .before .before .before .before .args .change) 0 (c .before .before .before .before .before .pre .there .value)) (c .before .loop .lists) (c .before .before .before .before .before .args .out .now) (c .before .loop .out) (c .before .loop .q)) (c .before .loop .l) (c .before .loop .p)
 next c = let p = c .before .before .before .before .before .pre in turn (c .before .loop .inv .2 (p .there .value) (p .there .behind) (p .there .at) (p .there .count) (p .fits)) (c .loop-test .taken)
 
 kept : (c : tie.Else1 Inv-loop μ-loop) → elem (c .before .before .before .before .before .before .loop .l) (listed (c .before .before .before .before .before .before .before .before .before .before .args .removal .now)) ≡ false
@@ -31,7 +31,7 @@ kept c = sym (c .before .rank-of .ensures .gone) ∙ c .if1 .left
 
 loop-holds : tie.Need-loop-holds Inv-loop μ-loop
 loop-holds c =
-    (omega arith, refl, put-first (c .before .before .before .args .w) (c .before .before .before .args .s .now) (c .before .before .before .args .removal .now) (c .before .before .before .args .change) (c .before .before .before .args .width) (c .before .before .before .args .lines) (c .before .before .before .args .out .now) (c .before .before .before .args .at))
+    (omega arith, refl, put-first (c .before .before .before .args .w) (c .before .before .before .args .s .now) (c .before .before .before .args .removal .now) (c .before .before .before .args .change) (c .before .before .before .args .width) (c .before .before .before .args .lines) (c .before .before .before .args .out .now))
 
 waiting-at-requires : tie.Need-waiting-at-requires Inv-loop μ-loop
 waiting-at-requires c κs = search needs
@@ -63,9 +63,9 @@ loop-again c =
 
 list-put-requires : tie.Need-list-put-requires Inv-loop μ-loop
 list-put-requires c κs =
-    let p = c .before .before .before .before .before .before .before .before .before .before .before .pre in
-    let x = next (c .before .before .before .before .before .before) in
-    let E = c .before .before .before .list-at .ensures in
+    let p = c .before .before .before .before .before .before .before .before .before .before .before .before .pre in
+    let x = next (c .before .before .before .before .before .before .before) in
+    let E = c .before .before .before .before .list-at .ensures in
     record {
       there = record {
         narrow = p .there .narrow;
@@ -75,24 +75,24 @@ list-put-requires c κs =
         value = x .value;
         behind = next-behind x;
         at = next-walk x E;
-        falls = put-list-fits (c .before .before .before .before .before .before .before .before .before .before .before .args .w) (c .before .before .before .before .before .before .before .before .before .before .before .args .s .now) (c .before .before .before .before .before .before .before .before .before .before .before .args .removal .now) (c .before .before .before .before .before .before .before .before .before .before .before .args .change) (c .before .before .before .before .before .before .before .before .before .before .before .args .width) (c .before .before .before .before .before .before .before .before .before .before .before .args .lines) (c .before .before .before .before .before .before .before .loop .inv .2) (c .before .before .before .before .before .before .loop-test .taken) (c .before .before .before .list-at .ensures) (kept (c .before)) (c .before .before .before .before .before .waiting-at .ensures) (c .before .before .before .before .left-out-at .ensures) x .falls;
+        falls = put-list-fits (c .before .before .before .before .before .before .before .before .before .before .before .before .args .w) (c .before .before .before .before .before .before .before .before .before .before .before .before .args .s .now) (c .before .before .before .before .before .before .before .before .before .before .before .before .args .removal .now) (c .before .before .before .before .before .before .before .before .before .before .before .before .args .change) (c .before .before .before .before .before .before .before .before .before .before .before .before .args .width) (c .before .before .before .before .before .before .before .before .before .before .before .before .args .lines) (c .before .before .before .before .before .before .before .before .loop .inv .2) (c .before .before .before .before .before .before .before .loop-test .taken) (c .before .before .before .before .list-at .ensures) (kept (c .before .before)) (c .before .before .before .before .before .before .waiting-at .ensures) (c .before .before .before .before .before .left-out-at .ensures) x .falls;
       };
       narrow = p .narrow;
-      fits = put-list-fits (c .before .before .before .before .before .before .before .before .before .before .before .args .w) (c .before .before .before .before .before .before .before .before .before .before .before .args .s .now) (c .before .before .before .before .before .before .before .before .before .before .before .args .removal .now) (c .before .before .before .before .before .before .before .before .before .before .before .args .change) (c .before .before .before .before .before .before .before .before .before .before .before .args .width) (c .before .before .before .before .before .before .before .before .before .before .before .args .lines) (c .before .before .before .before .before .before .before .loop .inv .2) (c .before .before .before .before .before .before .loop-test .taken) (c .before .before .before .list-at .ensures) (kept (c .before)) (c .before .before .before .before .before .waiting-at .ensures) (c .before .before .before .before .left-out-at .ensures) x;
-      room = put-list-room (c .before .before .before .before .before .before .before .before .before .before .before .args .w) (c .before .before .before .before .before .before .before .before .before .before .before .args .s .now) (c .before .before .before .before .before .before .before .before .before .before .before .args .removal .now) (c .before .before .before .before .before .before .before .before .before .before .before .args .change) (c .before .before .before .before .before .before .before .before .before .before .before .args .width) (c .before .before .before .before .before .before .before .before .before .before .before .args .lines) (c .before .before .before .before .before .before .before .loop .inv .2) (c .before .before .before .before .before .before .loop-test .taken) (c .before .before .before .list-at .ensures) (kept (c .before)) (c .before .before .before .before .before .waiting-at .ensures) (c .before .before .before .before .left-out-at .ensures) x (p .room);
+      fits = put-list-fits (c .before .before .before .before .before .before .before .before .before .before .before .before .args .w) (c .before .before .before .before .before .before .before .before .before .before .before .before .args .s .now) (c .before .before .before .before .before .before .before .before .before .before .before .before .args .removal .now) (c .before .before .before .before .before .before .before .before .before .before .before .before .args .change) (c .before .before .before .before .before .before .before .before .before .before .before .before .args .width) (c .before .before .before .before .before .before .before .before .before .before .before .before .args .lines) (c .before .before .before .before .before .before .before .before .loop .inv .2) (c .before .before .before .before .before .before .before .loop-test .taken) (c .before .before .before .before .list-at .ensures) (kept (c .before .before)) (c .before .before .before .before .before .before .waiting-at .ensures) (c .before .before .before .before .before .left-out-at .ensures) x;
+      room = put-list-room (c .before .before .before .before .before .before .before .before .before .before .before .before .args .w) (c .before .before .before .before .before .before .before .before .before .before .before .before .args .s .now) (c .before .before .before .before .before .before .before .before .before .before .before .before .args .removal .now) (c .before .before .before .before .before .before .before .before .before .before .before .before .args .change) (c .before .before .before .before .before .before .before .before .before .before .before .before .args .width) (c .before .before .before .before .before .before .before .before .before .before .before .before .args .lines) (c .before .before .before .before .before .before .before .before .loop .inv .2) (c .before .before .before .before .before .before .before .loop-test .taken) (c .before .before .before .before .list-at .ensures) (kept (c .before .before)) (c .before .before .before .before .before .before .waiting-at .ensures) (c .before .before .before .before .before .left-out-at .ensures) x (p .room);
     }
 
 add-lists : tie.Need-add-lists Inv-loop μ-loop
 add-lists c =
-    omega (arith, c .before .before .before .before .before .before .before .before .before .before .before .before .before .before .pre .there .few, c .before .before .before .before .before .before .before .before .before .loop-test .taken, c .before .before .before .before .before .before .before .before .before .before .loop .inv .0)
+    omega (arith, c .before .before .before .before .before .before .before .before .before .before .before .before .before .before .before .pre .there .few, c .before .before .before .before .before .before .before .before .before .before .loop-test .taken, c .before .before .before .before .before .before .before .before .before .before .before .loop .inv .0)
 
 loop-less-2 : tie.Need-loop-less-2 Inv-loop μ-loop
 loop-less-2 c =
-    omega (arith, c .before .before .before .before .before .before .before .before .before .loop-test .taken)
+    omega (arith, c .before .before .before .before .before .before .before .before .before .before .loop-test .taken)
 
 loop-again-2 : tie.Need-loop-again-2 Inv-loop μ-loop
 loop-again-2 c =
-    (omega (arith, c .before .before .before .before .before .before .before .before .before .before .loop .inv .0), search needs, put-stays (c .before .before .before .before .before .before .before .before .before .before .before .before .before .before .args .w) (c .before .before .before .before .before .before .before .before .before .before .before .before .before .before .args .s .now) (c .before .before .before .before .before .before .before .before .before .before .before .before .before .before .args .removal .now) (c .before .before .before .before .before .before .before .before .before .before .before .before .before .before .args .change) (c .before .before .before .before .before .before .before .before .before .before .before .before .before .before .args .width) (c .before .before .before .before .before .before .before .before .before .before .before .before .before .before .args .lines) (c .before .before .before .before .before .before .before .before .before .before .loop .inv .2) (c .before .before .before .before .before .before .before .before .before .loop-test .taken) (c .before .before .before .before .before .before .list-at .ensures) (kept (c .before .before .before .before)) (c .before .before .before .before .before .before .before .before .waiting-at .ensures) (c .before .before .before .before .before .before .before .left-out-at .ensures) (c .before .before .list-put .ensures))
+    (omega (arith, c .before .before .before .before .before .before .before .before .before .before .before .loop .inv .0), search needs, put-stays (c .before .before .before .before .before .before .before .before .before .before .before .before .before .before .before .args .w) (c .before .before .before .before .before .before .before .before .before .before .before .before .before .before .before .args .s .now) (c .before .before .before .before .before .before .before .before .before .before .before .before .before .before .before .args .removal .now) (c .before .before .before .before .before .before .before .before .before .before .before .before .before .before .before .args .change) (c .before .before .before .before .before .before .before .before .before .before .before .before .before .before .before .args .width) (c .before .before .before .before .before .before .before .before .before .before .before .before .before .before .before .args .lines) (c .before .before .before .before .before .before .before .before .before .before .before .loop .inv .2) (c .before .before .before .before .before .before .before .before .before .before .loop-test .taken) (c .before .before .before .before .before .before .before .list-at .ensures) (kept (c .before .before .before .before .before)) (c .before .before .before .before .before .before .before .before .before .waiting-at .ensures) (c .before .before .before .before .before .before .before .before .left-out-at .ensures) (c .before .before .list-put .ensures))
 
 same-length : tie.Need-same-length Inv-loop μ-loop
 same-length c = search needs
