@@ -12,7 +12,7 @@ use outcome::Refusal;
 use outcome::accept;
 use outcome::refuse;
 
-// 19, 20, and the new record.
+// The order on the view that stands at `site`: it is refused with 19 or 20, or the new record is written to `out`.
 pub fn carry_out(bytes: &[u8], site: Site, change: Change, removal: &[u8], out: &mut [u8]) -> Answer
     requires { ⌜ Placed (now bytes) site change (now removal) ⌝ }
     ensures { λ r. ⌜ CarriedOut (now (bytes .entry)) site change (now (removal .entry)) (now (out .entry)) (now (out .exit)) r ⌝ }

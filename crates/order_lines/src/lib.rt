@@ -16,7 +16,7 @@ fn smaller(a: usize, b: usize) -> usize
     if a < b { a } else { b }
 }
 
-// The bits of s from place p up to place end, put at place `at`.
+// The bits of s from place p up to place `end`, put at place `at` of `out`; the answer is the place behind them.
 fn copy_bits(out: &mut [u8], at: usize, s: &[u8], p: usize, end: usize) -> usize
     requires { ⌜ CopyThere (now s) p end (now out) at ⌝ }
     ensures { λ r. ⌜ Copied (now (s .entry)) p end (now (out .entry)) at (now (out .exit)) r ⌝ }
@@ -32,7 +32,7 @@ fn copy_bits(out: &mut [u8], at: usize, s: &[u8], p: usize, end: usize) -> usize
     q
 }
 
-// The bytes of the block with the lines alone that the removal leaves, of so many in the block s.
+// How many bytes the new skeleton block has. The old one is s, of `count` lines; the removal leaves some of them.
 pub fn lines_size(s: &[u8], w: Widths, count: usize, removal: &[u8]) -> usize
     requires { ⌜ LinesThere w (now s) count (now removal) ⌝ }
     ensures { λ r. ⌜ LinesSized w (now (s .entry)) count (now (removal .entry)) r ⌝ }
@@ -53,7 +53,7 @@ pub fn lines_size(s: &[u8], w: Widths, count: usize, removal: &[u8]) -> usize
     (bits + 7) / 8
 }
 
-// The block with these lines alone, at the start of the output; the answer is its bytes.
+// The new skeleton block, put at the start of `out`; the answer is how many bytes it has.
 pub fn lines_put(out: &mut [u8], s: &[u8], w: Widths, count: usize, removal: &[u8]) -> usize
     requires { ⌜ LinesPutThere w (now s) count (now removal) (now out) ⌝ }
     ensures { λ r. ⌜ LinesPut w (now (s .entry)) count (now (removal .entry)) (now (out .entry)) (now (out .exit)) r ⌝ }

@@ -23,12 +23,16 @@ use Rattle.order_lists.specs.declared.lists.Entry.{Entry}
 
 -- ---- the lists after an order
 
--- how many lines are put into line l's list, and which line it leaves out; 65,536 is none
+-- what stands for a line where there is none: a number that no line has, since a line's has 16 bits
+abbrev pub noLine : ℕ
+noLine = 65536
+
+-- how many lines are put into line l's list, and which line it leaves out
 abbrev pub waits : Change → ℕ → ℕ
 waits ch l = pick (eqb l (ch .high)) (pick (ch .joins) 1 0) 0
 
 abbrev pub leaves : Change → ℕ → ℕ
-leaves ch l = pick (eqb l (ch .high)) (pick (ch .joins) 65536 (ch .low)) 65536
+leaves ch l = pick (eqb l (ch .high)) (pick (ch .joins) noLine (ch .low)) noLine
 
 -- line l's list
 abbrev pub newList : List ℕ → Change → ℕ → List ℕ → List ℕ

@@ -7,13 +7,13 @@ use crate::width::least_width;
 use bits::Cursor;
 use put_bits::put_bits;
 
-// The width of the new index, and the bytes of its block.
+// The new index block: how many bits its numbers have, and how many bytes it has.
 pub struct Size {
     pub width: usize,
     pub bytes: usize,
 }
 
-// Of the index block s of a view with so many lines.
+// The size of the new index block. The old one is s, of a view with `lines` lines.
 pub fn index_size(s: &[u8], lines: usize, change: Change, removal: &[u8]) -> Size
     requires { ⌜ IndexThere (now s) lines change (now removal) ⌝ }
     ensures { λ r. ⌜ IndexSized (now (s .entry)) lines change (now (removal .entry)) r ⌝ }
@@ -27,7 +27,7 @@ pub fn index_size(s: &[u8], lines: usize, change: Change, removal: &[u8]) -> Siz
     }
 }
 
-// The new index block at this width, at the start of the output; the answer is its bytes.
+// The new index block, with numbers of `width` bits, put at the start of `out`; the answer is how many bytes it has.
 pub fn index_put(
     out: &mut [u8],
     s: &[u8],

@@ -10,15 +10,20 @@ use crate::walk::Walk;
 use bits::Cursor;
 use order_removal::rank_of;
 
-// What an order changes in the list of line `high`: line `low` is put in, or it is left out. A removal changes no list so, and its
-// `high` is no line.
+// What a pair order changes: in the list of line `high`, a join puts line `low` in, and a part leaves it out. A removal changes no
+// list in this way, and its `high` is no line of the view.
 pub struct Change {
     pub high: usize,
     pub low: usize,
     pub joins: bool,
 }
 
-// The lists: how many they are, how many neighbours they have, and the largest count or difference.
+// What stands for a line where there is none. Lines have numbers of 16 bits.
+impl Change {
+    pub const NO_LINE: usize = 65536;
+}
+
+// The lists after the order: how many they are, how many neighbours they have in all, and the largest count or difference.
 pub struct Totals {
     pub lists: usize,
     pub entries: usize,
@@ -41,17 +46,21 @@ fn waiting_at(change: Change, l: usize) -> usize
     if change.joins { 1 } else { 0 }
 }
 
-// The line that line l's list leaves out; 65,536 is no line.
+// The line that line l's list leaves out, or NO_LINE.
 fn left_out_at(change: Change, l: usize) -> usize
     ensures { λ r. ⌜ r ≡ leaves change l ⌝ }
 {
     if l != change.high {
-        return 65536;
+        return Change::NO_LINE;
     }
-    if change.joins { 65536 } else { change.low }
+    if change.joins {
+        Change::NO_LINE
+    } else {
+        change.low
+    }
 }
 
-// Line l's list, at place p of the block s; so many lines are to be put into it.
+// Line l's list, which starts at place p of the index block s, with numbers of w bits; `waiting` lines are to be put into it.
 pub fn list_at(s: &[u8], w: usize, p: usize, l: usize, waiting: usize) -> Entry
     requires { ⌜ EntryThere w (now s) p l waiting ⌝ }
     ensures { λ r. ⌜ EntryAt w (now (s .entry)) p l waiting r ⌝ }
@@ -71,7 +80,7 @@ pub fn list_at(s: &[u8], w: usize, p: usize, l: usize, waiting: usize) -> Entry
     }
 }
 
-// The lists of so many lines in the block s, at width w, after the order.
+// The lists after the order, measured, from those of `lines` lines in the index block s, with numbers of w bits.
 pub fn lists_numbers(s: &[u8], w: usize, lines: usize, change: Change, removal: &[u8]) -> Totals
     requires { ⌜ ListsThere w (now s) lines change (now removal) ⌝ }
     ensures { λ r. ⌜ ListsNumbered w (now (s .entry)) lines change (now (removal .entry)) r ⌝ }

@@ -27,7 +27,8 @@ pub enum Fate {
     Gone,
 }
 
-// The next line of a list that is not at its end. Differences have w bits; `low` is the line to be put in.
+// The next line of the list at `k`, which is not at its end. Its differences stand in the index block s and have w bits; `low` is the
+// line to be put in.
 pub fn step_on(s: &[u8], w: usize, k: Walk, low: usize) -> Step
     requires { ⌜ WalkThere w (now s) k ⌝ }
     ensures { λ r. ⌜ Steps w (now (s .entry)) k low r ⌝ }
@@ -67,15 +68,15 @@ pub fn step_on(s: &[u8], w: usize, k: Walk, low: usize) -> Step
     Step { line, next }
 }
 
-// What becomes of a line of a list that leaves `drop` out, under the removal of these lines.
-pub fn fate_of(lines: &[u8], drop: usize, line: usize) -> Fate
-    requires { ⌜ Rising (now lines) ⌝ }
-    ensures { λ r. ⌜ Fares (listed (now (lines .entry))) drop line r ⌝ }
+// What becomes of line `line` in a list that leaves `drop` out, under the removal.
+pub fn fate_of(removal: &[u8], drop: usize, line: usize) -> Fate
+    requires { ⌜ Rising (now removal) ⌝ }
+    ensures { λ r. ⌜ Fares (listed (now (removal .entry))) drop line r ⌝ }
 {
     if line == drop {
         return Fate::Gone;
     }
-    let rank = rank_of(lines, line);
+    let rank = rank_of(removal, line);
     if rank.gone {
         Fate::Gone
     } else {

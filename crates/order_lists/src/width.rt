@@ -2,7 +2,7 @@
 ghost use mathlib.Core.Path.{_≡_};
 ghost use Rattle.orders.specs.Least.{find};
 
-// The least width, at least 1, that holds the number; it has at most 16 bits.
+// The least width, at least 1, that holds the number `most`, which has at most 16 bits.
 pub fn least_width(most: usize) -> usize
     ensures { λ r. ⌜ r ≡ find 15 1 most ⌝ }
 {

@@ -37,7 +37,7 @@ pub record HeadRoom (s : List ℕ) (to n : ℕ) (out : List ℕ) : Type 0 where
 abbrev pub HeadLaid : List ℕ → ℕ → ℕ → (before after : List ℕ) → ℕ → Type 0
 HeadLaid s to n before after r = Laid (headOf s to n) before after r
 
--- ---- the skeleton block, whose old bytes are s
+-- ---- the skeleton block of a view with `lines` lines, whose old bytes are s
 
 pub record OldSkeleton (w : Widths) (s : List ℕ) (lines : ℕ) (removal : List ℕ) : Type 0 where
   pub narrow : Narrow w
@@ -60,12 +60,12 @@ pub record SkeletonRoom (w : Widths) (s : List ℕ) (lines : ℕ) (removal : Lis
 pub record SkeletonLaid (w : Widths) (s removal before after : List ℕ) (r : ℕ) : Type 0 where
   pub is : (ls : List Line) → skeleton w .dec (bitsOf s) ≡ got ls [] → Laid (sized (keptBlock w removal ls)) before after r
 
--- ---- the index block of so many lines, whose old bytes are s
+-- ---- the index block of a view with `lines` lines, whose old bytes are s
 
 abbrev pub newIndex : List ℕ → Change → Option Index → Option Index
 newIndex removal ch o = Option·map (λ i. indexOf (left removal ch i)) o
 
--- its bytes; where there is one, relist's newBlock
+-- its bytes; where there is one, those of newBlock (order_lists/specs/Index)
 abbrev pub newIndexBlock : List ℕ → Change → Option Index → List ℕ
 newIndexBlock removal ch o = inBytes (indexBlock 0 .enc (newIndex removal ch o))
 

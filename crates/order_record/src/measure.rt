@@ -8,7 +8,8 @@ use order_lists::index::Size;
 use order_lists::index::index_size;
 use order_lists::lists::Change;
 
-// The bytes of the new skeleton block, the width of the new index and the bytes of its block, and the bytes of the new record.
+// How many bytes the new skeleton block has, how many bits the numbers of the new index have and how many bytes its block, and how
+// many bytes the new record has.
 pub struct Sizes {
     pub skeleton: usize,
     pub width: usize,
@@ -16,7 +17,7 @@ pub struct Sizes {
     pub bytes: usize,
 }
 
-// The skeleton block s of so many lines; a pair order removes none.
+// How many bytes the new skeleton block has. The old one is s, of `lines` lines; a pair order removes none.
 fn skeleton_size(s: &[u8], w: Widths, lines: usize, removal: &[u8]) -> usize
     requires { ⌜ OldSkeleton w (now s) lines (now removal) ⌝ }
     ensures { λ r. ⌜ SkeletonMeasured w (now (s .entry)) (now (removal .entry)) r ⌝ }
@@ -27,7 +28,7 @@ fn skeleton_size(s: &[u8], w: Widths, lines: usize, removal: &[u8]) -> usize
     lines_size(s, w, lines, removal)
 }
 
-// The index block s; an empty one has no index, and stays so.
+// The size of the new index block. The old one is s, of a view with `lines` lines; an empty one is no index, and stays empty.
 fn lists_size(s: &[u8], lines: usize, change: Change, removal: &[u8]) -> Size
     requires { ⌜ OldIndex (now s) lines change (now removal) ⌝ }
     ensures { λ r. ⌜ IndexMeasured (now (s .entry)) lines change (now (removal .entry)) r ⌝ }
@@ -38,7 +39,7 @@ fn lists_size(s: &[u8], lines: usize, change: Change, removal: &[u8]) -> Size
     index_size(s, lines, change, removal)
 }
 
-// The record s.
+// The sizes of the new record. The old one is s, and `site` says where the view stands that the order names.
 pub fn measure(s: &[u8], site: Site, change: Change, removal: &[u8]) -> Sizes
     requires { ⌜ Placed (now s) site change (now removal) ⌝ }
     ensures { λ r. ⌜ Measured (now (s .entry)) site change (now (removal .entry)) r ⌝ }

@@ -10,7 +10,7 @@ use order_lists::lists::Change;
 use put_bytes::copy;
 use put_bytes::put_two;
 
-// The first bytes of the record s, up to byte `to`; the record length is another.
+// The first bytes of the record s, up to byte `to`, with the record length `bytes`.
 fn head_put(out: &mut [u8], s: &[u8], to: usize, bytes: usize) -> usize
     requires { ⌜ HeadRoom (now s) to bytes (now out) ⌝ }
     ensures { λ r. ⌜ HeadLaid (now (s .entry)) to bytes (now (out .entry)) (now (out .exit)) r ⌝ }
@@ -21,7 +21,7 @@ fn head_put(out: &mut [u8], s: &[u8], to: usize, bytes: usize) -> usize
     at
 }
 
-// The skeleton block behind its length, of so many bytes: a pair order copies the old one, s.
+// The length `bytes`, and behind it the new skeleton block. The old one is s, of `lines` lines, and a pair order copies it.
 fn skeleton_put(
     out: &mut [u8],
     s: &[u8],
@@ -41,7 +41,7 @@ fn skeleton_put(
     }
 }
 
-// The index block behind its length, of so many bytes and at this width; s is the old one.
+// The length `bytes`, and behind it the new index block, with numbers of `width` bits. The old one is s, of a view with `lines` lines.
 fn lists_put(
     out: &mut [u8],
     s: &[u8],
@@ -61,7 +61,8 @@ fn lists_put(
     at + index_put(&mut out[at..], s, lines, change, removal, width)
 }
 
-// The new record of the record s, of these sizes.
+// The new record, whose sizes are `sizes`; the answer is how many bytes it has. The old one is s, and `site` says where the view
+// stands that the order names.
 pub fn put(
     out: &mut [u8],
     s: &[u8],

@@ -56,7 +56,7 @@ module _ (s : List ℕ) (lines : ℕ) {i : Index} {u : Bits} (e : indexBlock lin
 
 -- ---- the block after
 
--- so many numbers of w bits: a count and its differences for each list
+-- the bits of the lists: w for the count and for each difference of each
 entries-long : (w : ℕ) (ls : List (List ℕ)) → total (λ ns. w + length ns * w) ls ≡ (length ls + total length ls) * w
 entries-long w [] = omega arith
 entries-long w (ns ∷ ls) =
