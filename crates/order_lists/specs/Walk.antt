@@ -16,7 +16,7 @@ use Rattle.format.specs.Differences.{Falls, diffs}
 use Rattle.orders.specs.Survive.{elem}
 use Rattle.orders.specs.Act.{insert}
 use Rattle.order_removal.specs.Rank.{below}
-use Rattle.order_lists.specs.declared.walk.Walk.{Walk}
+use Rattle.order_lists.specs.declared.walk.ListWalk.{ListWalk}
 use Rattle.order_lists.specs.declared.walk.Step.{Step}
 use Rattle.order_lists.specs.declared.walk.Fate.{Fate}
 use Rattle.order_lists.specs.declared.walk.Fate.the-variants as fate
@@ -40,7 +40,7 @@ stayed rs out (n ∷ ns) = pick (gone rs out n) (stayed rs out ns) ((n - below r
 -- ---- walking along a list
 
 -- the lines ns are still to come of a list at width w in the block s; the bits u follow
-pub record WalkAt (w : ℕ) (s : List ℕ) (k : Walk) (ns : List ℕ) (u : Bits) : Type 0 where
+pub record WalkAt (w : ℕ) (s : List ℕ) (k : ListWalk) (ns : List ℕ) (u : Bits) : Type 0 where
   pub left : k .left ≡ length ns
   pub one : k .waiting ≤ 1
   pub bits : drop (k .at) (bitsOf s) ≡ encAll (field badIndex w) (diffs (k .base) ns) ++ u
@@ -49,22 +49,22 @@ pub record WalkAt (w : ℕ) (s : List ℕ) (k : Walk) (ns : List ℕ) (u : Bits)
   pub falls : Falls least (k .base) ns
   pub small : All (λ d. d < 2 ^ w) (diffs (k .base) ns)
 
-pub record WalkThere (w : ℕ) (s : List ℕ) (k : Walk) : Type 0 where
+pub record WalkThere (w : ℕ) (s : List ℕ) (k : ListWalk) : Type 0 where
   pub narrow : w ≤ 16
   pub short : length s ≤ 65535
   pub more : 0 < k .left + k .waiting
-  pub lines : List ℕ
+  pub value : List ℕ
   pub behind : Bits
-  pub at : WalkAt w s k lines behind
+  pub at : WalkAt w s k value behind
 
--- the line r .line comes next, and ms are those still to come of the block
-pub record StepTo (w : ℕ) (s : List ℕ) (k : Walk) (low : ℕ) (ns : List ℕ) (u : Bits) (r : Step) : Type 0 where
-  pub lines : List ℕ
-  pub at : WalkAt w s (r .next) lines u
-  pub is : putIn (k .waiting) low ns ≡ r .line ∷ putIn (r .next .waiting) low lines
+-- the line r .line comes next, and the lines `more` are those still to come of the block
+pub record StepTo (w : ℕ) (s : List ℕ) (k : ListWalk) (low : ℕ) (ns : List ℕ) (u : Bits) (r : Step) : Type 0 where
+  pub more : List ℕ
+  pub at : WalkAt w s (r .next) more u
+  pub is : putIn (k .waiting) low ns ≡ r .line ∷ putIn (r .next .waiting) low more
   pub less : r .next .left + r .next .waiting < k .left + k .waiting
 
-pub record Steps (w : ℕ) (s : List ℕ) (k : Walk) (low : ℕ) (r : Step) : Type 0 where
+pub record Steps (w : ℕ) (s : List ℕ) (k : ListWalk) (low : ℕ) (r : Step) : Type 0 where
   pub is : (ns : List ℕ) (u : Bits) → WalkAt w s k ns u → StepTo w s k low ns u r
   pub waits : r .next .waiting ≤ k .waiting
   pub less : r .next .left + r .next .waiting < k .left + k .waiting

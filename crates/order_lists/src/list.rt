@@ -3,16 +3,16 @@ ghost use mathlib.Core.Path.{_≡_};
 ghost use Prim.Native.Nat.{max};
 ghost use Rattle.order_lists.specs.List.{ListThere, Numbered, PutThere, ListPut};
 use crate::walk::Fate;
-use crate::walk::Walk;
+use crate::walk::ListWalk;
 use crate::walk::fate_of;
 use crate::walk::step_on;
 use put_bits::put_bits;
 use put_bits::put_into;
 
-// A list of the old index under the order: the walk along it in the block, the line that is put in where one waits, the line that is
-// left out, and the new number of the line whose list it is.
+// A list of the old index under the order: the walk along it in the block, the line that is put in where one waits (`low`), the line
+// that is left out, or NO_LINE (`drop`), and the new number of the line whose list it is (`own`).
 pub struct OldList {
-    pub walk: Walk,
+    pub walk: ListWalk,
     pub low: usize,
     pub drop: usize,
     pub own: usize,
@@ -30,7 +30,7 @@ pub fn larger(a: usize, b: usize) -> usize
     if a < b { b } else { a }
 }
 
-// The list `list` of the index block s, whose numbers have w bits, after the order.
+// What the list `list` becomes, measured. It stands in the index block s, whose numbers have w bits.
 pub fn list_numbers(s: &[u8], w: usize, list: OldList, removal: &[u8]) -> Numbers
     requires { ⌜ ListThere w (now s) list (now removal) ⌝ }
     ensures { λ r. ⌜ Numbered w (now (s .entry)) list (now (removal .entry)) r ⌝ }
@@ -52,8 +52,8 @@ pub fn list_numbers(s: &[u8], w: usize, list: OldList, removal: &[u8]) -> Number
     Numbers { count, most }
 }
 
-// The same list put at place `at` of the output, with numbers of `width` bits; the answer is the place behind it. Its count stands
-// first and is known last.
+// The same put at place `at` of `out`, with numbers of `width` bits; the answer is the place behind it. The count stands first and is
+// known last.
 pub fn list_put(
     out: &mut [u8],
     at: usize,

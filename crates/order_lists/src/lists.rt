@@ -6,7 +6,7 @@ use crate::list::OldList;
 use crate::list::larger;
 use crate::list::list_numbers;
 use crate::list::list_put;
-use crate::walk::Walk;
+use crate::walk::ListWalk;
 use bits::Cursor;
 use order_removal::rank_of;
 
@@ -32,7 +32,7 @@ pub struct Totals {
 
 // A list that is found: the walk along it, and where the next list starts.
 pub struct Entry {
-    pub walk: Walk,
+    pub walk: ListWalk,
     pub next: usize,
 }
 
@@ -68,7 +68,7 @@ pub fn list_at(s: &[u8], w: usize, p: usize, l: usize, waiting: usize) -> Entry
     let count = Cursor { at: p }.sure(s, w);
     let at = p + w;
     let left = count.value;
-    let walk = Walk {
+    let walk = ListWalk {
         at,
         left,
         base: l,

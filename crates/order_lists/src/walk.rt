@@ -8,7 +8,7 @@ use order_removal::rank_of;
 
 // A list from here on: where its next difference stands and how many are left, the line before it, and how many lines are still to
 // be put in: one or none.
-pub struct Walk {
+pub struct ListWalk {
     pub at: usize,
     pub left: usize,
     pub base: usize,
@@ -18,7 +18,7 @@ pub struct Walk {
 // A line of the list, by its old number, and the list behind it.
 pub struct Step {
     pub line: usize,
-    pub next: Walk,
+    pub next: ListWalk,
 }
 
 // What becomes of a line: it stays with its new number, or it is gone.
@@ -29,14 +29,14 @@ pub enum Fate {
 
 // The next line of the list at `k`, which is not at its end. Its differences stand in the index block s and have w bits; `low` is the
 // line to be put in.
-pub fn step_on(s: &[u8], w: usize, k: Walk, low: usize) -> Step
+pub fn step_on(s: &[u8], w: usize, k: ListWalk, low: usize) -> Step
     requires { ⌜ WalkThere w (now s) k ⌝ }
     ensures { λ r. ⌜ Steps w (now (s .entry)) k low r ⌝ }
 {
     let at = k.at;
     let left = k.left;
     let base = k.base;
-    let put = Walk {
+    let put = ListWalk {
         at,
         left,
         base,
@@ -50,7 +50,7 @@ pub fn step_on(s: &[u8], w: usize, k: Walk, low: usize) -> Step
     }
     let d = Cursor { at }.sure(s, w);
     let line = base - d.value;
-    let next = Walk {
+    let next = ListWalk {
         at: at + w,
         left: left - 1,
         base: line,

@@ -18,7 +18,7 @@ use Rattle.orders.specs.Survive.{elem}
 use Rattle.order_lists.specs.Walk.{putIn, WalkAt, Steps}
 use Rattle.order_lists.specs.Lists.{ListsAt, ListHere, EntryAt}
 use Rattle.order_near.specs.Near.{Has, FoundAt, Near}
-use Rattle.order_lists.specs.declared.walk.Walk.{Walk}
+use Rattle.order_lists.specs.declared.walk.ListWalk.{ListWalk}
 use Rattle.order_lists.specs.declared.walk.Step.{Step}
 use Rattle.order_lists.specs.declared.lists.Entry.{Entry}
 use Rattle.order_lists.proofs.Laws.Lists.{first-here, others-at}
@@ -28,19 +28,19 @@ use Rattle.order_lists.proofs.Laws.Index.{before, as-many, lists-stand}
 -- ---- one list
 
 -- the line is in the list if it is in what is still to come
-pub record Looking (w : ℕ) (s : List ℕ) (low : ℕ) (ns : List ℕ) (u : Bits) (k : Walk) : Type 0 where
+pub record Looking (w : ℕ) (s : List ℕ) (low : ℕ) (ns : List ℕ) (u : Bits) (k : ListWalk) : Type 0 where
   pub ms : List ℕ
   pub at : WalkAt w s k ms u
   pub is : elem low ns ≡ elem low ms
 
-abbrev pub LookingAll : (w : ℕ) (s : List ℕ) (low : ℕ) (from k : Walk) → Type 0
+abbrev pub LookingAll : (w : ℕ) (s : List ℕ) (low : ℕ) (from k : ListWalk) → Type 0
 LookingAll w s low from k = (ns : List ℕ) (u : Bits) → WalkAt w s from ns u → Looking w s low ns u k
 
 module _ (w : ℕ) (s : List ℕ) (low : ℕ) where
-  pub looking-first : (from : Walk) → LookingAll w s low from from
+  pub looking-first : (from : ListWalk) → LookingAll w s low from from
   looking-first from ns u h = record { ms = ns; at = h; is = refl }
 
-  module _ {from k : Walk} {r : Step} (L : LookingAll w s low from k) (z : k .waiting ≡ 0) (S : Steps w s k 0 r) where
+  module _ {from k : ListWalk} {r : Step} (L : LookingAll w s low from k) (z : k .waiting ≡ 0) (S : Steps w s k 0 r) where
     -- the list's next line, and those behind it
     record Next (ns : List ℕ) (u : Bits) : Type 0 where
       ms : List ℕ
@@ -52,8 +52,8 @@ module _ (w : ℕ) (s : List ℕ) (low : ℕ) where
         let g = L ns u h in
         let t = S .is (g .ms) u (g .at) in
         let y : r .next .waiting ≡ 0 = omega (arith, S .waits) in
-        let e : g .ms ≡ r .line ∷ t .lines = ap (λ (n : ℕ). putIn n 0 (g .ms)) (sym z) ∙ t .is ∙ ap (λ (n : ℕ). r .line ∷ putIn n 0 (t .lines)) y in
-        record { ms = t .lines; at = t .at; is = g .is ∙ ap (elem low) e }
+        let e : g .ms ≡ r .line ∷ t .more = ap (λ (n : ℕ). putIn n 0 (g .ms)) (sym z) ∙ t .is ∙ ap (λ (n : ℕ). r .line ∷ putIn n 0 (t .more)) y in
+        record { ms = t .more; at = t .at; is = g .is ∙ ap (elem low) e }
 
     pub looking-found : r .line ≡ low → Has w s from low true
     looking-found e = record { is = λ ns u h. sym (next ns u h .is ∙ ap (λ (b : Bool). b || elem low (next ns u h .ms)) (eqb-true low (r .line) (sym e))) }
@@ -63,7 +63,7 @@ module _ (w : ℕ) (s : List ℕ) (low : ℕ) where
         let x = next ns u h in
         record { ms = x .ms; at = x .at; is = x .is ∙ ap (λ (b : Bool). b || elem low (x .ms)) (eqb-false low (r .line) (λ e. d (sym e))) }
 
-  pub looking-done : {from k : Walk} → LookingAll w s low from k → k .left ≤ 0 → Has w s from low false
+  pub looking-done : {from k : ListWalk} → LookingAll w s low from k → k .left ≤ 0 → Has w s from low false
   looking-done L l = record { is = λ ns u h. let g = L ns u h in sym (g .is ∙ end (g .ms) (omega (arith, g .at .left))) }
     where
       end : (ms : List ℕ) → length ms ≤ 0 → elem low ms ≡ false
@@ -116,7 +116,7 @@ module _ (w : ℕ) (s : List ℕ) (line : ℕ) where
 
 -- ---- the index block
 
-pub near-is : (s : List ℕ) (high low : ℕ) {w q : ℕ} {k : Walk} {r : Bool} → Reads (fieldDec badIndex 8) s 0 (found w q) → FoundAt w s high k → Has w s k low r → Near s high low r
+pub near-is : (s : List ℕ) (high low : ℕ) {w q : ℕ} {k : ListWalk} {r : Bool} → Reads (fieldDec badIndex 8) s 0 (found w q) → FoundAt w s high k → Has w s k low r → Near s high low r
 near-is s high low h F H =
     record {
       is = λ lines i u e l.

@@ -12,11 +12,11 @@ use Rattle.format.specs.Index.{Index, indexBlock}
 use Rattle.orders.specs.Survive.{elem}
 use Rattle.order_lists.specs.Walk.{WalkAt}
 use Rattle.order_lists.specs.Lists.{ListsAt}
-use Rattle.order_lists.specs.declared.walk.Walk.{Walk}
+use Rattle.order_lists.specs.declared.walk.ListWalk.{ListWalk}
 
 -- ---- one list, at the walk k
 
-pub record HasThere (w : ℕ) (s : List ℕ) (k : Walk) : Type 0 where
+pub record HasThere (w : ℕ) (s : List ℕ) (k : ListWalk) : Type 0 where
   pub narrow : w ≤ 16
   pub short : length s ≤ 65535
   pub none : k .waiting ≡ 0
@@ -24,7 +24,7 @@ pub record HasThere (w : ℕ) (s : List ℕ) (k : Walk) : Type 0 where
   pub behind : Bits
   pub at : WalkAt w s k value behind
 
-pub record Has (w : ℕ) (s : List ℕ) (k : Walk) (low : ℕ) (r : Bool) : Type 0 where
+pub record Has (w : ℕ) (s : List ℕ) (k : ListWalk) (low : ℕ) (r : Bool) : Type 0 where
   pub is : (ns : List ℕ) (u : Bits) → WalkAt w s k ns u → r ≡ elem low ns
 
 -- ---- the list of line `line`
@@ -38,7 +38,7 @@ pub record FindThere (w : ℕ) (s : List ℕ) (line : ℕ) : Type 0 where
   pub there : line < length value
   pub few : length value ≤ 1024
 
-pub record FoundAt (w : ℕ) (s : List ℕ) (line : ℕ) (r : Walk) : Type 0 where
+pub record FoundAt (w : ℕ) (s : List ℕ) (line : ℕ) (r : ListWalk) : Type 0 where
   pub none : r .waiting ≡ 0
   pub is : (ls : List (List ℕ)) (u : Bits) → ListsAt w s 0 8 ls u → line < length ls → (v : Bits) × WalkAt w s r (getD ls line []) v
 

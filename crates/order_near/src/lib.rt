@@ -3,11 +3,11 @@
 ghost use Rattle.order_near.specs.Near.{HasThere, Has, FindThere, FoundAt, NearThere, Near};
 use bits::Cursor;
 use order_lists::lists::list_at;
-use order_lists::walk::Walk;
+use order_lists::walk::ListWalk;
 use order_lists::walk::step_on;
 
 // Whether line `low` is in the list that `from` is at the start of. Its differences have w bits.
-fn list_has(s: &[u8], w: usize, from: Walk, low: usize) -> bool
+fn list_has(s: &[u8], w: usize, from: ListWalk, low: usize) -> bool
     requires { ⌜ HasThere w (now s) from ⌝ }
     ensures { λ r. ⌜ Has w (now (s .entry)) from low r ⌝ }
 {
@@ -23,7 +23,7 @@ fn list_has(s: &[u8], w: usize, from: Walk, low: usize) -> bool
 }
 
 // The list of line `line` in the index block s: behind those of the lines before it. Counts and differences have w bits.
-fn list_of(s: &[u8], w: usize, line: usize) -> Walk
+fn list_of(s: &[u8], w: usize, line: usize) -> ListWalk
     requires { ⌜ FindThere w (now s) line ⌝ }
     ensures { λ r. ⌜ FoundAt w (now (s .entry)) line r ⌝ }
 {

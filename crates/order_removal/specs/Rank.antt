@@ -15,10 +15,10 @@ abbrev pub below : List ℕ → ℕ → ℕ
 below [] n = 0
 below (r ∷ rs) n = pick (ltb r n) (suc (below rs n)) (below rs n)
 
--- the bytes are a list that rises
-pub record Rising (lines : List ℕ) : Type 0 where
-  pub even : length lines ≡ 2 * length (listed lines)
-  pub rises : RisesFrom 0 (listed lines)
+-- the removal's bytes are a list that rises
+pub record Rising (removal : List ℕ) : Type 0 where
+  pub even : length removal ≡ 2 * length (listed removal)
+  pub rises : RisesFrom 0 (listed removal)
 
 pub record Ranked (rs : List ℕ) (n : ℕ) (r : Rank) : Type 0 where
   pub below : r .below ≡ below rs n

@@ -12,11 +12,11 @@ pub struct Rank {
     pub gone: bool,
 }
 
-// Whether the list names lines of a view with so many: at least one, rising, each below the count.
-pub fn lines_right(lines: &[u8], count: usize) -> bool
-    ensures { λ r. ⌜ r ≡ linesOk count (listed (now (lines .entry))) ⌝ }
+// Whether the list `removal` names lines of a view that has `count`: at least one, rising, each below `count`.
+pub fn lines_right(removal: &[u8], count: usize) -> bool
+    ensures { λ r. ⌜ r ≡ linesOk count (listed (now (removal .entry))) ⌝ }
 {
-    let size = lines.len();
+    let size = removal.len();
     if size == 0 {
         return false;
     }
@@ -26,7 +26,7 @@ pub fn lines_right(lines: &[u8], count: usize) -> bool
     let mut least: usize = 0;
     let mut a: usize = 0;
     while a < size {
-        let line = two_at(lines, a);
+        let line = two_at(removal, a);
         if line < least {
             return false;
         }
@@ -39,17 +39,17 @@ pub fn lines_right(lines: &[u8], count: usize) -> bool
     true
 }
 
-// Line n, in a list that rises.
-pub fn rank_of(lines: &[u8], n: usize) -> Rank
-    requires { ⌜ Rising (now lines) ⌝ }
-    ensures { λ r. ⌜ Ranked (listed (now (lines .entry))) n r ⌝ }
+// Line n, in the list `removal`, which rises.
+pub fn rank_of(removal: &[u8], n: usize) -> Rank
+    requires { ⌜ Rising (now removal) ⌝ }
+    ensures { λ r. ⌜ Ranked (listed (now (removal .entry))) n r ⌝ }
 {
-    let count = lines.len() / 2;
+    let count = removal.len() / 2;
     let mut low: usize = 0;
     let mut high = count;
     while low < high {
         let middle = low + (high - low) / 2;
-        if two_at(lines, 2 * middle) < n {
+        if two_at(removal, 2 * middle) < n {
             low = middle + 1;
         } else {
             high = middle;
@@ -63,6 +63,6 @@ pub fn rank_of(lines: &[u8], n: usize) -> Rank
     }
     Rank {
         below: low,
-        gone: two_at(lines, 2 * low) == n,
+        gone: two_at(removal, 2 * low) == n,
     }
 }

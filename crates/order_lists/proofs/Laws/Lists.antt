@@ -29,7 +29,7 @@ use Rattle.order_removal.proofs.Laws.Going.{Going, Turn, turn, gone-on, stays-o
 use Rattle.order_lists.specs.Walk.{putIn, stayed, WalkAt}
 use Rattle.order_lists.specs.List.{become, Numbered}
 use Rattle.order_lists.specs.Lists.{waits, leaves, newList, newFrom, ListsAt, ListHere, EntryAt, ListsNumbered}
-use Rattle.order_lists.specs.declared.walk.Walk.{Walk}
+use Rattle.order_lists.specs.declared.walk.ListWalk.{ListWalk}
 use Rattle.order_lists.specs.declared.list.OldList.{OldList}
 use Rattle.order_lists.specs.declared.list.Numbers.{Numbers}
 use Rattle.order_lists.specs.declared.lists.Change.{Change}
@@ -111,11 +111,11 @@ waits-le ch l =
     pick-case (λ (n : ℕ). n ≤ 1) (eqb l (ch .high)) _ _ (λ t. pick-case (λ (n : ℕ). n ≤ 1) (ch .joins) 1 0 (λ u. omega arith) (λ u. omega arith)) (λ t. omega arith)
 
 -- the list at the walk k under the order, as code has it
-abbrev pub under : Change → Walk → ℕ → ℕ → OldList
+abbrev pub under : Change → ListWalk → ℕ → ℕ → OldList
 under ch k drop own = record { walk = k; low = ch .low; drop = drop; own = own }
 
 -- what it becomes is the line's new list
-pub same-list : (removal : List ℕ) (ch : Change) (l : ℕ) (k : Walk) (own : ℕ) {drop : ℕ} (ns : List ℕ) → k .waiting ≡ waits ch l → drop ≡ leaves ch l
+pub same-list : (removal : List ℕ) (ch : Change) (l : ℕ) (k : ListWalk) (own : ℕ) {drop : ℕ} (ns : List ℕ) → k .waiting ≡ waits ch l → drop ≡ leaves ch l
     → become (under ch k drop own) removal ns ≡ newList (listed removal) ch l ns
 same-list removal ch l k own ns e f = ap₂ (λ (n m : ℕ). stayed (listed removal) m (putIn n (ch .low) ns)) e f
 

@@ -21,21 +21,21 @@ use Rattle.find_parts.proofs.Laws.Standing.{stands-behind, stands-within, numbe
 use Rattle.orders.specs.Survive.{elem}
 use Rattle.orders.specs.Act.{insert}
 use Rattle.order_lists.specs.Walk.{putIn, gone, WalkAt, StepTo}
-use Rattle.order_lists.specs.declared.walk.Walk.{Walk}
+use Rattle.order_lists.specs.declared.walk.ListWalk.{ListWalk}
 
 -- nothing is waiting any more
-abbrev put : Walk → Walk
+abbrev put : ListWalk → ListWalk
 put k = record { at = k .at; left = k .left; base = k .base; waiting = 0 }
 
-put-at : {w : ℕ} {s : List ℕ} {k : Walk} {ns : List ℕ} {u : Bits} → WalkAt w s k ns u → WalkAt w s (put k) ns u
+put-at : {w : ℕ} {s : List ℕ} {k : ListWalk} {ns : List ℕ} {u : Bits} → WalkAt w s k ns u → WalkAt w s (put k) ns u
 put-at h = record { left = h .left; one = omega arith; bits = h .bits; within = h .within; least = h .least; falls = h .falls; small = h .small }
 
 -- ---- the line that comes next in the block
 
-abbrev on : ℕ → Walk → ℕ → Walk
+abbrev on : ℕ → ListWalk → ℕ → ListWalk
 on w k n = record { at = k .at + w; left = k .left - 1; base = n; waiting = k .waiting }
 
-pub record Next (w : ℕ) (s : List ℕ) (k : Walk) (ns : List ℕ) (u : Bits) : Type 0 where
+pub record Next (w : ℕ) (s : List ℕ) (k : ListWalk) (ns : List ℕ) (u : Bits) : Type 0 where
   pub line : ℕ
   pub more : List ℕ
   pub is : ns ≡ line ∷ more
@@ -44,7 +44,7 @@ pub record Next (w : ℕ) (s : List ℕ) (k : Walk) (ns : List ℕ) (u : Bits) :
   pub read : {d q : ℕ} → Reads (fieldDec badIndex w) s (k .at) (found d q) → d ≡ k .base - line
   pub at : WalkAt w s (on w k line) more u
 
-module _ (w : ℕ) (s : List ℕ) (k : Walk) where
+module _ (w : ℕ) (s : List ℕ) (k : ListWalk) where
   pub next-in : (ns : List ℕ) {u : Bits} → WalkAt w s k ns u → k .left ≢ 0 → Next w s k ns u
   next-in [] h d = absurd (d (h .left))
   next-in (n ∷ ns) {u} h d =
@@ -81,7 +81,7 @@ module _ (w : ℕ) (s : List ℕ) (k : Walk) where
     -- at the end of the block's list
     pub step-last : (ns : List ℕ) {u : Bits} → WalkAt w s k ns u → k .left ≡ 0 → 0 < k .left + k .waiting → StepTo w s k low ns u (record { line = low; next = put k })
     step-last [] h e m =
-        record { lines = []; at = put-at h; is = put-in [] [] (λ z. omega arith) refl refl; less = omega arith }
+        record { more = []; at = put-at h; is = put-in [] [] (λ z. omega arith) refl refl; less = omega arith }
     step-last (n ∷ ns) h e m = absurd (omega (arith, h .left))
 
     module _ (ns : List ℕ) {u : Bits} (h : WalkAt w s k ns u) (x : Next w s k ns u) where
@@ -89,12 +89,12 @@ module _ (w : ℕ) (s : List ℕ) (k : Walk) where
       pub step-put : k .waiting ≢ 0 → x .line < low → StepTo w s k low ns u (record { line = low; next = put k })
       step-put d l =
           let e : insert low ns ≡ low ∷ ns = ap (insert low) (x .is) ∙ pick-yes (ltb (x .line) low) _ _ (yes-ltb l) ∙ ap (λ (y : List ℕ). low ∷ y) (sym (x .is)) in
-          record { lines = ns; at = put-at h; is = put-in ns ns d e refl; less = omega (arith, d) }
+          record { more = ns; at = put-at h; is = put-in ns ns d e refl; less = omega (arith, d) }
 
       -- the block's line is the next
       pub step-own : (n : ℕ) → n ≡ x .line → k .left ≢ 0 → putIn (k .waiting) low ns ≡ x .line ∷ putIn (k .waiting) low (x .more)
           → StepTo w s k low ns u (record { line = n; next = on w k n })
-      step-own n e d i = rw e (record { lines = x .more; at = x .at; is = i; less = omega (arith, d) })
+      step-own n e d i = rw e (record { more = x .more; at = x .at; is = i; less = omega (arith, d) })
 
       pub none-waits : k .waiting ≡ 0 → putIn (k .waiting) low ns ≡ x .line ∷ putIn (k .waiting) low (x .more)
       none-waits e = rw e (x .is)

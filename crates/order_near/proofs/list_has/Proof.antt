@@ -22,7 +22,7 @@ step-on-requires : tie.Need-step-on-requires Inv-loop μ-loop
 step-on-requires c κs =
     let p = c .before .before .before .before .pre in
     let g = c .before .before .loop .inv .1 (p .value) (p .behind) (p .at) in
-    record { narrow = p .narrow; short = p .short; more = omega (arith, c .if1 .taken); lines = g .ms; behind = p .behind; at = g .at }
+    record { narrow = p .narrow; short = p .short; more = omega (arith, c .if1 .taken); value = g .ms; behind = p .behind; at = g .at }
 
 returns : tie.Need-returns Inv-loop μ-loop
 returns c =

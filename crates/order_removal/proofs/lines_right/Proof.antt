@@ -10,24 +10,24 @@ use Rattle.order_removal.proofs.lines_right.Statement.{statement}
 use Rattle.order_removal.proofs.lines_right.Tie as tie
 
 abbrev Inv-loop : tie.InvT-loop
-Inv-loop lines count size least₀ a₀ least a =
-    Testing count lines least a
+Inv-loop removal count size least₀ a₀ least a =
+    Testing count removal least a
 
 abbrev μ-loop : tie.MeasureT-loop
-μ-loop lines count size least₀ a₀ least a =
-    length lines - a
+μ-loop removal count size least₀ a₀ least a =
+    length removal - a
 
 returns : tie.Need-returns Inv-loop μ-loop
 returns c =
-    sym (lines-none (c .before .before .args .count) (c .before .before .args .lines .now) (c .if1 .taken))
+    sym (lines-none (c .before .before .args .count) (c .before .before .args .removal .now) (c .if1 .taken))
 
 returns-2 : tie.Need-returns-2 Inv-loop μ-loop
 returns-2 c =
-    sym (lines-odd (c .before .before .before .args .count) (c .before .before .before .args .lines .now) (c .if2 .taken))
+    sym (lines-odd (c .before .before .before .args .count) (c .before .before .before .args .removal .now) (c .if2 .taken))
 
 loop-holds : tie.Need-loop-holds Inv-loop μ-loop
 loop-holds c =
-    testing-start (c .before .before .before .args .count) (c .before .before .before .args .lines .now) (c .before .if1 .left) (c .if2 .left)
+    testing-start (c .before .before .before .args .count) (c .before .before .before .args .removal .now) (c .before .if1 .left) (c .if2 .left)
 
 two-at-requires : tie.Need-two-at-requires Inv-loop μ-loop
 two-at-requires c κs =

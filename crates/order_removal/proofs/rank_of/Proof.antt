@@ -13,22 +13,22 @@ use Rattle.order_removal.proofs.rank_of.Statement.{statement}
 use Rattle.order_removal.proofs.rank_of.Tie as tie
 
 abbrev Inv-loop : tie.InvT-loop
-Inv-loop lines n count low₀ high₀ low high =
-    Halving (listed lines) n low high
+Inv-loop removal n count low₀ high₀ low high =
+    Halving (listed removal) n low high
 
 abbrev μ-loop : tie.MeasureT-loop
-μ-loop lines n count low₀ high₀ low high =
+μ-loop removal n count low₀ high₀ low high =
     high - low
 
-inside : (c : tie.In-loop Inv-loop μ-loop) → c .before .loop .low + (c .before .loop .high - c .before .loop .low) / 2 < length (listed (c .before .before .before .args .lines .now))
+inside : (c : tie.In-loop Inv-loop μ-loop) → c .before .loop .low + (c .before .loop .high - c .before .loop .low) / 2 < length (listed (c .before .before .before .args .removal .now))
 inside c = omega (arith, c .before .loop .inv .within, c .loop-test .taken)
 
-found : (c : tie.After-two-at Inv-loop μ-loop) → c .two-at .result ≡ at (listed (c .before .before .before .before .args .lines .now)) (c .before .before .loop .low + (c .before .before .loop .high - c .before .before .loop .low) / 2)
-found c = c .two-at .ensures ∙ rising-at (c .before .before .before .before .args .lines .now) (c .before .before .before .before .pre) (c .before .before .loop .low + (c .before .before .loop .high - c .before .before .loop .low) / 2) (inside (c .before))
+found : (c : tie.After-two-at Inv-loop μ-loop) → c .two-at .result ≡ at (listed (c .before .before .before .before .args .removal .now)) (c .before .before .loop .low + (c .before .before .loop .high - c .before .before .loop .low) / 2)
+found c = c .two-at .ensures ∙ rising-at (c .before .before .before .before .args .removal .now) (c .before .before .before .before .pre) (c .before .before .loop .low + (c .before .before .loop .high - c .before .before .loop .low) / 2) (inside (c .before))
 
 loop-holds : tie.Need-loop-holds Inv-loop μ-loop
 loop-holds c =
-    halving-start (listed (c .before .args .lines .now)) (c .before .args .n) _ (omega (arith, c .before .pre .even))
+    halving-start (listed (c .before .args .removal .now)) (c .before .args .n) _ (omega (arith, c .before .pre .even))
 
 sub-middle : tie.Need-sub-middle Inv-loop μ-loop
 sub-middle c = search needs
@@ -73,7 +73,7 @@ two-at-requires-2 c κs =
 
 returns-2 : tie.Need-returns-2 Inv-loop μ-loop
 returns-2 c =
-    maybe-there (c .before .before .before .before .before .pre .rises) (c .before .before .before .loop .inv) (omega (arith, c .before .before .loop-test .left)) (λ e. c .before .if2 .left (omega (arith, c .before .before .before .before .before .pre .even))) _ (c .two-at2 .ensures ∙ rising-at (c .before .before .before .before .before .args .lines .now) (c .before .before .before .before .before .pre) (c .before .before .before .loop .low) (omega (arith, c .before .if2 .left, c .before .before .before .before .before .pre .even, c .before .before .before .loop .inv .from, c .before .before .before .loop .inv .upto, c .before .before .before .loop .inv .within)))
+    maybe-there (c .before .before .before .before .before .pre .rises) (c .before .before .before .loop .inv) (omega (arith, c .before .before .loop-test .left)) (λ e. c .before .if2 .left (omega (arith, c .before .before .before .before .before .pre .even))) _ (c .two-at2 .ensures ∙ rising-at (c .before .before .before .before .before .args .removal .now) (c .before .before .before .before .before .pre) (c .before .before .before .loop .low) (omega (arith, c .before .if2 .left, c .before .before .before .before .before .pre .even, c .before .before .before .loop .inv .from, c .before .before .before .loop .inv .upto, c .before .before .before .loop .inv .within)))
 
 pub rank-of-spec : {M : Type 1} → statement M
 rank-of-spec =

@@ -9,8 +9,8 @@ use borrow.Author.Needs.{needs}
 use Rattle.order_lists.proofs.walk.step_on.Statement.{statement}
 use Rattle.order_lists.proofs.walk.step_on.Tie as tie
 
-here : (c : tie.Else1) → Next (c .before .before .args .w) (c .before .before .args .s .now) (c .before .before .args .k) (c .before .before .pre .lines) (c .before .before .pre .behind)
-here c = next-in (c .before .before .args .w) (c .before .before .args .s .now) (c .before .before .args .k) (c .before .before .pre .lines) (c .before .before .pre .at) (c .if1 .left)
+here : (c : tie.Else1) → Next (c .before .before .args .w) (c .before .before .args .s .now) (c .before .before .args .k) (c .before .before .pre .value) (c .before .before .pre .behind)
+here c = next-in (c .before .before .args .w) (c .before .before .args .s .now) (c .before .before .args .k) (c .before .before .pre .value) (c .before .before .pre .at) (c .if1 .left)
 
 is-line : (c : tie.After-sure) (x : ℕ) → x ≤ c .before .before .before .args .k .base → c .sure .result .value ≡ c .before .before .before .args .k .base - x → c .before .before .before .args .k .base - c .sure .result .value ≡ x
 is-line c x l e = omega arith
