@@ -1,4 +1,4 @@
--- Blocks of values, each kind with its laws: many with padding, one that ends its block, one or none, values that fill it.
+-- Blocks of values. For a reader: the lines of `many`, `ended`, `maybe`, `fill` say which values fit and what is written; all else are laws.
 use mathlib.Core.Path.{_≡_, refl, sym, ap, _∙_}
 use Prim.Native.Nat.{ℕ, zero, suc, _+_, _%_, _≤_, _<_}
 use native.Mathlib.Omega.{arith}

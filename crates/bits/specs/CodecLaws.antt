@@ -1,4 +1,6 @@
--- The ways of Codec, each with its two laws, made into codecs.
+-- The ways of Codec, each with its two laws, made into codecs. For a reader: the line of each codec (`field`, `then`, `times`, `along`,
+-- `via`, `only`, `fixed`, `ranged`, `counted`) says which values fit and what is written; `encAll`, `encAlong`, `TimesFits`,
+-- `AlongFits` and `Ranged` are words of these lines. All else are laws, and `there` and `back` cite them.
 use mathlib.Core.Path.{_≡_, refl, sym, ap, ap₂, _∙_}
 use Prim.Native.Nat.{ℕ, zero, suc, _^_, _<_}
 use native.Mathlib.Omega.{arith}
@@ -150,14 +152,19 @@ module _ {S A I : Type 0} (c : I → Codec S A) (m : I → A → I) where
   abbrev pub along : ℕ → I → Codec S (List A)
   along n i = record { Fits = AlongFits n i; enc = encAlong i; dec = alongDec c m n i; there = along-there n i; back = along-back n i }
 
--- ---- via: F says which of the other type's values fit
+-- ---- via: values of another type; F says which of them fit
 
-module _ {S A B : Type 0} (c : Codec S A) (f : A → B) (g : B → A) (F : B → Type 0)
-    (fit : (b : B) → F b → c .Fits (g b)) (fg : (b : B) → F b → f (g b) ≡ b)
-    (unfit : (a : A) → c .Fits a → F (f a)) (gf : (a : A) → c .Fits a → g (f a) ≡ a) where
+-- what allows it: the values of A that P lets through and those of B that F does go over into each other, by f and g
+pub record Matches {A B : Type 0} (P : A → Type 0) (f : A → B) (g : B → A) (F : B → Type 0) : Type 0 where
+  pub fits : (b : B) → F b → P (g b)
+  pub same : (b : B) → F b → f (g b) ≡ b
+  pub allowed : (a : A) → P a → F (f a)
+  pub again : (a : A) → P a → g (f a) ≡ a
+
+module _ {S A B : Type 0} (c : Codec S A) (f : A → B) (g : B → A) (F : B → Type 0) (m : Matches (c .Fits) f g F) where
   pub via-there : (b : B) (r : List S) → F b → viaDec c f (c .enc (g b) ++ r) ≡ got b r
   unfolding viaDec
-  via-there b r h = rw (c .there (g b) r (fit b h), fg b h)
+  via-there b r h = rw (c .there (g b) r (m .fits b h), m .same b h)
 
   pub via-back : (s : List S) (b : B) (r : List S) → viaDec c f s ≡ got b r → F b × (s ≡ c .enc (g b) ++ r)
   unfolding viaDec
@@ -166,7 +173,7 @@ module _ {S A B : Type 0} (c : Codec S A) (f : A → B) (g : B → A) (F : B →
       let (k, l) = c .back s a q e in
       let u : f a ≡ b = cc in
       let v : q ≡ r = cc in
-      rw (← u, ← v) (unfit a k, rw (gf a k) l)
+      rw (← u, ← v) (m .allowed a k, rw (m .again a k) l)
 
   abbrev pub via : Codec S B
   via = record { Fits = F; enc = λ b. c .enc (g b); dec = viaDec c f; there = via-there; back = via-back }
@@ -191,11 +198,18 @@ module _ {S A : Type 0} (c : Codec S A) (e : ℕ) (t : A → Bool) where
 
 -- ---- numbers with a rule, and a count
 
+pub fixed-matches : (e w v : ℕ) → Matches {B = Unit {0}} (only (field e w) e (eqb v) .Fits) (λ n. tt) (λ u. v) (λ u. v < 2 ^ w)
+fixed-matches e w v =
+    record {
+      fits = λ u h. (h, eqb-refl v);
+      same = λ u h. refl;
+      allowed = λ n h. rw (eqb→eq v n (h .1)) (h .0);
+      again = λ n h. eqb→eq v n (h .1);
+    }
+
 -- a number that must be v
 abbrev pub fixed : (e w v : ℕ) → Codec Bool (Unit {0})
-fixed e w v =
-    via (only (field e w) e (eqb v)) (λ n. tt) (λ u. v) (λ u. v < 2 ^ w) (λ u h. (h, eqb-refl v)) (λ u h. refl)
-    (λ n h. rw (eqb→eq v n (h .1)) (h .0)) (λ n h. eqb→eq v n (h .1))
+fixed e w v = via (only (field e w) e (eqb v)) (λ n. tt) (λ u. v) (λ u. v < 2 ^ w) (fixed-matches e w v)
 
 -- a number of w bits from low to high
 abbrev pub Ranged : (w low high n : ℕ) → Type 0
@@ -204,8 +218,16 @@ Ranged w low high n = (n < 2 ^ w) × T (within low high n)
 abbrev pub ranged : (e w low high : ℕ) → Codec Bool ℕ
 ranged e w low high = only (field e w) e (within low high)
 
+pub counted-matches : {S A : Type 0} (n : Codec S ℕ) (c : Codec S A)
+    → Matches (then n (times c) .Fits) (λ p. p .1) (λ xs. (length xs, xs)) (λ xs. n .Fits (length xs) × All (c .Fits) xs)
+counted-matches n c =
+    record {
+      fits = λ xs h. (h .0, (refl, h .1));
+      same = λ xs h. refl;
+      allowed = λ p h. (rw (h .1 .0) (h .0), h .1 .1);
+      again = λ p h. λ i. (h .1 .0 i, p .1);
+    }
+
 -- a count, then that many
 abbrev pub counted : {S A : Type 0} → Codec S ℕ → Codec S A → Codec S (List A)
-counted n c =
-    via (then n (times c)) (λ p. p .1) (λ xs. (length xs, xs)) (λ xs. n .Fits (length xs) × All (c .Fits) xs)
-    (λ xs h. (h .0, (refl, h .1))) (λ xs h. refl) (λ p h. (rw (h .1 .0) (h .0), h .1 .1)) (λ p h. λ i. (h .1 .0 i, p .1))
+counted n c = via (then n (times c)) (λ p. p .1) (λ xs. (length xs, xs)) (λ xs. n .Fits (length xs) × All (c .Fits) xs) (counted-matches n c)

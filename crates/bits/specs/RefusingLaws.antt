@@ -1,5 +1,6 @@
 -- The ways of Codec that change what a codec refuses, or where: by a judgement of the value, at the start of what is read, or for
--- want of room. Each has its two laws, and is made into a codec.
+-- want of room. Each has its two laws, and is made into a codec. For a reader: the line of each codec (`judged`, `whole`, `room`) says
+-- which values fit; what is written stays. All else are laws.
 use mathlib.Core.Path.{_≡_, refl, _∙_}
 use Prim.Native.Nat.{ℕ, _-_, _≤_}
 use native.Mathlib.Omega.{arith}

@@ -1,4 +1,6 @@
--- Blocks made of others, with their laws: a codec ahead, a test, another type; and a block of a stated size, as a codec.
+-- Blocks made of others, with their laws: a codec ahead, a test, another type; and a block of a stated size, as a codec. For a
+-- reader: the line of each block or codec (`ahead`, `pass`, `recast`, `sized`, `headed`, `prefixed`) says which values fit and what is
+-- written. All else are laws.
 use mathlib.Core.Path.{_≡_, refl, sym, ap, _∙_}
 use Prim.Native.Nat.{ℕ, _+_, _*_, _/_, _%_, _^_, _≤_, _<_}
 use native.Mathlib.Omega.{arith}
@@ -10,7 +12,7 @@ use lib.Seq.{take-at, drop-at, length-take-le}
 use Rattle.bits.specs.ChoiceLaws.{pick-yes, pick-split}
 use Rattle.bits.specs.Bits.{Bits}
 use Rattle.bits.specs.Codec.{Read, got, refused, Codec}
-use Rattle.bits.specs.CodecLaws.{not-got, pick-got, next-got, field, then, via}
+use Rattle.bits.specs.CodecLaws.{not-got, pick-got, next-got, field, then, Matches, via}
 use Rattle.bits.specs.Block.{Block, inside, sizedDec, aheadDec, passDec, recastDec}
 
 -- ---- ahead
@@ -75,12 +77,10 @@ module _ {A : Type 0} (w : Block A) (e : ℕ) (t : A → Bool) where
 
 -- ---- recast: values of another type; F says which of them fit
 
-module _ {A B : Type 0} (w : Block A) (f : A → B) (g : B → A) (F : B → Type 0)
-    (fit : (b : B) → F b → w .Fits (g b)) (fg : (b : B) → F b → f (g b) ≡ b)
-    (unfit : (a : A) → w .Fits a → F (f a)) (gf : (a : A) → w .Fits a → g (f a) ≡ a) where
+module _ {A B : Type 0} (w : Block A) (f : A → B) (g : B → A) (F : B → Type 0) (m : Matches (w .Fits) f g F) where
   pub recast-there : (b : B) → F b → recastDec w f (w .enc (g b)) ≡ got b []
   unfolding recastDec
-  recast-there b h = rw (w .there (g b) (fit b h), fg b h)
+  recast-there b h = rw (w .there (g b) (m .fits b h), m .same b h)
 
   pub recast-back : (s : Bits) (b : B) → length s % 8 ≡ 0 → recastDec w f s ≡ got b [] → F b × (s ≡ w .enc (g b))
   unfolding recastDec
@@ -89,7 +89,7 @@ module _ {A B : Type 0} (w : Block A) (f : A → B) (g : B → A) (F : B → Typ
       let u : f a ≡ b = cc in
       let v : q ≡ [] = cc in
       let (k, z) = w .back s a l (e ∙ ap (got a) v) in
-      rw (← u) (unfit a k, rw (gf a k) z)
+      rw (← u) (m .allowed a k, rw (m .again a k) z)
 
   pub recast-all : (s : Bits) (b : B) (r : Bits) → recastDec w f s ≡ got b r → r ≡ []
   unfolding recastDec
@@ -125,20 +125,36 @@ module _ {A : Type 0} (w : Block A) (e n : ℕ) where
   abbrev pub sized : Codec Bool A
   sized = record { Fits = λ a. w .Fits a × (length (w .enc a) ≡ 8 * n); enc = w .enc; dec = sizedDec w e n; there = sized-there; back = sized-back }
 
+pub headed-matches : {H A : Type 0} (c : Codec Bool (H × ℕ)) (w : Block A) (e : ℕ)
+    → Matches {B = H × A} (then c (λ t. sized w e (t .1)) .Fits) (λ t. (t .0 .0, t .1)) (λ t. ((t .0, length (w .enc (t .1)) / 8), t .1))
+    (λ t. c .Fits (t .0, length (w .enc (t .1)) / 8) × w .Fits (t .1))
+headed-matches c w e =
+    record {
+      fits = λ t h. (h .0, (h .1, omega (arith, w .bytes (t .1))));
+      same = λ t h. refl;
+      allowed = λ t h. let z : length (w .enc (t .1)) / 8 ≡ t .0 .1 = omega (arith, h .1 .1) in (rw z (h .0), h .1 .0);
+      again = λ t h. let z : length (w .enc (t .1)) / 8 ≡ t .0 .1 = omega (arith, h .1 .1) in ap (λ (n : ℕ). ((t .0 .0, n), t .1)) z;
+    }
+
 -- a codec whose last number is the length, in bytes, of the block that follows it
 abbrev pub headed : {H A : Type 0} → Codec Bool (H × ℕ) → Block A → ℕ → Codec Bool (H × A)
 headed c w e =
     via (then c (λ t. sized w e (t .1))) (λ t. (t .0 .0, t .1)) (λ t. ((t .0, length (w .enc (t .1)) / 8), t .1))
-    (λ t. c .Fits (t .0, length (w .enc (t .1)) / 8) × w .Fits (t .1))
-    (λ t h. (h .0, (h .1, omega (arith, w .bytes (t .1))))) (λ t h. refl)
-    (λ t h. let z : length (w .enc (t .1)) / 8 ≡ t .0 .1 = omega (arith, h .1 .1) in (rw z (h .0), h .1 .0))
-    (λ t h. let z : length (w .enc (t .1)) / 8 ≡ t .0 .1 = omega (arith, h .1 .1) in ap (λ (n : ℕ). ((t .0 .0, n), t .1)) z)
+    (λ t. c .Fits (t .0, length (w .enc (t .1)) / 8) × w .Fits (t .1)) (headed-matches c w e)
+
+pub prefixed-matches : {A : Type 0} (w : Block A) (e : ℕ)
+    → Matches (then (field e 16) (λ n. sized w e n) .Fits) (λ t. t .1) (λ a. (length (w .enc a) / 8, a))
+    (λ a. (length (w .enc a) / 8 < 2 ^ 16) × w .Fits a)
+prefixed-matches w e =
+    record {
+      fits = λ a h. (h .0, (h .1, omega (arith, w .bytes a)));
+      same = λ a h. refl;
+      allowed = λ t h. let z : length (w .enc (t .1)) / 8 ≡ t .0 = omega (arith, h .1 .1) in (rw z (h .0), h .1 .0);
+      again = λ t h. let z : length (w .enc (t .1)) / 8 ≡ t .0 = omega (arith, h .1 .1) in ap (λ (n : ℕ). (n, t .1)) z;
+    }
 
 -- a length of 16 bits, then the block
 abbrev pub prefixed : {A : Type 0} → Block A → ℕ → Codec Bool A
 prefixed w e =
-    via (then (field e 16) (λ n. sized w e n)) (λ t. t .1) (λ a. (length (w .enc a) / 8, a))
-    (λ a. (length (w .enc a) / 8 < 2 ^ 16) × w .Fits a)
-    (λ a h. (h .0, (h .1, omega (arith, w .bytes a)))) (λ a h. refl)
-    (λ t h. let z : length (w .enc (t .1)) / 8 ≡ t .0 = omega (arith, h .1 .1) in (rw z (h .0), h .1 .0))
-    (λ t h. let z : length (w .enc (t .1)) / 8 ≡ t .0 = omega (arith, h .1 .1) in ap (λ (n : ℕ). (n, t .1)) z)
+    via (then (field e 16) (λ n. sized w e n)) (λ t. t .1) (λ a. (length (w .enc a) / 8, a)) (λ a. (length (w .enc a) / 8 < 2 ^ 16) × w .Fits a)
+    (prefixed-matches w e)

@@ -1,8 +1,10 @@
 pub mod Limits
-pub mod Line
-pub mod Index
 pub mod Differences
 pub mod DifferencesLaws
+pub mod Parts
+pub mod PartsLaws
+pub mod Line
+pub mod Index
 pub mod Segments
 pub mod View
 pub mod Record

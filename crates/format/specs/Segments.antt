@@ -1,30 +1,23 @@
 -- The extended data. "Segments filling it: type (2), length (2) counting its own 4 bytes, payload." Refusal 11: "a segment length
 -- under 4 or past its block, or 1 to 3 bytes over".
-use mathlib.Core.Path.{_≡_, refl, ap}
-use Prim.Native.Nat.{ℕ, _+_, _-_, _*_, _^_, _≤_, _<_}
+use mathlib.Core.Path.{_≡_}
+use Prim.Native.Nat.{ℕ, _+_, _-_, _*_, _%_, _<_}
 use native.Mathlib.Omega.{arith}
 use mathlib.Core.Bool.{Bool}
-use mathlib.Core.List.{List, [], _∷_}
+use mathlib.Core.List.{List}
 use lib.ListN.{length, length-append}
-use lib.Dec.{leb, leb→le, le→leb}
-use Rattle.bits.specs.Lists.{All}
+use lib.Dec.{leb}
 use Rattle.bits.specs.BitsLaws.{length-bits}
 use Rattle.bits.specs.Codec.{Codec}
-use Rattle.bits.specs.CodecLaws.{encAll, field, then, via, only, times}
+use Rattle.bits.specs.CodecLaws.{field, then, via, only, times}
 use Rattle.bits.specs.RefusingLaws.{whole, room}
 use Rattle.bits.specs.Block.{Block}
 use Rattle.bits.specs.BlockLaws.{fill}
-use Rattle.bits.specs.Bytes.{Byte}
 use Rattle.outcome.specs.Refusals.{badSegment}
-
-pub record Segment : Type 0 where
-  pub kind : ℕ
-  pub payload : List ℕ
-
-pub record FitsSegment (g : Segment) : Type 0 where
-  pub kind : g .kind < 2 ^ 16
-  pub length : 4 + length (g .payload) < 2 ^ 16
-  pub payload : All Byte (g .payload)
+pub use Rattle.format.specs.Parts.{Segment, FitsSegment}
+use Rattle.format.specs.Parts.{makeSegment, partsOfSegment}
+pub use Rattle.format.specs.PartsLaws.{length-bytes}
+use Rattle.format.specs.PartsLaws.{segment-matches, segment-long}
 
 -- the length and the payload: a length under 4 or past the block is at fault itself
 abbrev pub measured : Codec Bool (ℕ × List ℕ)
@@ -33,24 +26,20 @@ measured = whole (then (only (field badSegment 16) badSegment (leb 4)) λ n. tim
 -- four bytes are there, or the first of those left over is at fault
 unfoldable pub segment : Codec Bool Segment
 segment =
-    via (room (then (field badSegment 16) λ _. measured) badSegment 32 (λ t h. simp (length-append, length-bits) (omega arith)))
-    (λ t. record { kind = t .0; payload = t .1 .1 }) (λ g. (g .kind, (4 + length (g .payload), g .payload)))
-    FitsSegment
-    (λ g h. (h .kind, ((h .length, le→leb 4 (4 + length (g .payload)) (omega arith)), (omega arith, h .payload))))
-    (λ g h. refl)
-    (λ t h. let l : 4 ≤ t .1 .0 = leb→le 4 (t .1 .0) (h .1 .0 .1) in
-    record { kind = h .0; length = omega (arith, h .1 .0 .0, h .1 .1 .0); payload = h .1 .1 .1 })
-    (λ t h. let l : 4 ≤ t .1 .0 = leb→le 4 (t .1 .0) (h .1 .0 .1) in
-    let z : 4 + length (t .1 .1) ≡ t .1 .0 = omega (arith, h .1 .1 .0) in
-    ap (λ (n : ℕ). (t .0, (n, t .1 .1))) z)
+    via (room (then (field badSegment 16) λ _. measured) badSegment 32 (λ t h. segment-long badSegment (t .0) (t .1 .0) (t .1 .1)))
+    makeSegment partsOfSegment FitsSegment segment-matches
 
-pub length-bytes : (e : ℕ) (xs : List ℕ) → length (encAll (field e 8) xs) ≡ 8 * length xs
-length-bytes e [] = refl
-length-bytes e (x ∷ xs) = simp (length-append, length-bits) (omega (arith, length-bytes e xs))
+-- ---- the block
 
 pub segment-length : (g : Segment) → length (segment .enc g) ≡ 32 + 8 * length (g .payload)
 unfolding segment
 segment-length g = simp (length-append, length-bits, length-bytes) (omega arith)
 
+pub segment-some : (g : Segment) → 0 < length (segment .enc g)
+segment-some g = omega (arith, segment-length g)
+
+pub segment-whole : (g : Segment) → length (segment .enc g) % 8 ≡ 0
+segment-whole g = omega (arith, segment-length g)
+
 unfoldable pub segments : Block (List Segment)
-segments = fill segment badSegment (λ g. omega (arith, segment-length g)) (λ g. omega (arith, segment-length g))
+segments = fill segment badSegment segment-some segment-whole

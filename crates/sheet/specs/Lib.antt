@@ -1,6 +1,9 @@
+pub mod Code
+pub mod CodeLaws
+pub mod Parts
+pub mod PartsLaws
 pub mod Fields
 pub mod Grammar
-pub mod Code
 pub mod Values
 pub mod Sheet
 pub mod Accepted

@@ -10,7 +10,8 @@ use Rattle.bits.specs.Lists.{All}
 use Rattle.bits.specs.ListsLaws.{all-at, map-at}
 use Rattle.bits.specs.CodecLaws.{encAll, field}
 use Rattle.outcome.specs.Refusals.{badLine}
-use Rattle.sheet.specs.Code.{extended, extended-low}
+use Rattle.sheet.specs.Code.{extended}
+use Rattle.sheet.specs.CodeLaws.{extended-low}
 use Rattle.find_parts.proofs.Laws.Line.{codes-long}
 use Rattle.put_bits.specs.Put.{PutMore, Puts}
 use Rattle.put_bits.proofs.Chain.{puts-one, puts-none, _then_, puts-as, enc-snoc}
