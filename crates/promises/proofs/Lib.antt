@@ -1,3 +1,4 @@
 pub mod Calls
 pub mod Samples
 pub mod Promises
+pub mod PromisesCalls

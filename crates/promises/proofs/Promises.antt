@@ -1,9 +1,22 @@
--- WHAT THE LIBRARY PROMISES. Each promise is a statement; its proof is one citation. Every name in a statement leads to one
--- definition: `read`, `write`, `Allowed` (format/specs/Record), `reading`, `writing` (sheet/specs/Sheet), `Outcome`, `AnswersAs`,
--- `Gave` (outcome/specs/Outcome), `Gives` and the calls' numbers (outcome/specs/Numbers), `AcceptedReading`, `AcceptedWriting`
--- (sheet/specs/Accepted), `trailing` (trail/specs/Trail), `segmentAnswer`, `payload` (segment/specs/Segment), `Order`, `Accepted`,
--- `edited`, `order`, `holds` (orders/specs/Order), `Call`, `run`, `history`, `Follows` (orders/specs/History), `AcceptedCall`
--- (orders/specs/Accept), `Kept` (orders/specs/Kept, Bytes), `MadeAll` (orders/specs/Made).
+-- WHAT THE LIBRARY PROMISES, of every record, sheet and sequence of orders. Which numbers each call gives, and when it is accepted, is
+-- promised in PromisesCalls beside it. Each promise is a statement; its proof is one citation. Every name in a statement leads to one
+-- definition, and all of these stand in specs/:
+--   bits/specs/Choice, Lists, Bits, Bytes   within; All, Along; Bits; Byte
+--   bits/specs/Codec           Codec.got, Codec.refused: what reading gives; enc, what is written
+--   outcome/specs/Refusals     otherCount, tooLong, badSheet, badValue
+--   outcome/specs/Outcome      Outcome, refused, given, numberOf, lengthOf, laid; AnswersAs, Answers, Gave
+--   format/specs/Parts         Record, FitsList, up
+--   format/specs/View, Places  view; viewAt
+--   format/specs/Record        read, write, Allowed
+--   sheet/specs/Sheet          readSheet, reading, writing
+--   segment/specs/Segment      segmentAnswer, payload, payloadOf
+--   orders/specs/Act, Least    remove; leastWidth
+--   orders/specs/Order         Order, Accepted, edited, order, holds
+--   orders/specs/History       Call, outcome, nowHolds, run
+--   orders/specs/Kept, Made    Kept; MadeAll
+--   order_holds/specs/Held     held
+--   promises/specs/Samples     table, expected, computed
+-- `Answer` and `Held` are structs of the code (outcome/src, order_holds/src), `length`, `take`, `T`, `eqb` and the signs the toolchain's.
 use mathlib.Core.Path.{_≡_}
 use mathlib.Core.Logic.{_≢_, _⊎_}
 use Prim.Native.Nat.{ℕ, _*_, _≤_}
@@ -15,127 +28,76 @@ use Rattle.bits.specs.Choice.{within}
 use Rattle.bits.specs.Lists.{All, Along}
 use Rattle.bits.specs.Bits.{Bits}
 use Rattle.bits.specs.Bytes.{Byte}
-use Rattle.bits.specs.Codec as C
+use Rattle.bits.specs.Codec as Codec
 use Rattle.outcome.specs.Refusals.{otherCount, tooLong, badSheet, badValue}
-use Rattle.outcome.specs.Numbers.{Gives, readNumbers, writeNumbers, trailNumbers, segmentNumbers, removalNumbers, pairNumbers}
 use Rattle.outcome.specs.Outcome.{Outcome, refused, given, numberOf, lengthOf, laid, AnswersAs, Answers, Gave}
 use Rattle.outcome.specs.declared.Answer.{Answer}
-use Rattle.outcome.proofs.Laws as O
-use Rattle.format.specs.Index.{FitsList, up}
+use Rattle.outcome.proofs.Laws as OutcomeLaws
+use Rattle.format.specs.Parts.{Record, FitsList, up}
 use Rattle.format.specs.View.{view}
-use Rattle.format.specs.Record.{Record, read, write, Allowed}
+use Rattle.format.specs.Record.{read, write, Allowed}
 use Rattle.format.specs.Places.{viewAt}
-use Rattle.format.proofs.Laws.Record as R
-use Rattle.format.proofs.Laws.Refuses as F
+use Rattle.format.proofs.Laws.Record as RecordLaws
+use Rattle.format.proofs.Laws.Refuses as RecordRefusals
 use Rattle.sheet.specs.Sheet.{readSheet, reading, writing}
-use Rattle.sheet.specs.Accepted.{AcceptedReading, AcceptedWriting}
-use Rattle.sheet.proofs.Laws.Calls as S
-use Rattle.sheet.proofs.Laws.Numbers as SheetNumbers
-use Rattle.sheet.proofs.Laws.BothWays as B
-use Rattle.sheet.proofs.Laws.Refuses as G
-use Rattle.sheet_bytes.proofs.Laws.Room as M
-use Rattle.trail.specs.Trail.{trailing}
-use Rattle.trail.proofs.Numbers as TrailNumbers
+use Rattle.sheet.proofs.Laws.Calls as SheetCalls
+use Rattle.sheet.proofs.Laws.BothWays as BothWays
+use Rattle.sheet.proofs.Laws.Refuses as SheetRefusals
+use Rattle.sheet_bytes.proofs.Laws.Room as SheetRoom
 use Rattle.segment.specs.Segment.{payload, payloadOf, segmentAnswer}
-use Rattle.segment.proofs.Numbers as SegmentNumbers
 use Rattle.orders.specs.Least.{leastWidth}
-use Rattle.orders.specs.Act.{remove, join, part}
+use Rattle.orders.specs.Act.{remove}
 use Rattle.orders.specs.Order.{Order, edited, Accepted, order, holds}
 use Rattle.orders.specs.History.{Call, outcome, nowHolds, run}
-use Rattle.orders.specs.Accept.{AcceptedCall}
 use Rattle.orders.specs.Kept.{Kept}
 use Rattle.orders.specs.Made.{MadeAll}
-use Rattle.orders.proofs.Laws.Numbers as OrderNumbers
-use Rattle.orders.proofs.Laws.AcceptCall as AcceptCall
-use Rattle.orders.proofs.Laws.Least as L
-use Rattle.orders.proofs.Laws.Keep as K
-use Rattle.orders.proofs.Laws.Sequence as Q
-use Rattle.orders.proofs.Laws.Holds as H
-use Rattle.orders.proofs.Laws.Calls as N
+use Rattle.orders.proofs.Laws.Least as LeastLaws
+use Rattle.orders.proofs.Laws.Keep as KeepLaws
+use Rattle.orders.proofs.Laws.Sequence as SequenceLaws
+use Rattle.orders.proofs.Laws.Holds as HoldsLaws
+use Rattle.orders.proofs.Laws.Calls as CallLaws
 use Rattle.order_holds.specs.Held.{held}
 use Rattle.order_holds.specs.declared.Held.{Held}
-use Rattle.order_holds.proofs.Laws as W
+use Rattle.order_holds.proofs.Laws as HeldLaws
 use Rattle.promises.specs.Samples.{expected, computed, table}
-use Rattle.promises.proofs.Samples as P
+use Rattle.promises.proofs.Samples as ComputedSamples
 
 -- ---- DEMAND 1: every run of bytes gets a result; bad input is refused by a fixed number; a refusal writes nothing
+-- ("No number is given otherwise": the numbers of each call stand in PromisesCalls)
 
 -- a record is refused by 1 to 12 and no other number, at a place within it
-pub record-refused : (bytes : List ℕ) (e left : ℕ) → read bytes ≡ C.refused e left → T (within 1 12 e) × (left ≤ 8 * length bytes)
-record-refused = F.read-refuses
+pub record-refused : (bytes : List ℕ) (e left : ℕ) → read bytes ≡ Codec.refused e left → T (within 1 12 e) × (left ≤ 8 * length bytes)
+record-refused = RecordRefusals.read-refuses
 
 -- a sheet is refused by 21, 22 or 19
-pub sheet-refused : (sheet : List ℕ) (e left : ℕ) → readSheet sheet ≡ C.refused e left → T (eqb e badSheet || eqb e badValue || eqb e tooLong)
-sheet-refused = G.readSheet-refuses
-
--- "No number is given otherwise": of each call, the numbers that its contract allows besides 0
-pub read-numbers : {before after : List ℕ} {a : Answer} (bytes : List ℕ) → Answers (reading bytes) before after a → Gives readNumbers (a .number)
-read-numbers = SheetNumbers.reading-numbers
-
-pub write-numbers : {before after : List ℕ} {a : Answer} (sheet : List ℕ) → Answers (writing sheet) before after a → Gives writeNumbers (a .number)
-write-numbers = SheetNumbers.writing-numbers
-
--- as 16-bit numbers or as bytes
-pub trail-numbers : {B : Type 0} {form : List ℕ → List B} {lent : ℕ} {before after : List B} {a : Answer} (view line : ℕ) (bytes : List ℕ)
-    → AnswersAs form lent (trailing view line bytes) before after a → Gives trailNumbers (a .number)
-trail-numbers = TrailNumbers.trailing-numbers
-
-pub segment-numbers : {a : Answer} (view place : ℕ) (bytes : List ℕ) → a ≡ segmentAnswer view place bytes → Gives segmentNumbers (a .number)
-segment-numbers = SegmentNumbers.segment-numbers
-
-pub removal-numbers : (o : Order) (bytes : List ℕ) {before after : List ℕ} {a : Answer} → Answers (order o bytes) before after a
-    → {rs : List ℕ} → o .act ≡ remove rs → Gives removalNumbers (a .number)
-removal-numbers = OrderNumbers.removal-numbers
-
-pub join-numbers : (o : Order) (bytes : List ℕ) {before after : List ℕ} {a : Answer} → Answers (order o bytes) before after a
-    → {p q : ℕ} → o .act ≡ join p q → Gives pairNumbers (a .number)
-join-numbers = OrderNumbers.join-numbers
-
-pub part-numbers : (o : Order) (bytes : List ℕ) {before after : List ℕ} {a : Answer} → Answers (order o bytes) before after a
-    → {p q : ℕ} → o .act ≡ part p q → Gives pairNumbers (a .number)
-part-numbers = OrderNumbers.part-numbers
+pub sheet-refused : (sheet : List ℕ) (e left : ℕ) → readSheet sheet ≡ Codec.refused e left → T (eqb e badSheet || eqb e badValue || eqb e tooLong)
+sheet-refused = SheetRefusals.readSheet-refuses
 
 -- whatever a call is, an answer other than 0 leaves the lent buffer as it was, and a length of 0
 pub refusal-writes-nothing : {A B : Type 0} {form : List A → List B} {lent : ℕ} {o : Outcome A} {before after : List B} {a : Answer}
     → AnswersAs form lent o before after a → a .number ≢ 0 → (after ≡ before) × (a .length ≡ 0)
-refusal-writes-nothing = O.refusal-writes-nothing
+refusal-writes-nothing = OutcomeLaws.refusal-writes-nothing
 
 -- ---- DEMAND 2: reading accepts exactly the allowed records; sheet and record give each other back
+-- (the same of the calls, where there is room: PromisesCalls)
 
-pub accepted-is-allowed : (bytes : List ℕ) (r : Record) (rest : Bits) → All Byte bytes → read bytes ≡ C.got r rest → Allowed r × (bytes ≡ write r) × (rest ≡ [])
-accepted-is-allowed = R.read-back
+pub accepted-is-allowed : (bytes : List ℕ) (r : Record) (rest : Bits) → All Byte bytes → read bytes ≡ Codec.got r rest → Allowed r × (bytes ≡ write r) × (rest ≡ [])
+accepted-is-allowed = RecordLaws.read-back
 
-pub allowed-is-accepted : (r : Record) → Allowed r → read (write r) ≡ C.got r []
-allowed-is-accepted = R.read-there
-
--- the calls, by their contracts: the number is 0 exactly where the bytes, or the sheet, are an allowed record's and there is room
-pub read-accepted : {before after : List ℕ} {a : Answer} (bytes : List ℕ) → All Byte bytes → Answers (reading bytes) before after a
-    → a .number ≡ 0 → AcceptedReading bytes (length before)
-read-accepted = SheetNumbers.reading-accepted
-
-pub accepted-read : {before after : List ℕ} {a : Answer} (bytes : List ℕ) → Answers (reading bytes) before after a
-    → AcceptedReading bytes (length before) → a .number ≡ 0
-accepted-read = SheetNumbers.accepted-reading
-
-pub write-accepted : {before after : List ℕ} {a : Answer} (sheet : List ℕ) → All Byte sheet → Answers (writing sheet) before after a
-    → a .number ≡ 0 → AcceptedWriting sheet (length before)
-write-accepted = SheetNumbers.writing-accepted
-
-pub accepted-write : {before after : List ℕ} {a : Answer} (sheet : List ℕ) → Answers (writing sheet) before after a
-    → AcceptedWriting sheet (length before) → a .number ≡ 0
-accepted-write = SheetNumbers.accepted-writing
+pub allowed-is-accepted : (r : Record) → Allowed r → read (write r) ≡ Codec.got r []
+allowed-is-accepted = RecordLaws.read-there
 
 -- writing the sheet that reading gave gives the bytes back
 pub write-after-read : (bytes sheet : List ℕ) → All Byte bytes → reading bytes ≡ given sheet → writing sheet ≡ given bytes
-write-after-read = S.write-after-read
+write-after-read = SheetCalls.write-after-read
 
 -- reading the record that writing gave gives the sheet back
 pub read-after-write : (sheet bytes : List ℕ) → All Byte sheet → writing sheet ≡ given bytes → reading bytes ≡ given sheet
-read-after-write = S.read-after-write
+read-after-write = SheetCalls.read-after-write
 
 -- seven times a record's length is room for its sheet
 pub sheet-room : (bytes sheet : List ℕ) → All Byte bytes → reading bytes ≡ given sheet → length sheet ≤ 7 * length bytes
-sheet-room = M.reading-room
+sheet-room = SheetRoom.reading-room
 
 -- the calls themselves, whose contracts `Answers (reading bytes)` and `Answers (writing sheet)` are: where the first answers 0, and
 -- the second is lent what it wrote and room enough, the second gives back what the first was lent. Functions that make the two calls
@@ -143,70 +105,54 @@ sheet-room = M.reading-room
 pub record-back : {before after before₂ after₂ : List ℕ} {a b : Answer} (bytes : List ℕ) → All Byte bytes
     → Answers (reading bytes) before after a → a .number ≡ 0
     → Answers (writing (take (a .length) after)) before₂ after₂ b → length bytes ≤ length before₂ → Gave bytes after₂ b
-record-back = B.written-back
+record-back = BothWays.written-back
 
 pub sheet-back : {before after before₂ after₂ : List ℕ} {a b : Answer} (sheet : List ℕ) → All Byte sheet
     → Answers (writing sheet) before after a → a .number ≡ 0
     → Answers (reading (take (a .length) after)) before₂ after₂ b → length sheet ≤ length before₂ → Gave sheet after₂ b
-sheet-back = B.read-back
+sheet-back = BothWays.read-back
 
 -- ---- DEMAND 3: orders
+-- (that an order is refused for the numbered causes alone: PromisesCalls)
 
--- an order's number is 0 exactly where the bytes read as a record, its view is there and has the count, its own tests pass, the new
--- record is at most 32,768 bytes, and it fits the second buffer: of its outcome in a sequence
-pub order-accepted : (c : Call) (bytes : List ℕ) → numberOf (outcome c bytes) ≡ 0 → AcceptedCall c bytes
-order-accepted = AcceptCall.outcome-accepted
-
-pub accepted-order : (c : Call) (bytes : List ℕ) → AcceptedCall c bytes → numberOf (outcome c bytes) ≡ 0
-accepted-order = AcceptCall.accepted-outcome
-
--- and of any answer by the contract of its call
-pub call-accepted : (o : Order) (bytes : List ℕ) {before after : List ℕ} {a : Answer} → Answers (order o bytes) before after a
-    → a .number ≡ 0 → AcceptedCall (record { order = o; lent = length before }) bytes
-call-accepted = AcceptCall.call-accepted
-
-pub accepted-call : (o : Order) (bytes : List ℕ) {before after : List ℕ} {a : Answer} → Answers (order o bytes) before after a
-    → AcceptedCall (record { order = o; lent = length before }) bytes → a .number ≡ 0
-accepted-call = AcceptCall.accepted-call
-
--- it then leaves an allowed record
+-- an accepted order leaves an allowed record
 pub order-keeps : (o : Order) (r : Record) → Allowed r → Accepted o r → Allowed (edited o r)
-order-keeps = K.order-keeps
+order-keeps = KeepLaws.order-keeps
 
 -- and every view that it does not name keeps its bits, whatever positions stand before it
 pub others-keep-their-bits : (o : Order) (r : Record) (i : ℕ) (s t : List ℕ) → i ≢ o .view
     → view (edited o r .head .scale .widths) s .enc (viewAt (edited o r) i) ≡ view (r .head .scale .widths) t .enc (viewAt r i)
-others-keep-their-bits = K.edited-bits
+others-keep-their-bits = KeepLaws.edited-bits
 
 -- an edited view's width holds every count and difference (it is allowed), and no smaller one does
 pub least-width : (ls : List (List ℕ)) (u : ℕ) → 1 ≤ u → Along up (FitsList u) 0 ls → leastWidth ls ≤ u
-least-width = L.least-least
+least-width = LeastLaws.least-least
 
 -- a refused order changes nothing
 pub refused-stays : (c : Call) (bytes : List ℕ) → numberOf (outcome c bytes) ≢ 0 → nowHolds bytes (outcome c bytes) ≡ bytes
-refused-stays = Q.refused-stays
+refused-stays = SequenceLaws.refused-stays
 
 -- THE SEQUENCE: from any accepted record, any orders, each result fed to the next: the bytes that hold at the end are those of an
 -- allowed record with the header and as many views, and each view is what the accepted orders on it say, through all renumbering.
 -- In bytes: all stays but for the record length and, in a view with an accepted order, the skeleton and index blocks with their
 -- lengths
-pub orders-follow : (cs : List Call) (bytes : List ℕ) (r : Record) → All Byte bytes → read bytes ≡ C.got r [] → Kept cs r bytes (run cs bytes)
-orders-follow = Q.orders-follow
+pub orders-follow : (cs : List Call) (bytes : List ℕ) (r : Record) → All Byte bytes → read bytes ≡ Codec.got r [] → Kept cs r bytes (run cs bytes)
+orders-follow = SequenceLaws.orders-follow
 
 -- the calls themselves, whose contracts are `Answers (order o record)` (ordering/src) and `holds` (order_holds/src): made one behind the other,
 -- each lent the record that then holds, they come to the record of the sequence
 pub calls-run : (cs : List Call) (bytes last : List ℕ) → MadeAll cs bytes last → last ≡ run cs bytes
-calls-run = N.calls-run
+calls-run = CallLaws.calls-run
 
-pub calls-follow : (cs : List Call) (bytes last : List ℕ) (r : Record) → All Byte bytes → read bytes ≡ C.got r [] → MadeAll cs bytes last
+pub calls-follow : (cs : List Call) (bytes last : List ℕ) (r : Record) → All Byte bytes → read bytes ≡ Codec.got r [] → MadeAll cs bytes last
     → Kept cs r bytes last
-calls-follow = N.calls-follow
+calls-follow = CallLaws.calls-follow
 
 -- NEVER TWICE: after any orders a removal is accepted; after any further ones it comes again, whatever room is lent: 14
-pub removal-again : (before : List Call) (c : Call) (after : List Call) (rs bytes : List ℕ) (r : Record) → All Byte bytes → read bytes ≡ C.got r []
+pub removal-again : (before : List Call) (c : Call) (after : List Call) (rs bytes : List ℕ) (r : Record) → All Byte bytes → read bytes ≡ Codec.got r []
     → c .order .act ≡ remove rs → numberOf (outcome c (run before bytes)) ≡ 0
     → (n : ℕ) → outcome (record { order = c .order; lent = n }) (run (before ++ c ∷ after) bytes) ≡ refused otherCount 0
-removal-again = Q.removal-again
+removal-again = SequenceLaws.removal-again
 
 -- THE REPEATED HOUR: a call for a removal answers 0; the same removal is called for again, on the record that then holds. It is
 -- refused with 14, the second buffer is as it was, and the same record holds. A function that makes these calls (src/remove_twice)
@@ -216,12 +162,12 @@ pub repeated-hour : (o : Order) {rs : List ℕ} → o .act ≡ remove rs → (by
     → {before₂ after₂ : List ℕ} {b : Answer} → Answers (order o (holds bytes after (a .number) (a .length))) before₂ after₂ b
     → (b ≡ record { number = otherCount; place = 0; length = 0 }) × (after₂ ≡ before₂)
     × (holds (holds bytes after (a .number) (a .length)) after₂ (b .number) (b .length) ≡ holds bytes after (a .number) (a .length))
-repeated-hour = N.repeated
+repeated-hour = CallLaws.repeated
 
 -- the record that now holds, found from the answer and the second buffer, is the one that the sequence goes on with
 pub holds-now : (c : Call) (bytes second : List ℕ)
     → holds bytes (laid second (outcome c bytes)) (numberOf (outcome c bytes)) (lengthOf (outcome c bytes)) ≡ nowHolds bytes (outcome c bytes)
-holds-now = H.holds-now
+holds-now = HoldsLaws.holds-now
 
 -- for a host that takes numbers alone: whatever `which_holds` answers, whose contract is the equation with `held`
 -- (order_holds/specs/Held), second is 1 and the record that holds is the second buffer's first bytes, `length` of them; or second is 0
@@ -229,33 +175,33 @@ holds-now = H.holds-now
 pub held-holds : (old second : List ℕ) (number n : ℕ) (h : Held) → h ≡ held old second number n
     → ((h .second ≡ 1) × (h .length ≤ length second) × (holds old second number n ≡ take (h .length) second))
     ⊎ ((h .second ≡ 0) × (h .length ≡ length old) × (holds old second number n ≡ old))
-held-holds = W.held-holds
+held-holds = HeldLaws.held-holds
 
 -- ---- UNIQUENESS: two answers that a statement allows are equal, and so are the buffers they leave
 
 -- the calls that write: read, write, trail as numbers and as bytes, remove, join, part
 pub one-answer : {A B : Type 0} {form : List A → List B} {lent : ℕ} {o : Outcome A} {before after₁ after₂ : List B} {a₁ a₂ : Answer}
     → AnswersAs form lent o before after₁ a₁ → AnswersAs form lent o before after₂ a₂ → (a₁ ≡ a₂) × (after₁ ≡ after₂)
-one-answer = O.one-answer
+one-answer = OutcomeLaws.one-answer
 
 -- the calls whose statement is an equation: a segment's answer
 pub one-segment : (view place : ℕ) (bytes : List ℕ) {a b : Answer} → a ≡ segmentAnswer view place bytes → b ≡ segmentAnswer view place bytes → a ≡ b
-one-segment view place bytes = O.one-value
+one-segment view place bytes = OutcomeLaws.one-value
 
 -- a segment's payload, a part handed back: its bytes are determined
 pub one-payload : (view place : ℕ) (bytes : List ℕ) {x y : List ℕ} → x ≡ payloadOf (payload view place bytes) → y ≡ payloadOf (payload view place bytes)
     → x ≡ y
-one-payload view place bytes = O.one-value
+one-payload view place bytes = OutcomeLaws.one-value
 
 -- the record that now holds, a part handed back: its bytes are determined
 pub one-record : (old second : List ℕ) (number n : ℕ) {x y : List ℕ} → x ≡ holds old second number n → y ≡ holds old second number n → x ≡ y
-one-record old second number n = O.one-value
+one-record old second number n = OutcomeLaws.one-value
 
 -- the same in numbers
 pub one-held : (old second : List ℕ) (number n : ℕ) {a b : Held} → a ≡ held old second number n → b ≡ held old second number n → a ≡ b
-one-held old second number n = O.one-value
+one-held old second number n = OutcomeLaws.one-value
 
 -- ---- P1 TO P11
 
 pub samples : map computed table ≡ map expected table
-samples = P.samples
+samples = ComputedSamples.samples

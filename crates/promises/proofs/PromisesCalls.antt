@@ -1,0 +1,100 @@
+-- WHAT THE LIBRARY PROMISES OF EACH CALL: the numbers that it gives, and when it gives 0. An answer is any that the call's contract
+-- allows, which the statement names (`Answers (reading bytes)`, ..). Promises is the front page. The names in statements stand in specs/:
+--   outcome/specs/Numbers      Gives; readNumbers, writeNumbers, trailNumbers, segmentNumbers, removalNumbers, pairNumbers
+--   outcome/specs/Outcome      numberOf, AnswersAs, Answers
+--   sheet/specs/Sheet          reading, writing
+--   sheet/specs/Accepted       AcceptedReading, AcceptedWriting
+--   trail/specs/Trail          trailing
+--   segment/specs/Segment      segmentAnswer
+--   orders/specs/Act, Order    remove, join, part; Order, order
+--   orders/specs/History       Call, outcome
+--   orders/specs/Accept        AcceptedCall
+--   bits/specs/Lists, Bytes    All; Byte
+-- `Answer` is the struct of outcome/src.
+use mathlib.Core.Path.{_≡_}
+use Prim.Native.Nat.{ℕ}
+use mathlib.Core.List.{List}
+use lib.ListN.{length}
+use Rattle.bits.specs.Lists.{All}
+use Rattle.bits.specs.Bytes.{Byte}
+use Rattle.outcome.specs.Numbers.{Gives, readNumbers, writeNumbers, trailNumbers, segmentNumbers, removalNumbers, pairNumbers}
+use Rattle.outcome.specs.Outcome.{numberOf, AnswersAs, Answers}
+use Rattle.outcome.specs.declared.Answer.{Answer}
+use Rattle.sheet.specs.Sheet.{reading, writing}
+use Rattle.sheet.specs.Accepted.{AcceptedReading, AcceptedWriting}
+use Rattle.sheet.proofs.Laws.Numbers as SheetNumbers
+use Rattle.trail.specs.Trail.{trailing}
+use Rattle.trail.proofs.Numbers as TrailNumbers
+use Rattle.segment.specs.Segment.{segmentAnswer}
+use Rattle.segment.proofs.Numbers as SegmentNumbers
+use Rattle.orders.specs.Act.{remove, join, part}
+use Rattle.orders.specs.Order.{Order, order}
+use Rattle.orders.specs.History.{Call, outcome}
+use Rattle.orders.specs.Accept.{AcceptedCall}
+use Rattle.orders.proofs.Laws.Numbers as OrderNumbers
+use Rattle.orders.proofs.Laws.AcceptCall as AcceptCall
+
+-- ---- "No number is given otherwise": of each call, the numbers that its contract allows besides 0
+
+pub read-numbers : {before after : List ℕ} {a : Answer} (bytes : List ℕ) → Answers (reading bytes) before after a → Gives readNumbers (a .number)
+read-numbers = SheetNumbers.reading-numbers
+
+pub write-numbers : {before after : List ℕ} {a : Answer} (sheet : List ℕ) → Answers (writing sheet) before after a → Gives writeNumbers (a .number)
+write-numbers = SheetNumbers.writing-numbers
+
+-- as 16-bit numbers or as bytes
+pub trail-numbers : {B : Type 0} {form : List ℕ → List B} {lent : ℕ} {before after : List B} {a : Answer} (view line : ℕ) (bytes : List ℕ)
+    → AnswersAs form lent (trailing view line bytes) before after a → Gives trailNumbers (a .number)
+trail-numbers = TrailNumbers.trailing-numbers
+
+pub segment-numbers : {a : Answer} (view place : ℕ) (bytes : List ℕ) → a ≡ segmentAnswer view place bytes → Gives segmentNumbers (a .number)
+segment-numbers = SegmentNumbers.segment-numbers
+
+pub removal-numbers : (o : Order) (bytes : List ℕ) {before after : List ℕ} {a : Answer} → Answers (order o bytes) before after a
+    → {rs : List ℕ} → o .act ≡ remove rs → Gives removalNumbers (a .number)
+removal-numbers = OrderNumbers.removal-numbers
+
+pub join-numbers : (o : Order) (bytes : List ℕ) {before after : List ℕ} {a : Answer} → Answers (order o bytes) before after a
+    → {p q : ℕ} → o .act ≡ join p q → Gives pairNumbers (a .number)
+join-numbers = OrderNumbers.join-numbers
+
+pub part-numbers : (o : Order) (bytes : List ℕ) {before after : List ℕ} {a : Answer} → Answers (order o bytes) before after a
+    → {p q : ℕ} → o .act ≡ part p q → Gives pairNumbers (a .number)
+part-numbers = OrderNumbers.part-numbers
+
+-- ---- reading and writing: the number is 0 exactly where the bytes, or the sheet, are an allowed record's and there is room
+
+pub read-accepted : {before after : List ℕ} {a : Answer} (bytes : List ℕ) → All Byte bytes → Answers (reading bytes) before after a
+    → a .number ≡ 0 → AcceptedReading bytes (length before)
+read-accepted = SheetNumbers.reading-accepted
+
+pub accepted-read : {before after : List ℕ} {a : Answer} (bytes : List ℕ) → Answers (reading bytes) before after a
+    → AcceptedReading bytes (length before) → a .number ≡ 0
+accepted-read = SheetNumbers.accepted-reading
+
+pub write-accepted : {before after : List ℕ} {a : Answer} (sheet : List ℕ) → All Byte sheet → Answers (writing sheet) before after a
+    → a .number ≡ 0 → AcceptedWriting sheet (length before)
+write-accepted = SheetNumbers.writing-accepted
+
+pub accepted-write : {before after : List ℕ} {a : Answer} (sheet : List ℕ) → Answers (writing sheet) before after a
+    → AcceptedWriting sheet (length before) → a .number ≡ 0
+accepted-write = SheetNumbers.accepted-writing
+
+-- ---- orders
+
+-- an order's number is 0 exactly where the bytes read as a record, its view is there and has the count, its own tests pass, the new
+-- record is at most 32,768 bytes, and it fits the second buffer: of its outcome in a sequence
+pub order-accepted : (c : Call) (bytes : List ℕ) → numberOf (outcome c bytes) ≡ 0 → AcceptedCall c bytes
+order-accepted = AcceptCall.outcome-accepted
+
+pub accepted-order : (c : Call) (bytes : List ℕ) → AcceptedCall c bytes → numberOf (outcome c bytes) ≡ 0
+accepted-order = AcceptCall.accepted-outcome
+
+-- and of any answer by the contract of its call
+pub call-accepted : (o : Order) (bytes : List ℕ) {before after : List ℕ} {a : Answer} → Answers (order o bytes) before after a
+    → a .number ≡ 0 → AcceptedCall (record { order = o; lent = length before }) bytes
+call-accepted = AcceptCall.call-accepted
+
+pub accepted-call : (o : Order) (bytes : List ℕ) {before after : List ℕ} {a : Answer} → Answers (order o bytes) before after a
+    → AcceptedCall (record { order = o; lent = length before }) bytes → a .number ≡ 0
+accepted-call = AcceptCall.accepted-call
