@@ -1,4 +1,4 @@
--- Made by tools/proof fill from answers/near.are_near.ans: change it there.
+-- Made by tools/proof fill from answers/are_near.ans: change it there.
 -- The width, the higher line's list, and the lower line in it.
 use native.Mathlib.Omega.{arith}
 use mathlib.Core.Path.{_≡_, subst}

@@ -1,4 +1,4 @@
--- Made by tools/proof fill from answers/near.list_has.ans: change it there.
+-- Made by tools/proof fill from answers/list_has.ans: change it there.
 -- Line by line. The invariant: the line is in the list if it is in what is still to come.
 use native.Mathlib.Omega.{arith}
 use mathlib.Core.Path.{_≡_}

@@ -1,4 +1,4 @@
--- Made by tools/proof fill from answers/near.list_of.ans: change it there.
+-- Made by tools/proof fill from answers/list_of.ans: change it there.
 -- List by list, up to the line's own.
 use native.Mathlib.Omega.{arith}
 use mathlib.Core.Path.{_≡_}
