@@ -17,9 +17,9 @@ bit zero = false
 bit (suc n) = true
 
 -- the number that the bits write
-unfoldable pub numberOf : Bits → ℕ
-numberOf [] = 0
-numberOf (b ∷ bs) = val b * 2 ^ length bs + numberOf bs
+unfoldable pub numberOfBits : Bits → ℕ
+numberOfBits [] = 0
+numberOfBits (b ∷ bs) = val b * 2 ^ length bs + numberOfBits bs
 
 -- the lowest w bits of n
 unfoldable pub bitsOfNumber : ℕ → ℕ → Bits

@@ -8,7 +8,7 @@ use mathlib.Core.Bool.{Bool, true, false}
 use mathlib.Core.List.{[], _∷_, _++_}
 use lib.ListN.{length, length-append, length-replicate}
 use lib.Pow.{high, low, field, mod-mod-pow, mod-pow-add, shr-shr}
-use Rattle.bits.specs.Bits.{Bits, val, bit, numberOf, bitsOfNumber, pad, filled}
+use Rattle.bits.specs.Bits.{Bits, val, bit, numberOfBits, bitsOfNumber, pad, filled}
 
 pub length-bits : (w n : ℕ) → length (bitsOfNumber w n) ≡ w
 unfolding bitsOfNumber
@@ -20,8 +20,8 @@ val-bit zero h = refl
 val-bit (suc zero) h = refl
 val-bit (suc (suc n)) h = omega arith
 
-pub number-lt : (bs : Bits) → numberOf bs < 2 ^ length bs
-unfolding numberOf
+pub number-lt : (bs : Bits) → numberOfBits bs < 2 ^ length bs
+unfolding numberOfBits
 number-lt [] = omega arith
 number-lt (true ∷ bs) = omega (arith, number-lt bs, pow-suc 2 (length bs))
 number-lt (false ∷ bs) = omega (arith, number-lt bs, pow-suc 2 (length bs))
@@ -36,12 +36,12 @@ bits-mod (suc n) x y e =
     let t : x % 2 ^ n ≡ y % 2 ^ n = sym (mod-mod-pow x 1 n) ∙ ap (λ (v : ℕ). v % 2 ^ n) e1 ∙ mod-mod-pow y 1 n in
     ap₂ (λ (a : ℕ) (l : Bits). bit a ∷ l) h (bits-mod n x y t)
 
-pub number-mod : (w n : ℕ) → numberOf (bitsOfNumber w n) ≡ n % 2 ^ w
-unfolding numberOf bitsOfNumber
+pub number-mod : (w n : ℕ) → numberOfBits (bitsOfNumber w n) ≡ n % 2 ^ w
+unfolding numberOfBits bitsOfNumber
 number-mod zero n = sym (mod-one n)
 number-mod (suc w) n = simp (length-bits w n, number-mod w n, val-bit (n / 2 ^ w % 2) (omega arith), sym (one-add w)) (sym (mod-pow-add n 1 w))
 
-pub number-bits : (w n : ℕ) → n < 2 ^ w → numberOf (bitsOfNumber w n) ≡ n
+pub number-bits : (w n : ℕ) → n < 2 ^ w → numberOfBits (bitsOfNumber w n) ≡ n
 number-bits w n h = number-mod w n ∙ mod-eq-of-lt h
 
 -- a number's lowest a + b bits: a of them, then the lowest b
@@ -54,13 +54,13 @@ bits-split (suc a) b n =
     ap (λ (w : ℕ). bitsOfNumber w n) e
     ∙ ap₂ (λ (x : ℕ) (y : Bits). bit (x % 2) ∷ y) (ap (λ (w : ℕ). n / 2 ^ w) z ∙ sym (shr-shr n b a)) (bits-split a b n)
 
-pub bits-number : (bs : Bits) → bitsOfNumber (length bs) (numberOf bs) ≡ bs
-unfolding numberOf bitsOfNumber
+pub bits-number : (bs : Bits) → bitsOfNumber (length bs) (numberOfBits bs) ≡ bs
+unfolding numberOfBits bitsOfNumber
 bits-number [] = refl
 bits-number (b ∷ bs) =
-    let l : numberOf bs < 2 ^ length bs = number-lt bs in
+    let l : numberOfBits bs < 2 ^ length bs = number-lt bs in
     ap₂ (λ (x : ℕ) (r : Bits). bit (x % 2) ∷ r) (high (val b) (length bs) l)
-    (bits-mod (length bs) (val b * 2 ^ length bs + numberOf bs) (numberOf bs) (low (val b) (length bs) l ∙ sym (mod-eq-of-lt l)) ∙ bits-number bs)
+    (bits-mod (length bs) (val b * 2 ^ length bs + numberOfBits bs) (numberOfBits bs) (low (val b) (length bs) l ∙ sym (mod-eq-of-lt l)) ∙ bits-number bs)
     ∙ ap (λ (x : Bool). x ∷ bs) (back b)
   where
     back : (b : Bool) → bit (val b % 2) ≡ b

@@ -6,7 +6,7 @@ use mathlib.Core.List.{List, [], _∷_, _++_, append-assoc, append-nil}
 use lib.ListN.{length, take, drop, length-append, length-drop, take-append-drop}
 use lib.Seq.{take-at, drop-at, length-take-le}
 use Rattle.bits.specs.Lists.{All}
-use Rattle.bits.specs.Bits.{Bits, numberOf, bitsOfNumber}
+use Rattle.bits.specs.Bits.{Bits, numberOfBits, bitsOfNumber}
 use Rattle.bits.specs.BitsLaws.{length-bits, number-bits, bits-number, number-lt}
 use Rattle.bits.specs.Bytes.{Byte, bitsOf, bytesOf, inBytes}
 
@@ -40,7 +40,7 @@ bytes-front [] r h = refl
 bytes-front (x ∷ xs) r h =
     rw append-assoc
     (ap₂ (λ (a : ℕ) (y : List ℕ). a ∷ y)
-    (ap numberOf (take-at (bitsOfNumber 8 x) (bitsOf xs ++ r) 8 (length-bits 8 x)) ∙ number-bits 8 x (h .0))
+    (ap numberOfBits (take-at (bitsOfNumber 8 x) (bitsOf xs ++ r) 8 (length-bits 8 x)) ∙ number-bits 8 x (h .0))
     (ap (bytesOf (length xs)) (drop-at (bitsOfNumber 8 x) (bitsOf xs ++ r) 8 (length-bits 8 x)) ∙ bytes-front xs r (h .1)))
 
 pub bytes-bits : (xs : List ℕ) → All Byte xs → bytesOf (length xs) (bitsOf xs) ≡ xs

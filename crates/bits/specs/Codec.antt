@@ -9,7 +9,7 @@ use mathlib.Core.List.{List, [], _∷_, _++_}
 use lib.ListN.{length, take, drop}
 use lib.Dec.{leb}
 use Rattle.bits.specs.Choice.{pick}
-use Rattle.bits.specs.Bits.{Bits, numberOf}
+use Rattle.bits.specs.Bits.{Bits, numberOfBits}
 
 -- What reading gives: a value and what is left; or a refusal: its number, and how much was left at the first bit of what fails.
 -- The place of a refusal is then the whole length minus that.
@@ -32,7 +32,7 @@ pub record Codec (S A : Type 0) : Type 1 where
 
 -- a number of w bits; e is the refusal where fewer are left
 abbrev pub fieldDec : ℕ → ℕ → Bits → Read Bool ℕ
-fieldDec e w s = pick (leb w (length s)) (got (numberOf (take w s)) (drop w s)) (refused e (length s))
+fieldDec e w s = pick (leb w (length s)) (got (numberOfBits (take w s)) (drop w s)) (refused e (length s))
 
 -- one codec, then another that may look at the first's value
 module _ {S A B : Type 0} (c : Codec S A) (d : A → Codec S B) where

@@ -12,7 +12,7 @@ use lib.Seq.{take-at, drop-at, length-take-le}
 use Rattle.bits.specs.Choice.{pick, within}
 use Rattle.bits.specs.ChoiceLaws.{pick-yes}
 use Rattle.bits.specs.Lists.{All, Along}
-use Rattle.bits.specs.Bits.{Bits, numberOf, bitsOfNumber}
+use Rattle.bits.specs.Bits.{Bits, numberOfBits, bitsOfNumber}
 use Rattle.bits.specs.BitsLaws.{length-bits, number-bits, bits-number, number-lt}
 use Rattle.bits.specs.Codec.{Read, got, refused, next, Codec, fieldDec, thenDec, timesDec, alongDec, viaDec, onlyDec}
 
@@ -41,7 +41,7 @@ module _ (e w : ℕ) where
   field-there n r h =
       let l : length (bitsOfNumber w n) ≡ w = length-bits w n in
       pick-yes (leb w (length (bitsOfNumber w n ++ r))) _ _ (le→leb w _ (simp (length-append, l) (omega arith)))
-      ∙ ap₂ got (ap numberOf (take-at (bitsOfNumber w n) r w l) ∙ number-bits w n h) (drop-at (bitsOfNumber w n) r w l)
+      ∙ ap₂ got (ap numberOfBits (take-at (bitsOfNumber w n) r w l) ∙ number-bits w n h) (drop-at (bitsOfNumber w n) r w l)
 
   pub field-back : (s : Bits) (n : ℕ) (r : Bits) → fieldDec e w s ≡ got n r → (n < 2 ^ w) × (s ≡ bitsOfNumber w n ++ r)
   field-back s n r p =

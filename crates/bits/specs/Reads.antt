@@ -23,14 +23,14 @@ abbrev pub placed : {A : Type 0} → List ℕ → Found A → Read Bool A
 placed s (found a p) = got a (drop p (bitsOf s))
 placed s (fault e p) = refused e (8 * length s - p)
 
-abbrev pub placeOf : {A : Type 0} → Found A → ℕ
-placeOf (found a p) = p
-placeOf (fault e p) = p
+abbrev pub placeFound : {A : Type 0} → Found A → ℕ
+placeFound (found a p) = p
+placeFound (fault e p) = p
 
 -- reading with d from place p of the block s finds r
 pub record Reads {A : Type 0} (d : Bits → Read Bool A) (s : List ℕ) (p : ℕ) (r : Found A) : Type 0 where
   pub is : d (drop p (bitsOf s)) ≡ placed s r
-  pub within : placeOf r ≤ 8 * length s
+  pub within : placeFound r ≤ 8 * length s
 
 -- what a field read finds; e is the refusal where it passes the end
 abbrev pub taken : ℕ → Taken → Found ℕ
@@ -44,18 +44,18 @@ rangedAt n p rg.Outside = fault n p
 
 -- ---- what is kept of a value
 
-abbrev pub kept : {S A B : Type 0} → (A → B) → Read S A → Read S B
-kept f (got a r) = got (f a) r
-kept f (refused e l) = refused e l
+abbrev pub keeping : {S A B : Type 0} → (A → B) → Read S A → Read S B
+keeping f (got a r) = got (f a) r
+keeping f (refused e l) = refused e l
 
 -- nothing is
-abbrev pub after : {S A : Type 0} → Read S A → Read S (Unit {0})
-after o = kept (λ a. tt) o
+abbrev pub passing : {S A : Type 0} → Read S A → Read S (Unit {0})
+passing o = keeping (λ a. tt) o
 
 -- of values, a sum; z is the sum of those before
 abbrev pub summed : {S A : Type 0} → (A → ℕ) → ℕ → Read S (List A) → Read S ℕ
-summed f z o = kept (λ xs. z + total f xs) o
+summed f z o = keeping (λ xs. z + total f xs) o
 
 -- of values, how many and a sum; n and z are those of the values before
 abbrev pub tallied : {S A : Type 0} → (A → ℕ) → ℕ → ℕ → Read S (List A) → Read S (ℕ × ℕ)
-tallied f n z o = kept (λ xs. (n + length xs, z + total f xs)) o
+tallied f n z o = keeping (λ xs. (n + length xs, z + total f xs)) o

@@ -14,11 +14,11 @@ pub enum RangedAt {
 }
 
 // The byte at the cursor, which may be low to high.
-pub fn ranged_at(p: Cursor, s: &[u8], low: usize, high: usize) -> RangedAt
-    requires { ⌜ (length (now s) ≤ 65535) × (p .at ≤ 8 * length (now s)) ⌝ }
-    ensures { λ r. ⌜ ((e : ℕ) → Reads (ranged e 8 low high .dec) (now (s .entry)) (p .at) (rangedAt e (p .at) r)) ⌝ }
+pub fn ranged_at(p: Cursor, bytes: &[u8], low: usize, high: usize) -> RangedAt
+    requires { ⌜ (length (now bytes) ≤ 65535) × (p .at ≤ 8 * length (now bytes)) ⌝ }
+    ensures { λ r. ⌜ ((e : ℕ) → Reads (ranged e 8 low high .dec) (now (bytes .entry)) (p .at) (rangedAt e (p .at) r)) ⌝ }
 {
-    let Taken::Bits(x, next) = p.field(s, 8) else {
+    let Taken::Bits(x, next) = p.field(bytes, 8) else {
         return RangedAt::Outside;
     };
     if x < low {

@@ -8,20 +8,20 @@ use check_value::list::WidthWorth;
 use check_value::list::width_value;
 
 // The 04 at byte p and its 05s, if there is one. The answer is the byte behind them, and the bytes of the index block.
-pub fn index_values(s: &[u8], p: usize) -> Counted
-    requires { ⌜ Some (IndexThere (now s) p) ⌝ }
-    ensures { λ r. ⌜ IndexIs (now (s .entry)) p r ⌝ }
+pub fn index_values(sheet: &[u8], p: usize) -> Counted
+    requires { ⌜ Some (IndexThere (now sheet) p) ⌝ }
+    ensures { λ r. ⌜ IndexIs (now (sheet .entry)) p r ⌝ }
 {
-    if !starts(s, p, 4) {
+    if !starts(sheet, p, 4) {
         return Counted::Right { next: p, size: 0 };
     }
     let from = p + 3;
     let end = p + 4;
-    let value = &s[from..end];
+    let value = &sheet[from..end];
     let WidthWorth::Right(w) = width_value(value) else {
         return Counted::Wrong;
     };
-    let Counted::Right { next, size: bits } = list_values(s, end, w) else {
+    let Counted::Right { next, size: bits } = list_values(sheet, end, w) else {
         return Counted::Wrong;
     };
     Counted::Right {

@@ -22,14 +22,14 @@ pub struct Extended {
 }
 
 // The 06s from byte p on. A segment's value is right whatever it is; its length of two bytes is added in the record.
-pub fn segment_sizes(s: &[u8], p: usize) -> Extended
-    requires { ⌜ Some (Segments (now s) p) ⌝ }
-    ensures { λ r. ⌜ SegmentsAre (now (s .entry)) p r ⌝ }
+pub fn segment_sizes(sheet: &[u8], p: usize) -> Extended
+    requires { ⌜ Some (Segments (now sheet) p) ⌝ }
+    ensures { λ r. ⌜ SegmentsAre (now (sheet .entry)) p r ⌝ }
 {
     let mut end = p;
     let mut bytes: usize = 0;
-    while starts(s, end, 6) {
-        let size = two_at(s, end + 1);
+    while starts(sheet, end, 6) {
+        let size = two_at(sheet, end + 1);
         bytes += size + 2;
         end = end + 3 + size;
     }
@@ -37,18 +37,18 @@ pub fn segment_sizes(s: &[u8], p: usize) -> Extended
 }
 
 // The 03s from byte p on, at the widths of the header.
-pub fn line_values(s: &[u8], p: usize, w: Widths) -> Counted
-    requires { ⌜ Some (Lines (now s) p) × Narrow w ⌝ }
-    ensures { λ r. ⌜ LinesAre w (now (s .entry)) p r ⌝ }
+pub fn line_values(sheet: &[u8], p: usize, w: Widths) -> Counted
+    requires { ⌜ Some (Lines (now sheet) p) × Narrow w ⌝ }
+    ensures { λ r. ⌜ LinesAre w (now (sheet .entry)) p r ⌝ }
 {
     let ends = 2 * (2 + w.b + 2 * w.c);
     let mut next = p;
     let mut bits: usize = 0;
-    while starts(s, next, 3) {
-        let size = two_at(s, next + 1);
+    while starts(sheet, next, 3) {
+        let size = two_at(sheet, next + 1);
         let from = next + 3;
         let end = from + size;
-        let value = &s[from..end];
+        let value = &sheet[from..end];
         if !line_value(value, w) {
             return Counted::Wrong;
         }
@@ -59,18 +59,18 @@ pub fn line_values(s: &[u8], p: usize, w: Widths) -> Counted
 }
 
 // The 05s from byte p on, at the width w of their index; l is the line whose list comes next.
-pub fn list_values(s: &[u8], p: usize, w: usize) -> Counted
-    requires { ⌜ Some (Lists (now s) p) × (w ≤ 16) ⌝ }
-    ensures { λ r. ⌜ ListsAre w (now (s .entry)) p r ⌝ }
+pub fn list_values(sheet: &[u8], p: usize, w: usize) -> Counted
+    requires { ⌜ Some (Lists (now sheet) p) × (w ≤ 16) ⌝ }
+    ensures { λ r. ⌜ ListsAre w (now (sheet .entry)) p r ⌝ }
 {
     let mut next = p;
     let mut bits: usize = 0;
     let mut l: usize = 0;
-    while starts(s, next, 5) {
-        let size = two_at(s, next + 1);
+    while starts(sheet, next, 5) {
+        let size = two_at(sheet, next + 1);
         let from = next + 3;
         let end = from + size;
-        let value = &s[from..end];
+        let value = &sheet[from..end];
         if !list_value(value, w, l) {
             return Counted::Wrong;
         }

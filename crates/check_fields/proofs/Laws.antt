@@ -15,10 +15,10 @@ use Rattle.bits.specs.Bytes.{Byte, bitsOf}
 use Rattle.bits.specs.BytesLaws.{bits-append, length-bitsOf}
 use Rattle.bits.specs.Codec.{Read, got, refused}
 use Rattle.bits.specs.Block.{fillDec}
-use Rattle.bits.specs.Reads.{kept}
+use Rattle.bits.specs.Reads.{keeping}
 use Rattle.bits.proofs.Laws.Refuses.{Refusal, by, AtMost, Refuses, refusing}
 use Rattle.bits.proofs.Laws.Parts.{bits-drop, part, part-length, part-bytes, some-left, drop-end}
-use Rattle.bits.proofs.Laws.Loops.{kept-same, kept-none, fill-turn, fill-stop, fill-done}
+use Rattle.bits.proofs.Laws.Loops.{keeping-same, keeping-none, fill-turn, fill-stop, fill-done}
 use Rattle.outcome.specs.Refusals.{badSheet}
 use Rattle.put_bytes.specs.HighFirst.{joined}
 use Rattle.put_bytes.proofs.Laws.{joined-snoc}
@@ -130,7 +130,7 @@ pub record Going (s : List ℕ) (p : ℕ) : Type 0 where
   pub enough : length s - p ≤ fuel
   pub before : take p s ≡ joined fieldBytes done
   pub fits : All FitsField done
-  pub reads : kept (λ xs. done ++ xs) (fillDec tagged badSheet fuel (drop (8 * p) (bitsOf s))) ≡ fields .dec (bitsOf s)
+  pub reads : keeping (λ xs. done ++ xs) (fillDec tagged badSheet fuel (drop (8 * p) (bitsOf s))) ≡ fields .dec (bitsOf s)
   pub within : p ≤ length s
 
 pub going-first : (s : List ℕ) → Going s 0
@@ -142,7 +142,7 @@ going-first s =
       enough = omega (arith, length-bitsOf s);
       before = refl;
       fits = tt;
-      reads = kept-none (fillDec tagged badSheet (length (bitsOf s)) (bitsOf s));
+      reads = keeping-none (fillDec tagged badSheet (length (bitsOf s)) (bitsOf s));
       within = omega arith;
     }
 
@@ -159,7 +159,7 @@ module _ {s : List ℕ} (bytes : All Byte s) {p : ℕ} (g : Going s p) (l : p < 
         enough = omega (arith, g .enough);
         before = take-add p (3 + n) s ∙ rw (g .before, here-stands s bytes p n e w, take-at (fieldBytes f) (drop (p + (3 + n)) s) (3 + n) (sym y)) (sym (joined-snoc fieldBytes (g .done) f));
         fits = all-append FitsField (g .done) (f ∷ []) (g .fits) (here-fits s bytes p n e w, tt);
-        reads = kept-same (λ xs. (g .done ++ f ∷ []) ++ xs) (λ xs. g .done ++ (f ∷ xs)) (fillDec tagged badSheet (g .fuel - (0 + 1)) (drop (8 * (p + (3 + n))) (bitsOf s))) (λ xs. append-snoc (g .done) f xs) ∙ sym t ∙ ap (λ (k : ℕ). kept (λ xs. g .done ++ xs) (fillDec tagged badSheet k (drop (8 * p) (bitsOf s)))) z ∙ g .reads;
+        reads = keeping-same (λ xs. (g .done ++ f ∷ []) ++ xs) (λ xs. g .done ++ (f ∷ xs)) (fillDec tagged badSheet (g .fuel - (0 + 1)) (drop (8 * (p + (3 + n))) (bitsOf s))) (λ xs. append-snoc (g .done) f xs) ∙ sym t ∙ ap (λ (k : ℕ). keeping (λ xs. g .done ++ xs) (fillDec tagged badSheet k (drop (8 * p) (bitsOf s)))) z ∙ g .reads;
         within = omega arith;
       }
 
@@ -168,14 +168,14 @@ module _ {s : List ℕ} (bytes : All Byte s) {p : ℕ} (g : Going s p) (l : p < 
       let z : g .fuel - 0 ≡ g .fuel = omega arith in
       let t : fillDec tagged badSheet (g .fuel) (drop (8 * p) (bitsOf s)) ≡ refused badSheet m =
       ap (λ (k : ℕ). fillDec tagged badSheet k (drop (8 * p) (bitsOf s))) (sym z) ∙ fill-stop tagged badSheet (g .fuel) 0 (drop (8 * p) (bitsOf s)) (omega (arith, g .enough)) (some-left s (8 * p) (omega arith)) e in
-      record { left = m; refuses = sym (g .reads) ∙ ap (kept (λ xs. g .done ++ xs)) t }
+      record { left = m; refuses = sym (g .reads) ∙ ap (keeping (λ xs. g .done ++ xs)) t }
 
 pub going-all : {s : List ℕ} {p : ℕ} → Going s p → length s ≤ p → Fields s
 going-all {s} {p} g l =
     let t = fill-done tagged badSheet (g .fuel) (drop (8 * p) (bitsOf s)) (drop-end s (8 * p) (omega arith)) in
     record {
       value = g .done;
-      reads = sym (g .reads) ∙ ap (kept (λ xs. g .done ++ xs)) t ∙ ap (λ (xs : List Field). got xs []) (append-nil (g .done));
+      reads = sym (g .reads) ∙ ap (keeping (λ xs. g .done ++ xs)) t ∙ ap (λ (xs : List Field). got xs []) (append-nil (g .done));
       stand = record { is = sym (take-all p s l) ∙ g .before; fits = g .fits; within = omega arith };
     }
 

@@ -2,17 +2,17 @@
 ghost use Rattle.check_fields.specs.Fields.{Whole};
 use bits::two_at;
 
-// Whether the sheet s is made of whole fields: none is cut.
-pub fn whole(s: &[u8]) -> bool
-    ensures { λ r. ⌜ Whole (now (s .entry)) r ⌝ }
+// Whether the sheet is made of whole fields: none is cut.
+pub fn whole(sheet: &[u8]) -> bool
+    ensures { λ r. ⌜ Whole (now (sheet .entry)) r ⌝ }
 {
     let mut p: usize = 0;
-    while p < s.len() {
-        if s.len() - p < 3 {
+    while p < sheet.len() {
+        if sheet.len() - p < 3 {
             return false;
         }
-        let size = two_at(s, p + 1);
-        if s.len() - p - 3 < size {
+        let size = two_at(sheet, p + 1);
+        if sheet.len() - p - 3 < size {
             return false;
         }
         p += 3 + size;

@@ -15,8 +15,8 @@ use Rattle.bits.specs.BytesLaws.{length-bitsOf, length-in}
 use Rattle.bits.specs.Codec.{Read, got, fieldDec, thenDec}
 use Rattle.bits.specs.CodecLaws.{field}
 use Rattle.bits.specs.Block.{fillDec, aheadDec, recastDec}
-use Rattle.bits.specs.Reads.{Reads, found, fault, after}
-use Rattle.bits.proofs.Laws.Reads.{length-rest, go-on, stop, made, pass, fail, gives, refuses, kept-got, kept-refused}
+use Rattle.bits.specs.Reads.{Reads, found, fault, passing}
+use Rattle.bits.proofs.Laws.Reads.{length-rest, go-on, stop, made, pass, fail, gives, refuses, keeping-got, keeping-refused}
 use Rattle.bits.proofs.Laws.Loops.{fill-turn, fill-stop, fill-done}
 use Rattle.bits.proofs.Laws.Parts.{some-left, drop-end}
 use Rattle.outcome.specs.Refusals.{badValue}
@@ -99,7 +99,7 @@ module _ (k x all top : ℕ) (a : all ≡ 2 ^ k) (t : top ≡ 2 ^ (k - 1)) where
 pub record CodesFrom (k : ℕ) (s : List ℕ) (i : ℕ) : Type 0 where
   pub from : 12 ≤ i
   pub within : i ≤ length s
-  pub reads : after (fillDec (codeValue k) badValue (8 * length s - 96 - (i - 12)) (drop (8 * i) (bitsOf s))) ≡ after (codesDec k (drop 96 (bitsOf s)))
+  pub reads : passing (fillDec (codeValue k) badValue (8 * length s - 96 - (i - 12)) (drop (8 * i) (bitsOf s))) ≡ passing (codesDec k (drop 96 (bitsOf s)))
 
 pub codes-first : (k : ℕ) (s : List ℕ) → 12 ≤ length s → CodesFrom k s 12
 unfolding codesDec
@@ -107,7 +107,7 @@ codes-first k s l =
     record {
       from = omega arith;
       within = l;
-      reads = ap (λ (n : ℕ). after (fillDec (codeValue k) badValue n (drop 96 (bitsOf s)))) (sub-zero (8 * length s - 96) ∙ sym (length-rest s 96));
+      reads = ap (λ (n : ℕ). passing (fillDec (codeValue k) badValue n (drop 96 (bitsOf s)))) (sub-zero (8 * length s - 96) ∙ sym (length-rest s 96));
     }
 
 module _ {k : ℕ} {s : List ℕ} {i : ℕ} (g : CodesFrom k s i) (l : i < length s) {v q : ℕ} (h : Reads (fieldDec badValue 8) s (8 * i) (found v q)) where
@@ -115,7 +115,7 @@ module _ {k : ℕ} {s : List ℕ} {i : ℕ} (g : CodesFrom k s i) (l : i < lengt
   code-bad e =
       let d : Reads (codeValue k .dec) s (8 * i) (fault badValue (8 * i)) = made _ _ (fail (field badValue 8) badValue (codeOk k) (omega arith) h (rw e tt)) in
       let z = fill-stop (codeValue k) badValue (8 * length s - 96) (i - 12) (drop (8 * i) (bitsOf s)) (omega (arith, g .from)) (some-left s (8 * i) (omega arith)) (d .is) in
-      record { place = 8 * i; reads = refuses _ badValue (8 * i) (omega arith) (kept-refused _ _ (sym (g .reads) ∙ ap after z)) }
+      record { place = 8 * i; reads = refuses _ badValue (8 * i) (omega arith) (keeping-refused _ _ (sym (g .reads) ∙ ap passing z)) }
 
   pub code-good : q ≡ 8 * i + 8 → codeOk k v ≡ true → CodesFrom k s (i + 1)
   code-good y e =
@@ -132,7 +132,7 @@ module _ {k : ℕ} {s : List ℕ} {i : ℕ} (g : CodesFrom k s i) (l : i < lengt
 pub codes-there : {k : ℕ} {s : List ℕ} {i : ℕ} → CodesFrom k s i → length s ≤ i → There (codesDec k) s 96 (8 * length s)
 codes-there {k} {s} {i} g l =
     let z = fill-done (codeValue k) badValue (8 * length s - 96 - (i - 12)) (drop (8 * i) (bitsOf s)) (drop-end s (8 * i) (omega arith)) in
-    kept-got (λ xs. tt) (codesDec k (drop 96 (bitsOf s))) (sym (g .reads) ∙ ap after z) λ cs e u.
+    keeping-got (λ xs. tt) (codesDec k (drop 96 (bitsOf s))) (sym (g .reads) ∙ ap passing z) λ cs e u.
     record { value = cs; reads = gives _ cs (8 * length s) (omega arith) (e ∙ ap (got cs) (sym (drop-end s (8 * length s) (omega arith)))) }
 
 -- ---- the line

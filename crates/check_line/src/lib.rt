@@ -12,14 +12,14 @@ use check_value::narrow::narrow;
 use format::Widths;
 
 // The six bytes of an end at the cursor: type, direction, x, y.
-fn end_right(p: Cursor, s: &[u8], w: Widths) -> bool
-    requires { ⌜ (length (now s) ≤ 267) × (p .at + 48 ≤ 8 * length (now s)) × (w .b ≤ 8) × (w .c ≤ 16) ⌝ }
-    ensures { λ r. ⌜ Passes (endValue w .dec) (now (s .entry)) (p .at) (p .at + 48) r ⌝ }
+fn end_right(p: Cursor, value: &[u8], w: Widths) -> bool
+    requires { ⌜ (length (now value) ≤ 267) × (p .at + 48 ≤ 8 * length (now value)) × (w .b ≤ 8) × (w .c ≤ 16) ⌝ }
+    ensures { λ r. ⌜ Passes (endValue w .dec) (now (value .entry)) (p .at) (p .at + 48) r ⌝ }
 {
-    let kind = p.sure(s, 8);
-    let direction = kind.next.sure(s, 8);
-    let x = direction.next.sure(s, 16);
-    let y = x.next.sure(s, 16);
+    let kind = p.sure(value, 8);
+    let direction = kind.next.sure(value, 8);
+    let x = direction.next.sure(value, 16);
+    let y = x.next.sure(value, 16);
     if !narrow(kind.value, 2) {
         return false;
     }
@@ -46,13 +46,13 @@ fn code_right(x: usize, k: usize) -> bool
 }
 
 // The codes behind the two ends, of k bits each.
-fn codes_right(s: &[u8], k: usize) -> bool
-    requires { ⌜ (12 ≤ length (now s)) × (length (now s) ≤ 267) × (1 ≤ k) × (k ≤ 8) ⌝ }
-    ensures { λ r. ⌜ Passes (codesDec k) (now (s .entry)) 96 (8 * length (now (s .entry))) r ⌝ }
+fn codes_right(value: &[u8], k: usize) -> bool
+    requires { ⌜ (12 ≤ length (now value)) × (length (now value) ≤ 267) × (1 ≤ k) × (k ≤ 8) ⌝ }
+    ensures { λ r. ⌜ Passes (codesDec k) (now (value .entry)) 96 (8 * length (now (value .entry))) r ⌝ }
 {
     let mut i: usize = 12;
-    while i < s.len() {
-        let code = Cursor { at: 8 * i }.sure(s, 8);
+    while i < value.len() {
+        let code = Cursor { at: 8 * i }.sure(value, 8);
         if !code_right(code.value, k) {
             return false;
         }
@@ -62,15 +62,15 @@ fn codes_right(s: &[u8], k: usize) -> bool
 }
 
 // The value of a 03, at the widths of the header.
-pub fn line_value(s: &[u8], w: Widths) -> bool
-    requires { ⌜ (12 ≤ length (now s)) × (length (now s) ≤ 267) × (w .c ≤ 16) × (w .b ≤ 8) × (1 ≤ w .k) × (w .k ≤ 8) ⌝ }
-    ensures { λ r. ⌜ Tested (lineValue w) (now (s .entry)) (λ l. length (l .codes) ≡ length (now (s .entry)) - 12) r ⌝ }
+pub fn line_value(value: &[u8], w: Widths) -> bool
+    requires { ⌜ (12 ≤ length (now value)) × (length (now value) ≤ 267) × (w .c ≤ 16) × (w .b ≤ 8) × (1 ≤ w .k) × (w .k ≤ 8) ⌝ }
+    ensures { λ r. ⌜ Tested (lineValue w) (now (value .entry)) (λ l. length (l .codes) ≡ length (now (value .entry)) - 12) r ⌝ }
 {
-    if !end_right(Cursor::start(), s, w) {
+    if !end_right(Cursor::start(), value, w) {
         return false;
     }
-    if !end_right(Cursor { at: 48 }, s, w) {
+    if !end_right(Cursor { at: 48 }, value, w) {
         return false;
     }
-    codes_right(s, w.k)
+    codes_right(value, w.k)
 }

@@ -14,10 +14,10 @@ use Rattle.sheet.specs.Fields.{Field, fields}
 use Rattle.sheet.specs.Grammar.{front, rest, indexIn, indexRest, viewIn, indexShape, viewShape, grammar}
 use Rattle.check_fields.specs.Fields.{FieldsAt}
 use Rattle.check_shape.specs.declared.Kind.{Kind}
-use Rattle.check_shape.specs.declared.Passed.{Passed}
-use Rattle.check_shape.specs.declared.Passed.the-variants as passed
-use Rattle.check_shape.specs.declared.End.{End}
-use Rattle.check_shape.specs.declared.End.the-variants as end
+use Rattle.check_shape.specs.declared.PassedFields.{PassedFields}
+use Rattle.check_shape.specs.declared.PassedFields.the-variants as passed
+use Rattle.check_shape.specs.declared.PartEnd.{PartEnd}
+use Rattle.check_shape.specs.declared.PartEnd.the-variants as end
 
 -- fields stand from byte p on
 pub record Standing (s : List ℕ) (p : ℕ) : Type 0 where
@@ -53,7 +53,7 @@ pub record PassedAt (k : Kind) (s : List ℕ) (fs : List Field) (n next : ℕ) :
   pub behind : FieldsAt s next (rest (k .tag) fs)
   pub right : T (allSized k fs)
 
-abbrev pub Passes : Kind → List ℕ → ℕ → Passed → Type 0
+abbrev pub Passes : Kind → List ℕ → ℕ → PassedFields → Type 0
 Passes k s p (passed.Right n next) = (fs : List Field) → FieldsAt s p fs → PassedAt k s fs n next
 Passes k s p passed.Wrong = (fs : List Field) → FieldsAt s p fs → T (not (allSized k fs))
 
@@ -63,7 +63,7 @@ pub record IndexAt (lines : ℕ) (s : List ℕ) (fs : List Field) (e : ℕ) : Ty
   pub behind : FieldsAt s e (indexRest fs)
   pub right : T (indexShape lines (indexIn fs))
 
-abbrev pub IndexEnds : ℕ → List ℕ → ℕ → End → Type 0
+abbrev pub IndexEnds : ℕ → List ℕ → ℕ → PartEnd → Type 0
 IndexEnds lines s p (end.At e) = (fs : List Field) → FieldsAt s p fs → IndexAt lines s fs e
 IndexEnds lines s p end.Wrong = (fs : List Field) → FieldsAt s p fs → T (not (indexShape lines (indexIn fs)))
 
@@ -82,7 +82,7 @@ pub record ViewAt (s : List ℕ) (fs : List Field) (e : ℕ) : Type 0 where
   pub behind : FieldsAt s e (viewRest fs)
   pub right : T (viewRight fs)
 
-abbrev pub ViewEnds : List ℕ → ℕ → End → Type 0
+abbrev pub ViewEnds : List ℕ → ℕ → PartEnd → Type 0
 ViewEnds s p (end.At e) = (fs : List Field) → FieldsAt s p fs → ViewAt s fs e
 ViewEnds s p end.Wrong = (fs : List Field) → FieldsAt s p fs → T (not (viewRight fs))
 

@@ -39,132 +39,132 @@ impl Kind {
 }
 
 // How many fields were passed, and the byte behind them; or one has a wrong length.
-enum Passed {
+enum PassedFields {
     Right { count: usize, next: usize },
     Wrong,
 }
 
 // The byte behind a part of the sheet; or the part is wrong.
-enum End {
+enum PartEnd {
     At(usize),
     Wrong,
 }
 
 // Whether a field with this tag starts at byte p.
-pub fn starts(s: &[u8], p: usize, tag: usize) -> bool
-    requires { ⌜ Standing (now s) p ⌝ }
-    ensures { λ r. ⌜ Starts tag (now (s .entry)) p r ⌝ }
+pub fn starts(sheet: &[u8], p: usize, tag: usize) -> bool
+    requires { ⌜ Standing (now sheet) p ⌝ }
+    ensures { λ r. ⌜ Starts tag (now (sheet .entry)) p r ⌝ }
 {
-    if p < s.len() {
-        wide(s[p]) == tag
+    if p < sheet.len() {
+        wide(sheet[p]) == tag
     } else {
         false
     }
 }
 
 // Whether a field with this tag and so many bytes starts at byte p.
-fn begins(s: &[u8], p: usize, tag: usize, size: usize) -> bool
-    requires { ⌜ Standing (now s) p ⌝ }
-    ensures { λ r. ⌜ Begins tag size (now (s .entry)) p r ⌝ }
+fn begins(sheet: &[u8], p: usize, tag: usize, size: usize) -> bool
+    requires { ⌜ Standing (now sheet) p ⌝ }
+    ensures { λ r. ⌜ Begins tag size (now (sheet .entry)) p r ⌝ }
 {
-    if starts(s, p, tag) {
-        two_at(s, p + 1) == size
+    if starts(sheet, p, tag) {
+        two_at(sheet, p + 1) == size
     } else {
         false
     }
 }
 
 // The fields of this kind from byte p on, as long as they come.
-fn pass(s: &[u8], p: usize, kind: Kind) -> Passed
-    requires { ⌜ Standing (now s) p × (0 < kind .step) ⌝ }
-    ensures { λ r. ⌜ Passes kind (now (s .entry)) p r ⌝ }
+fn pass(sheet: &[u8], p: usize, kind: Kind) -> PassedFields
+    requires { ⌜ Standing (now sheet) p × (0 < kind .step) ⌝ }
+    ensures { λ r. ⌜ Passes kind (now (sheet .entry)) p r ⌝ }
 {
     let mut next = p;
     let mut count: usize = 0;
-    while starts(s, next, kind.tag) {
-        let size = two_at(s, next + 1);
+    while starts(sheet, next, kind.tag) {
+        let size = two_at(sheet, next + 1);
         if size < kind.least {
-            return Passed::Wrong;
+            return PassedFields::Wrong;
         }
         if kind.most < size {
-            return Passed::Wrong;
+            return PassedFields::Wrong;
         }
         if size % kind.step != 0 {
-            return Passed::Wrong;
+            return PassedFields::Wrong;
         }
         next += 3 + size;
         count += 1;
     }
-    Passed::Right { count, next }
+    PassedFields::Right { count, next }
 }
 
 // The index of a view with so many lines: nothing, or an 04 and a list for each line.
-fn index_end(s: &[u8], p: usize, lines: usize) -> End
-    requires { ⌜ Standing (now s) p ⌝ }
-    ensures { λ r. ⌜ IndexEnds lines (now (s .entry)) p r ⌝ }
+fn index_end(sheet: &[u8], p: usize, lines: usize) -> PartEnd
+    requires { ⌜ Standing (now sheet) p ⌝ }
+    ensures { λ r. ⌜ IndexEnds lines (now (sheet .entry)) p r ⌝ }
 {
-    if !starts(s, p, 4) {
-        return End::At(p);
+    if !starts(sheet, p, 4) {
+        return PartEnd::At(p);
     }
-    if !begins(s, p, 4, 1) {
-        return End::Wrong;
+    if !begins(sheet, p, 4, 1) {
+        return PartEnd::Wrong;
     }
-    let Passed::Right {
+    let PassedFields::Right {
         count: lists,
         next: end,
-    } = pass(s, p + 4, Kind::LISTS)
+    } = pass(sheet, p + 4, Kind::LISTS)
     else {
-        return End::Wrong;
+        return PartEnd::Wrong;
     };
     if lists != lines {
-        return End::Wrong;
+        return PartEnd::Wrong;
     }
-    End::At(end)
+    PartEnd::At(end)
 }
 
 // The view whose 02 should start at byte p.
-fn view_end(s: &[u8], p: usize) -> End
-    requires { ⌜ Standing (now s) p ⌝ }
-    ensures { λ r. ⌜ ViewEnds (now (s .entry)) p r ⌝ }
+fn view_end(sheet: &[u8], p: usize) -> PartEnd
+    requires { ⌜ Standing (now sheet) p ⌝ }
+    ensures { λ r. ⌜ ViewEnds (now (sheet .entry)) p r ⌝ }
 {
-    if !begins(s, p, 2, 8) {
-        return End::Wrong;
+    if !begins(sheet, p, 2, 8) {
+        return PartEnd::Wrong;
     }
-    let Passed::Right {
+    let PassedFields::Right {
         count: lines,
         next: index,
-    } = pass(s, p + 11, Kind::LINES)
+    } = pass(sheet, p + 11, Kind::LINES)
     else {
-        return End::Wrong;
+        return PartEnd::Wrong;
     };
     if ViewHeader::MOST_LINES < lines {
-        return End::Wrong;
+        return PartEnd::Wrong;
     }
-    let End::At(segments) = index_end(s, index, lines) else {
-        return End::Wrong;
+    let PartEnd::At(segments) = index_end(sheet, index, lines) else {
+        return PartEnd::Wrong;
     };
-    let Passed::Right {
+    let PassedFields::Right {
         count: _,
         next: end,
-    } = pass(s, segments, Kind::SEGMENTS)
+    } = pass(sheet, segments, Kind::SEGMENTS)
     else {
-        return End::Wrong;
+        return PartEnd::Wrong;
     };
-    End::At(end)
+    PartEnd::At(end)
 }
 
-// Whether the fields of the sheet s obey the sheet's grammar.
-pub fn shape(s: &[u8]) -> bool
-    requires { ⌜ Fields (now s) ⌝ }
-    ensures { λ r. ⌜ Shape (now (s .entry)) r ⌝ }
+// Whether the fields of the sheet obey the sheet's grammar.
+pub fn shape(sheet: &[u8]) -> bool
+    requires { ⌜ Fields (now sheet) ⌝ }
+    ensures { λ r. ⌜ Shape (now (sheet .entry)) r ⌝ }
 {
-    if !begins(s, 0, 1, 9) {
+    if !begins(sheet, 0, 1, 9) {
         return false;
     }
     let mut p: usize = 12;
     let mut views: usize = 0;
-    while p < s.len() {
-        let End::At(next) = view_end(s, p) else {
+    while p < sheet.len() {
+        let PartEnd::At(next) = view_end(sheet, p) else {
             return false;
         };
         p = next;

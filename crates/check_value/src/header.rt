@@ -23,12 +23,12 @@ pub enum HeadWorth {
 }
 
 // The value of a 01: certificates and device, then the scale.
-pub fn header_value(s: &[u8]) -> HeaderWorth
-    requires { ⌜ length (now s) ≡ 9 ⌝ }
-    ensures { λ r. ⌜ Told headerValue (now (s .entry)) (headerIs r) ⌝ }
+pub fn header_value(value: &[u8]) -> HeaderWorth
+    requires { ⌜ length (now value) ≡ 9 ⌝ }
+    ensures { λ r. ⌜ Told headerValue (now (value .entry)) (headerIs r) ⌝ }
 {
-    let device = Cursor::start().sure(s, 16);
-    match scale_at(device.next, s) {
+    let device = Cursor::start().sure(value, 16);
+    match scale_at(device.next, value) {
         ScaleAt::Outside(_) => HeaderWorth::Wrong,
         ScaleAt::At(scale, _) => HeaderWorth::Right(Header {
             device: device.value,
@@ -38,11 +38,11 @@ pub fn header_value(s: &[u8]) -> HeaderWorth
 }
 
 // The value of a 02; seen counts the earlier views of each position.
-pub fn head_value(s: &[u8], seen: &[u8; 11]) -> HeadWorth
-    requires { ⌜ length (now s) ≡ 8 ⌝ }
-    ensures { λ r. ⌜ Told (viewHeadValue (earlierOf (now (seen .entry)))) (now (s .entry)) (headIs r) ⌝ }
+pub fn head_value(value: &[u8], seen: &[u8; 11]) -> HeadWorth
+    requires { ⌜ length (now value) ≡ 8 ⌝ }
+    ensures { λ r. ⌜ Told (viewHeadValue (earlierOf (now (seen .entry)))) (now (value .entry)) (headIs r) ⌝ }
 {
-    match head_fields(Cursor::start(), s, seen) {
+    match head_fields(Cursor::start(), value, seen) {
         FieldsAt::Wrong(_) => HeadWorth::Wrong,
         FieldsAt::At(head, _) => HeadWorth::Right(head),
     }

@@ -16,29 +16,29 @@ pub enum WidthWorth {
 }
 
 // The value of a 04: 1 to 16.
-pub fn width_value(s: &[u8]) -> WidthWorth
-    requires { ⌜ length (now s) ≡ 1 ⌝ }
-    ensures { λ r. ⌜ Told widthValue (now (s .entry)) (widthIs r) ⌝ }
+pub fn width_value(value: &[u8]) -> WidthWorth
+    requires { ⌜ length (now value) ≡ 1 ⌝ }
+    ensures { λ r. ⌜ Told widthValue (now (value .entry)) (widthIs r) ⌝ }
 {
-    match ranged_at(Cursor::start(), s, 1, 16) {
+    match ranged_at(Cursor::start(), value, 1, 16) {
         RangedAt::Outside => WidthWorth::Wrong,
         RangedAt::At(w, _) => WidthWorth::Right(w),
     }
 }
 
 // The value of a 05: the neighbours of line l at width w. The first may be the line itself; each other is below the one before.
-pub fn list_value(s: &[u8], w: usize, l: usize) -> bool
-    requires { ⌜ (length (now s) % 2 ≡ 0) × (length (now s) ≤ 65534) × (w ≤ 16) × (l < 1024) ⌝ }
-    ensures { λ r. ⌜ Tested (listValue w l) (now (s .entry)) (λ ns. length ns ≡ length (now (s .entry)) / 2) r ⌝ }
+pub fn list_value(value: &[u8], w: usize, l: usize) -> bool
+    requires { ⌜ (length (now value) % 2 ≡ 0) × (length (now value) ≤ 65534) × (w ≤ 16) × (l < 1024) ⌝ }
+    ensures { λ r. ⌜ Tested (listValue w l) (now (value .entry)) (λ ns. length ns ≡ length (now (value .entry)) / 2) r ⌝ }
 {
-    if !narrow(s.len() / 2, w) {
+    if !narrow(value.len() / 2, w) {
         return false;
     }
     let mut before = l;
     let mut least: usize = 0;
     let mut i: usize = 0;
-    while i < s.len() {
-        let next = Cursor { at: 8 * i }.sure(s, 16);
+    while i < value.len() {
+        let next = Cursor { at: 8 * i }.sure(value, 16);
         let n = next.value;
         if before < n + least {
             return false;

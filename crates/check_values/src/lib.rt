@@ -15,14 +15,14 @@ pub enum Valued {
     Wrong,
 }
 
-// The sheet s: its 01, then view by view; seen counts the views of each position.
-pub fn values(s: &[u8]) -> Valued
-    requires { ⌜ ValuesThere (now s) ⌝ }
-    ensures { λ r. ⌜ ValuesAre (now (s .entry)) r ⌝ }
+// The sheet `sheet`: its 01, then view by view; seen counts the views of each position.
+pub fn values(sheet: &[u8]) -> Valued
+    requires { ⌜ ValuesThere (now sheet) ⌝ }
+    ensures { λ r. ⌜ ValuesAre (now (sheet .entry)) r ⌝ }
 {
     let from: usize = 3;
     let end: usize = 12;
-    let head = &s[from..end];
+    let head = &sheet[from..end];
     let HeaderWorth::Right(h) = header_value(head) else {
         return Valued::Wrong;
     };
@@ -32,8 +32,8 @@ pub fn values(s: &[u8]) -> Valued
     let mut p = end;
     let mut views: usize = 0;
     let mut bytes: usize = Header::BYTES;
-    while p < s.len() {
-        let ViewWorth::Right(view) = view_values(s, p, w, &seen) else {
+    while p < sheet.len() {
+        let ViewWorth::Right(view) = view_values(sheet, p, w, &seen) else {
             return Valued::Wrong;
         };
         let position = view.position;

@@ -24,31 +24,31 @@ pub enum ViewWorth {
 }
 
 // The view whose 02 starts at byte p; seen counts the earlier views of each position. Two bytes of length stand before each block.
-pub fn view_values(s: &[u8], p: usize, w: Widths, seen: &[u8; 11]) -> ViewWorth
-    requires { ⌜ Some (ViewThere (now s) p) × Narrow w ⌝ }
-    ensures { λ r. ⌜ ViewIs w (now (seen .entry)) (now (s .entry)) p r ⌝ }
+pub fn view_values(sheet: &[u8], p: usize, w: Widths, seen: &[u8; 11]) -> ViewWorth
+    requires { ⌜ Some (ViewThere (now sheet) p) × Narrow w ⌝ }
+    ensures { λ r. ⌜ ViewIs w (now (seen .entry)) (now (sheet .entry)) p r ⌝ }
 {
     let from = p + 3;
     let lines = p + 11;
-    let head = &s[from..lines];
+    let head = &sheet[from..lines];
     let HeadWorth::Right(h) = head_value(head, seen) else {
         return ViewWorth::Wrong;
     };
     let Counted::Right {
         next: index,
         size: bits,
-    } = line_values(s, lines, w)
+    } = line_values(sheet, lines, w)
     else {
         return ViewWorth::Wrong;
     };
     let Counted::Right {
         next: segments,
         size: listed,
-    } = index_values(s, index)
+    } = index_values(sheet, index)
     else {
         return ViewWorth::Wrong;
     };
-    let extended = segment_sizes(s, segments);
+    let extended = segment_sizes(sheet, segments);
     ViewWorth::Right(Sized {
         end: extended.end,
         position: h.position,

@@ -5,25 +5,25 @@ use bits::Cursor;
 use format::Widths;
 
 // The place behind the line that starts at place p.
-pub fn line_end(s: &[u8], p: usize, w: Widths) -> usize
-    requires { ⌜ LineThere w (now s) p ⌝ }
-    ensures { λ r. ⌜ LineEnd w (now (s .entry)) p r ⌝ }
+pub fn line_end(block: &[u8], p: usize, w: Widths) -> usize
+    requires { ⌜ LineThere w (now block) p ⌝ }
+    ensures { λ r. ⌜ LineEnd w (now (block .entry)) p r ⌝ }
 {
     let end = 2 + w.b + 2 * w.c;
-    let count = Cursor { at: p + end }.sure(s, 8);
+    let count = Cursor { at: p + end }.sure(block, 8);
     p + end + 8 + count.value * w.k + end
 }
 
-// The first lines of the block s: so many, or all where there are fewer.
-pub fn pass_lines(s: &[u8], w: Widths, most: usize) -> Passed
-    requires { ⌜ LinesThere w (now s) ⌝ }
-    ensures { λ r. ⌜ LinesPassed w (now (s .entry)) most r ⌝ }
+// The first lines of the block: so many, or all where there are fewer.
+pub fn pass_lines(block: &[u8], w: Widths, most: usize) -> Passed
+    requires { ⌜ LinesThere w (now block) ⌝ }
+    ensures { λ r. ⌜ LinesPassed w (now (block .entry)) most r ⌝ }
 {
-    let end = 8 * s.len();
+    let end = 8 * block.len();
     let mut next: usize = 0;
     let mut count: usize = 0;
     while count < most && 8 <= end - next {
-        next = line_end(s, next, w);
+        next = line_end(block, next, w);
         count += 1;
     }
     Passed { count, next }

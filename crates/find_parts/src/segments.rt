@@ -5,15 +5,15 @@ ghost use Rattle.find_parts.specs.Finds.{SegmentsPassed};
 use crate::Passed;
 use bits::Cursor;
 
-// The first segments of the block s: so many, or all where there are fewer.
-pub fn pass_segments(s: &[u8], most: usize) -> Passed
-    requires { ⌜ BlockThere segments (now s) ⌝ }
-    ensures { λ r. ⌜ SegmentsPassed (now (s .entry)) most r ⌝ }
+// The first segments of the block: so many, or all where there are fewer.
+pub fn pass_segments(block: &[u8], most: usize) -> Passed
+    requires { ⌜ BlockThere segments (now block) ⌝ }
+    ensures { λ r. ⌜ SegmentsPassed (now (block .entry)) most r ⌝ }
 {
     let mut next: usize = 0;
     let mut count: usize = 0;
-    while count < most && next < s.len() {
-        let size = Cursor { at: 8 * next + 16 }.sure(s, 16);
+    while count < most && next < block.len() {
+        let size = Cursor { at: 8 * next + 16 }.sure(block, 16);
         next += size.value;
         count += 1;
     }

@@ -15,17 +15,17 @@ pub struct Site {
     pub widths: Widths,
 }
 
-// The view whose blocks these are, in the record s.
-pub fn site_at(s: &[u8], blocks: Blocks, w: Widths) -> Site
-    requires { ⌜ SiteThere (now s) blocks w ⌝ }
-    ensures { λ r. ⌜ SiteFound (now (s .entry)) blocks w r ⌝ }
+// The view whose blocks these are, in the record `bytes`.
+pub fn site_at(bytes: &[u8], blocks: Blocks, w: Widths) -> Site
+    requires { ⌜ SiteThere (now bytes) blocks w ⌝ }
+    ensures { λ r. ⌜ SiteFound (now (bytes .entry)) blocks w r ⌝ }
 {
     let skeleton = blocks.skeleton;
     let index = blocks.index;
     let extended = blocks.extended;
     let from = skeleton.from;
     let to = skeleton.to;
-    let passed = pass_lines(&s[from..to], w, ViewHeader::MOST_LINES);
+    let passed = pass_lines(&bytes[from..to], w, ViewHeader::MOST_LINES);
     Site {
         skeleton,
         index,

@@ -20,11 +20,11 @@ pub struct Blocks {
 }
 
 // The block whose length is at byte b.
-fn block_at(s: &[u8], b: usize) -> Part
-    requires { ⌜ (length (now s) ≤ 32768) × (b + 2 ≤ length (now s)) ⌝ }
-    ensures { λ r. ⌜ BlockFound (now (s .entry)) b r ⌝ }
+fn block_at(bytes: &[u8], b: usize) -> Part
+    requires { ⌜ (length (now bytes) ≤ 32768) × (b + 2 ≤ length (now bytes)) ⌝ }
+    ensures { λ r. ⌜ BlockFound (now (bytes .entry)) b r ⌝ }
 {
-    let size = Cursor { at: 8 * b }.sure(s, 16);
+    let size = Cursor { at: 8 * b }.sure(bytes, 16);
     let from = b + 2;
     Part {
         from,
@@ -33,13 +33,13 @@ fn block_at(s: &[u8], b: usize) -> Part
 }
 
 // The blocks of a view; the length of the first is at byte b.
-pub fn blocks_at(s: &[u8], b: usize) -> Blocks
-    requires { ⌜ BlocksThere (now s) b ⌝ }
-    ensures { λ r. ⌜ BlocksFound (now (s .entry)) b r ⌝ }
+pub fn blocks_at(bytes: &[u8], b: usize) -> Blocks
+    requires { ⌜ BlocksThere (now bytes) b ⌝ }
+    ensures { λ r. ⌜ BlocksFound (now (bytes .entry)) b r ⌝ }
 {
-    let skeleton = block_at(s, b);
-    let index = block_at(s, skeleton.to);
-    let extended = block_at(s, index.to);
+    let skeleton = block_at(bytes, b);
+    let index = block_at(bytes, skeleton.to);
+    let extended = block_at(bytes, index.to);
     Blocks {
         skeleton,
         index,
@@ -48,14 +48,14 @@ pub fn blocks_at(s: &[u8], b: usize) -> Blocks
 }
 
 // The byte at which view i of the record starts.
-pub fn view_at(s: &[u8], i: usize) -> usize
-    requires { ⌜ ViewThere (now s) i ⌝ }
-    ensures { λ r. ⌜ ViewFound (now (s .entry)) i r ⌝ }
+pub fn view_at(bytes: &[u8], i: usize) -> usize
+    requires { ⌜ ViewThere (now bytes) i ⌝ }
+    ensures { λ r. ⌜ ViewFound (now (bytes .entry)) i r ⌝ }
 {
     let mut a: usize = Header::BYTES;
     let mut n: usize = 0;
     while n < i {
-        let blocks = blocks_at(s, a + 8);
+        let blocks = blocks_at(bytes, a + 8);
         a = blocks.extended.to;
         n += 1;
     }

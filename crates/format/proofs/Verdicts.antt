@@ -4,7 +4,7 @@ use mathlib.Core.Path.{_≡_, refl}
 use Prim.Native.Nat.{ℕ, _+_}
 use mathlib.Core.List.{List, [], _∷_, _++_, map}
 use lib.ListN.{set, take}
-use Rattle.bits.specs.Bits.{numberOf, bitsOfNumber}
+use Rattle.bits.specs.Bits.{numberOfBits, bitsOfNumber}
 use Rattle.bits.specs.Bytes.{bitsOf}
 use Rattle.bits.specs.Codec.{thenDec, viaDec, onlyDec, judgedDec, wholeDec, roomDec}
 use Rattle.bits.specs.Block.{endedDec, sizedDec}
@@ -81,5 +81,5 @@ table =
     ∷ []
 
 verdicts : map verdict table ≡ map expected table
-unfolding numberOf bitsOfNumber bitsOf thenDec viaDec onlyDec judgedDec wholeDec roomDec endedDec sizedDec mostLines leastBytes mostBytes end line skeleton index indexBlock segment segments view viewHeader header views recordOf read onRecord
+unfolding numberOfBits bitsOfNumber bitsOf thenDec viaDec onlyDec judgedDec wholeDec roomDec endedDec sizedDec mostLines leastBytes mostBytes end line skeleton index indexBlock segment segments view viewHeader header views recordOf read onRecord
 verdicts = refl

@@ -4,7 +4,7 @@ use mathlib.Core.Path.{_≡_}
 use Prim.Native.Nat.{ℕ, _*_, _≤_}
 use mathlib.Core.List.{List}
 use lib.ListN.{length}
-use Rattle.bits.specs.Reads.{Found, found, fault, placed, placeOf, kept}
+use Rattle.bits.specs.Reads.{Found, found, fault, placed, placeFound, keeping}
 use Rattle.format.specs.Record.{Record, read}
 use Rattle.format.specs.SheetSize.{sheetSize}
 use Rattle.format.specs.declared.Header.{Header}
@@ -24,5 +24,5 @@ verdictOf s (v.Refused e p) = fault e p
 
 -- reading the bytes s, and keeping that of the record, gives the verdict
 pub record Judges (s : List ℕ) (r : Verdict) : Type 0 where
-  pub is : kept summary (read s) ≡ placed s (verdictOf s r)
-  pub within : placeOf (verdictOf s r) ≤ 8 * length s
+  pub is : keeping summary (read s) ≡ placed s (verdictOf s r)
+  pub within : placeFound (verdictOf s r) ≤ 8 * length s

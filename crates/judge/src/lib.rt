@@ -17,24 +17,24 @@ pub enum Verdict {
     Refused(u32, usize),
 }
 
-pub fn judge(s: &[u8]) -> Verdict
-    ensures { λ r. ⌜ Judges (now (s .entry)) r ⌝ }
+pub fn judge(bytes: &[u8]) -> Verdict
+    ensures { λ r. ⌜ Judges (now (bytes .entry)) r ⌝ }
 {
-    if s.len() < Header::LEAST_BYTES {
+    if bytes.len() < Header::LEAST_BYTES {
         return Verdict::Refused(Refusal::BAD_SIZE, 0);
     }
-    if Header::MOST_BYTES < s.len() {
+    if Header::MOST_BYTES < bytes.len() {
         return Verdict::Refused(Refusal::BAD_SIZE, 0);
     }
-    match header_at(s) {
+    match header_at(bytes) {
         HeaderAt::Refused(e, p) => Verdict::Refused(e, p),
         HeaderAt::At(h, count) => {
             let scale = h.scale;
             let widths = scale.widths;
-            match judge_views(s, widths, count) {
+            match judge_views(bytes, widths, count) {
                 Reached::Refused(e, p) => Verdict::Refused(e, p),
                 Reached::At { next: a, size } => {
-                    if a < s.len() {
+                    if a < bytes.len() {
                         Verdict::Refused(Refusal::BYTES_OVER, 8 * a)
                     } else {
                         Verdict::Accepted {

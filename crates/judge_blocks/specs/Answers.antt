@@ -9,7 +9,7 @@ use Rattle.bits.specs.Bits.{Bits}
 use Rattle.bits.specs.Codec.{Read, fieldDec}
 use Rattle.bits.specs.SizedLaws.{prefixed}
 use Rattle.bits.specs.Lists.{total}
-use Rattle.bits.specs.Reads.{Found, found, fault, Reads, kept}
+use Rattle.bits.specs.Reads.{Found, found, fault, Reads, keeping}
 use Rattle.outcome.specs.Refusals.{past}
 use Rattle.format.specs.Index.{indexBlock}
 use Rattle.format.specs.Segments.{segments}
@@ -18,8 +18,8 @@ use Rattle.judge_blocks.specs.declared.Judged.{Judged}
 use Rattle.judge_blocks.specs.declared.Judged.the-variants as j
 use Rattle.judge_blocks.specs.declared.Reached.{Reached}
 use Rattle.judge_blocks.specs.declared.Reached.the-variants as r
-use Rattle.judge_blocks.specs.declared.block.BlockAt.{BlockAt}
-use Rattle.judge_blocks.specs.declared.block.BlockAt.the-variants as k
+use Rattle.judge_blocks.specs.declared.block.WholeBlock.{WholeBlock}
+use Rattle.judge_blocks.specs.declared.block.WholeBlock.the-variants as k
 
 -- ---- answers
 
@@ -47,20 +47,20 @@ pub data Cut (s : List ℕ) (a p : ℕ) : Type 0 where
   blockPast : (n : ℕ) → Reads (fieldDec past 16) s (8 * a) (found n (8 * (a + 2))) → length s - (a + 2) < n → p ≡ 8 * (a + 2) → Cut s a p
 
 -- the one or the other, as `block_at` says
-abbrev pub Behind : List ℕ → ℕ → BlockAt → Type 0
+abbrev pub Behind : List ℕ → ℕ → WholeBlock → Type 0
 Behind s a (k.At b e) = Whole s a b e
 Behind s a (k.Past p) = Cut s a p
 
 -- ---- what is read
 
 unfoldable pub indexDec : ℕ → Bits → Read Bool ℕ
-indexDec n s = kept indexSize (indexBlock n .dec s)
+indexDec n s = keeping indexSize (indexBlock n .dec s)
 
 unfoldable pub indexAtDec : ℕ → Bits → Read Bool ℕ
-indexAtDec n s = kept indexSize (prefixed (indexBlock n) past .dec s)
+indexAtDec n s = keeping indexSize (prefixed (indexBlock n) past .dec s)
 
 unfoldable pub segmentsDec : Bits → Read Bool ℕ
-segmentsDec s = kept (total segmentSize) (segments .dec s)
+segmentsDec s = keeping (total segmentSize) (segments .dec s)
 
 unfoldable pub segmentsAtDec : Bits → Read Bool ℕ
-segmentsAtDec s = kept (total segmentSize) (prefixed segments past .dec s)
+segmentsAtDec s = keeping (total segmentSize) (prefixed segments past .dec s)

@@ -6,26 +6,26 @@ ghost use Rattle.judge_blocks.specs.Answers.{Behind};
 use bits::Cursor;
 
 // The block's first byte and the byte behind its last; or the place of the length or the block, whichever passes the end.
-pub enum BlockAt {
+pub enum WholeBlock {
     At { from: usize, to: usize },
     Past(usize),
 }
 
 // The length at byte a, and the block behind it.
-pub fn block_at(s: &[u8], a: usize) -> BlockAt
-    requires { ⌜ (length (now s) ≤ 32768) × (a ≤ length (now s)) ⌝ }
-    ensures { λ r. ⌜ Behind (now (s .entry)) a r ⌝ }
+pub fn block_at(bytes: &[u8], a: usize) -> WholeBlock
+    requires { ⌜ (length (now bytes) ≤ 32768) × (a ≤ length (now bytes)) ⌝ }
+    ensures { λ r. ⌜ Behind (now (bytes .entry)) a r ⌝ }
 {
     let at = 8 * a;
-    if s.len() - a < 2 {
-        return BlockAt::Past(at);
+    if bytes.len() - a < 2 {
+        return WholeBlock::Past(at);
     }
-    let len = Cursor { at }.sure(s, 16).value;
+    let len = Cursor { at }.sure(bytes, 16).value;
     let b = a + 2;
-    if s.len() - b < len {
-        return BlockAt::Past(8 * b);
+    if bytes.len() - b < len {
+        return WholeBlock::Past(8 * b);
     }
-    BlockAt::At {
+    WholeBlock::At {
         from: b,
         to: b + len,
     }

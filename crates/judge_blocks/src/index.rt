@@ -6,7 +6,7 @@ ghost use Rattle.bits.specs.Reads.{Reads};
 ghost use Rattle.judge_blocks.specs.Answers.{judged, reached, indexDec, indexAtDec};
 use crate::Judged;
 use crate::Reached;
-use crate::block::BlockAt;
+use crate::block::WholeBlock;
 use crate::block::block_at;
 use bits::Cursor;
 use bits::Taken;
@@ -16,22 +16,22 @@ use judge_ends::Cleared;
 use judge_ends::zeros_at;
 use outcome::Refusal;
 
-// The block s, of a view with that many lines.
-pub fn judge_index(s: &[u8], lines: usize) -> Judged
-    requires { ⌜ (length (now s) ≤ 65535) × (lines ≤ 1024) ⌝ }
-    ensures { λ r. ⌜ Reads (indexDec lines) (now (s .entry)) 0 (judged (now (s .entry)) r) ⌝ }
+// The block `block`, of a view with that many lines.
+pub fn judge_index(block: &[u8], lines: usize) -> Judged
+    requires { ⌜ (length (now block) ≤ 65535) × (lines ≤ 1024) ⌝ }
+    ensures { λ r. ⌜ Reads (indexDec lines) (now (block .entry)) 0 (judged (now (block .entry)) r) ⌝ }
 {
-    if s.len() == 0 {
+    if block.len() == 0 {
         return Judged::Fine(0);
     }
-    let RangedAt::At(w, first) = ranged_at(Cursor::start(), s, 1, 16) else {
+    let RangedAt::At(w, first) = ranged_at(Cursor::start(), block, 1, 16) else {
         return Judged::Refused(Refusal::BAD_INDEX, 0);
     };
     let mut p = first;
     let mut size: usize = 4;
     let mut l: usize = 0;
     while l < lines {
-        let Taken::Bits(count, q) = p.field(s, w) else {
+        let Taken::Bits(count, q) = p.field(block, w) else {
             return Judged::Refused(Refusal::BAD_INDEX, p.at);
         };
         p = q;
@@ -39,7 +39,7 @@ pub fn judge_index(s: &[u8], lines: usize) -> Judged
         let mut most = l;
         let mut i: usize = 0;
         while i < count {
-            let Taken::Bits(d, next) = p.field(s, w) else {
+            let Taken::Bits(d, next) = p.field(block, w) else {
                 return Judged::Refused(Refusal::BAD_INDEX, p.at);
             };
             if d < least {
@@ -56,10 +56,10 @@ pub fn judge_index(s: &[u8], lines: usize) -> Judged
         size = size + 3 + 2 * count;
         l = l + 1;
     }
-    match zeros_at(p, s) {
+    match zeros_at(p, block) {
         Cleared::One(q) => Judged::Refused(Refusal::BAD_INDEX, q),
         Cleared::All => {
-            if 8 * s.len() - p.at < 8 {
+            if 8 * block.len() - p.at < 8 {
                 Judged::Fine(size)
             } else {
                 Judged::Refused(Refusal::BAD_INDEX, p.at + 7)
@@ -69,13 +69,13 @@ pub fn judge_index(s: &[u8], lines: usize) -> Judged
 }
 
 // The index length at byte a, and the block behind it.
-pub fn index_at(s: &[u8], a: usize, lines: usize) -> Reached
-    requires { ⌜ (length (now s) ≤ 32768) × (a ≤ length (now s)) × (lines ≤ 1024) ⌝ }
-    ensures { λ r. ⌜ Reads (indexAtDec lines) (now (s .entry)) (8 * a) (reached r) ⌝ }
+pub fn index_at(bytes: &[u8], a: usize, lines: usize) -> Reached
+    requires { ⌜ (length (now bytes) ≤ 32768) × (a ≤ length (now bytes)) × (lines ≤ 1024) ⌝ }
+    ensures { λ r. ⌜ Reads (indexAtDec lines) (now (bytes .entry)) (8 * a) (reached r) ⌝ }
 {
-    match block_at(s, a) {
-        BlockAt::Past(p) => Reached::Refused(Refusal::PAST, p),
-        BlockAt::At { from: b, to: e } => match judge_index(&s[b..e], lines) {
+    match block_at(bytes, a) {
+        WholeBlock::Past(p) => Reached::Refused(Refusal::PAST, p),
+        WholeBlock::At { from: b, to: e } => match judge_index(&bytes[b..e], lines) {
             Judged::Fine(size) => Reached::At { next: e, size },
             Judged::Refused(x, q) => Reached::Refused(x, 8 * b + q),
         },

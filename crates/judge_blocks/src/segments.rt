@@ -6,25 +6,25 @@ ghost use Rattle.bits.specs.Reads.{Reads};
 ghost use Rattle.judge_blocks.specs.Answers.{judged, reached, segmentsDec, segmentsAtDec};
 use crate::Judged;
 use crate::Reached;
-use crate::block::BlockAt;
+use crate::block::WholeBlock;
 use crate::block::block_at;
 use bits::Cursor;
 use outcome::Refusal;
 
-// The block s.
-pub fn judge_segments(s: &[u8]) -> Judged
-    requires { ⌜ length (now s) ≤ 65535 ⌝ }
-    ensures { λ r. ⌜ Reads segmentsDec (now (s .entry)) 0 (judged (now (s .entry)) r) ⌝ }
+// The block `block`.
+pub fn judge_segments(block: &[u8]) -> Judged
+    requires { ⌜ length (now block) ≤ 65535 ⌝ }
+    ensures { λ r. ⌜ Reads segmentsDec (now (block .entry)) 0 (judged (now (block .entry)) r) ⌝ }
 {
-    let end = 8 * s.len();
+    let end = 8 * block.len();
     let mut p = Cursor::start();
     let mut size: usize = 0;
     while p.at < end {
         if end - p.at < 32 {
             return Judged::Refused(Refusal::BAD_SEGMENT, p.at);
         }
-        let kind = p.sure(s, 16);
-        let len = kind.next.sure(s, 16);
+        let kind = p.sure(block, 16);
+        let len = kind.next.sure(block, 16);
         if len.value < 4 {
             return Judged::Refused(Refusal::BAD_SEGMENT, kind.next.at);
         }
@@ -41,13 +41,13 @@ pub fn judge_segments(s: &[u8]) -> Judged
 }
 
 // The extended length at byte a, and the block behind it.
-pub fn segments_at(s: &[u8], a: usize) -> Reached
-    requires { ⌜ (length (now s) ≤ 32768) × (a ≤ length (now s)) ⌝ }
-    ensures { λ r. ⌜ Reads segmentsAtDec (now (s .entry)) (8 * a) (reached r) ⌝ }
+pub fn segments_at(bytes: &[u8], a: usize) -> Reached
+    requires { ⌜ (length (now bytes) ≤ 32768) × (a ≤ length (now bytes)) ⌝ }
+    ensures { λ r. ⌜ Reads segmentsAtDec (now (bytes .entry)) (8 * a) (reached r) ⌝ }
 {
-    match block_at(s, a) {
-        BlockAt::Past(p) => Reached::Refused(Refusal::PAST, p),
-        BlockAt::At { from: b, to: e } => match judge_segments(&s[b..e]) {
+    match block_at(bytes, a) {
+        WholeBlock::Past(p) => Reached::Refused(Refusal::PAST, p),
+        WholeBlock::At { from: b, to: e } => match judge_segments(&bytes[b..e]) {
             Judged::Fine(size) => Reached::At { next: e, size },
             Judged::Refused(x, q) => Reached::Refused(x, 8 * b + q),
         },

@@ -10,12 +10,12 @@ use Rattle.outcome.specs.Refusals.{badLine}
 use Rattle.format.specs.Line.{end}
 use Rattle.format.specs.declared.Widths.{Widths}
 use Rattle.format.specs.declared.End.{End}
-use Rattle.judge_ends.specs.declared.Ended.{Ended}
-use Rattle.judge_ends.specs.declared.Ended.the-variants as e
+use Rattle.judge_ends.specs.declared.EndAt.{EndAt}
+use Rattle.judge_ends.specs.declared.EndAt.the-variants as e
 use Rattle.judge_ends.specs.declared.Cleared.{Cleared}
 use Rattle.judge_ends.specs.declared.Cleared.the-variants as c
 
-abbrev pub ended : Ended → Found End
+abbrev pub ended : EndAt → Found End
 ended (e.At x p) = found x (p .at)
 ended (e.Short p) = fault badLine p
 

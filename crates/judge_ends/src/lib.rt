@@ -10,7 +10,7 @@ use format::End;
 use format::Widths;
 
 // An end and the cursor behind it, or the place of the field that passes the block's end.
-pub enum Ended {
+pub enum EndAt {
     At(End, Cursor),
     Short(usize),
 }
@@ -21,23 +21,23 @@ pub enum Cleared {
     One(usize),
 }
 
-pub fn end_at(p: Cursor, s: &[u8], w: Widths) -> Ended
-    requires { ⌜ (length (now s) ≤ 65535) × (p .at ≤ 8 * length (now s)) × (w .b ≤ 8) × (w .c ≤ 16) ⌝ }
-    ensures { λ r. ⌜ Reads (endDec w) (now (s .entry)) (p .at) (ended r) ⌝ }
+pub fn end_at(p: Cursor, block: &[u8], w: Widths) -> EndAt
+    requires { ⌜ (length (now block) ≤ 65535) × (p .at ≤ 8 * length (now block)) × (w .b ≤ 8) × (w .c ≤ 16) ⌝ }
+    ensures { λ r. ⌜ Reads (endDec w) (now (block .entry)) (p .at) (ended r) ⌝ }
 {
-    let Taken::Bits(kind, p1) = p.field(s, 2) else {
-        return Ended::Short(p.at);
+    let Taken::Bits(kind, p1) = p.field(block, 2) else {
+        return EndAt::Short(p.at);
     };
-    let Taken::Bits(direction, p2) = p1.field(s, w.b) else {
-        return Ended::Short(p1.at);
+    let Taken::Bits(direction, p2) = p1.field(block, w.b) else {
+        return EndAt::Short(p1.at);
     };
-    let Taken::Bits(x, p3) = p2.field(s, w.c) else {
-        return Ended::Short(p2.at);
+    let Taken::Bits(x, p3) = p2.field(block, w.c) else {
+        return EndAt::Short(p2.at);
     };
-    let Taken::Bits(y, p4) = p3.field(s, w.c) else {
-        return Ended::Short(p3.at);
+    let Taken::Bits(y, p4) = p3.field(block, w.c) else {
+        return EndAt::Short(p3.at);
     };
-    Ended::At(
+    EndAt::At(
         End {
             kind,
             direction,
@@ -49,13 +49,13 @@ pub fn end_at(p: Cursor, s: &[u8], w: Widths) -> Ended
 }
 
 // The bits from the cursor to the end of the block.
-pub fn zeros_at(p: Cursor, s: &[u8]) -> Cleared
-    requires { ⌜ (length (now s) ≤ 65535) × (p .at ≤ 8 * length (now s)) ⌝ }
-    ensures { λ r. ⌜ ((e : ℕ) → Reads (zerosDec e) (now (s .entry)) (p .at) (cleared e (now (s .entry)) r)) ⌝ }
+pub fn zeros_at(p: Cursor, block: &[u8]) -> Cleared
+    requires { ⌜ (length (now block) ≤ 65535) × (p .at ≤ 8 * length (now block)) ⌝ }
+    ensures { λ r. ⌜ ((e : ℕ) → Reads (zerosDec e) (now (block .entry)) (p .at) (cleared e (now (block .entry)) r)) ⌝ }
 {
     let mut q = p;
-    while q.at < 8 * s.len() {
-        let bit = q.sure(s, 1);
+    while q.at < 8 * block.len() {
+        let bit = q.sure(block, 1);
         if bit.value != 0 {
             return Cleared::One(q.at);
         }

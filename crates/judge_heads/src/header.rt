@@ -27,29 +27,29 @@ pub enum ScaleAt {
 }
 
 // The seven bytes at the cursor; a sheet has them too, with a refusal of its own.
-pub fn scale_at(p: Cursor, s: &[u8]) -> ScaleAt
-    requires { ⌜ (length (now s) ≤ 65535) × (p .at ≤ 8 * length (now s)) ⌝ }
-    ensures { λ r. ⌜ ((e : ℕ) → Reads (scale e .dec) (now (s .entry)) (p .at) (scaleAt e r)) ⌝ }
+pub fn scale_at(p: Cursor, bytes: &[u8]) -> ScaleAt
+    requires { ⌜ (length (now bytes) ≤ 65535) × (p .at ≤ 8 * length (now bytes)) ⌝ }
+    ensures { λ r. ⌜ ((e : ℕ) → Reads (scale e .dec) (now (bytes .entry)) (p .at) (scaleAt e r)) ⌝ }
 {
-    let RangedAt::At(points, p1) = ranged_at(p, s, 1, 255) else {
+    let RangedAt::At(points, p1) = ranged_at(p, bytes, 1, 255) else {
         return ScaleAt::Outside(p.at);
     };
-    let RangedAt::At(c, p2) = ranged_at(p1, s, 1, 16) else {
+    let RangedAt::At(c, p2) = ranged_at(p1, bytes, 1, 16) else {
         return ScaleAt::Outside(p1.at);
     };
-    let RangedAt::At(b, p3) = ranged_at(p2, s, 4, 8) else {
+    let RangedAt::At(b, p3) = ranged_at(p2, bytes, 4, 8) else {
         return ScaleAt::Outside(p2.at);
     };
-    let RangedAt::At(k, p4) = ranged_at(p3, s, 2, 8) else {
+    let RangedAt::At(k, p4) = ranged_at(p3, bytes, 2, 8) else {
         return ScaleAt::Outside(p3.at);
     };
-    let RangedAt::At(step, p5) = ranged_at(p4, s, 1, 255) else {
+    let RangedAt::At(step, p5) = ranged_at(p4, bytes, 1, 255) else {
         return ScaleAt::Outside(p4.at);
     };
-    let Taken::Bits(ratio, p6) = p5.field(s, 8) else {
+    let Taken::Bits(ratio, p6) = p5.field(bytes, 8) else {
         return ScaleAt::Outside(p5.at);
     };
-    let RangedAt::At(half, p7) = ranged_at(p6, s, 1, 255) else {
+    let RangedAt::At(half, p7) = ranged_at(p6, bytes, 1, 255) else {
         return ScaleAt::Outside(p6.at);
     };
     let widths = Widths { c, b, k };
@@ -65,31 +65,31 @@ pub fn scale_at(p: Cursor, s: &[u8]) -> ScaleAt
     )
 }
 
-pub fn header_at(s: &[u8]) -> HeaderAt
-    requires { ⌜ (24 ≤ length (now s)) × (length (now s) ≤ 32768) ⌝ }
-    ensures { λ r. ⌜ Reads (headerDec (length (now (s .entry)))) (now (s .entry)) 0 (headerAt r) ⌝ }
+pub fn header_at(bytes: &[u8]) -> HeaderAt
+    requires { ⌜ (24 ≤ length (now bytes)) × (length (now bytes) ≤ 32768) ⌝ }
+    ensures { λ r. ⌜ Reads (headerDec (length (now (bytes .entry)))) (now (bytes .entry)) 0 (headerAt r) ⌝ }
 {
-    let id = Cursor::start().sure(s, 32);
+    let id = Cursor::start().sure(bytes, 32);
     if id.value != 0x46534B00 {
         return HeaderAt::Refused(Refusal::BAD_IDENTIFIER, 0);
     }
-    let version = id.next.sure(s, 32);
+    let version = id.next.sure(bytes, 32);
     if version.value != 0x30313000 {
         return HeaderAt::Refused(Refusal::BAD_VERSION, 32);
     }
-    let len = version.next.sure(s, 32);
-    if len.value != s.len() {
+    let len = version.next.sure(bytes, 32);
+    if len.value != bytes.len() {
         return HeaderAt::Refused(Refusal::BAD_LENGTH, 64);
     }
-    let device = len.next.sure(s, 16);
-    let views = device.next.sure(s, 8);
+    let device = len.next.sure(bytes, 16);
+    let views = device.next.sure(bytes, 8);
     if views.value < 1 {
         return HeaderAt::Refused(Refusal::BAD_HEADER, 112);
     }
-    match scale_at(views.next, s) {
+    match scale_at(views.next, bytes) {
         ScaleAt::Outside(p) => HeaderAt::Refused(Refusal::BAD_HEADER, p),
         ScaleAt::At(scale, p) => {
-            let reserved = p.sure(s, 16);
+            let reserved = p.sure(bytes, 16);
             if reserved.value != 0 {
                 return HeaderAt::Refused(Refusal::BAD_HEADER, 176);
             }

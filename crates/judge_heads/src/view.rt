@@ -47,16 +47,16 @@ fn impression_bad(impression: usize) -> bool
 
 // The header's eight bytes at the cursor, without the skeleton's length; seen counts the earlier views of each position. A sheet has
 // them too, with a refusal of its own.
-pub fn head_fields(p: Cursor, s: &[u8], seen: &[u8; 11]) -> FieldsAt
-    requires { ⌜ (length (now s) ≤ 65535) × (p .at + 64 ≤ 8 * length (now s)) ⌝ }
-    ensures { λ r. ⌜ ((e : ℕ) → Reads (headFields e (earlierOf (now (seen .entry))) .dec) (now (s .entry)) (p .at) (fieldsAt e r)) ⌝ }
+pub fn head_fields(p: Cursor, bytes: &[u8], seen: &[u8; 11]) -> FieldsAt
+    requires { ⌜ (length (now bytes) ≤ 65535) × (p .at + 64 ≤ 8 * length (now bytes)) ⌝ }
+    ensures { λ r. ⌜ ((e : ℕ) → Reads (headFields e (earlierOf (now (seen .entry))) .dec) (now (bytes .entry)) (p .at) (fieldsAt e r)) ⌝ }
 {
-    let number = p.sure(s, 8);
-    let position = number.next.sure(s, 8);
-    let impression = position.next.sure(s, 8);
-    let quality = impression.next.sure(s, 8);
-    let width = quality.next.sure(s, 16);
-    let height = width.next.sure(s, 16);
+    let number = p.sure(bytes, 8);
+    let position = number.next.sure(bytes, 8);
+    let impression = position.next.sure(bytes, 8);
+    let quality = impression.next.sure(bytes, 8);
+    let width = quality.next.sure(bytes, 16);
+    let height = width.next.sure(bytes, 16);
     let finger = position.value;
     if number.value != earlier(seen, finger) {
         return FieldsAt::Wrong(p.at);
@@ -86,18 +86,18 @@ pub fn head_fields(p: Cursor, s: &[u8], seen: &[u8; 11]) -> FieldsAt
 }
 
 // The header at byte a, with the skeleton's length.
-pub fn head_at(s: &[u8], a: usize, seen: &[u8; 11]) -> Headed
-    requires { ⌜ (length (now s) ≤ 32768) × (a ≤ length (now s)) ⌝ }
-    ensures { λ r. ⌜ Reads (headDec (now (seen .entry))) (now (s .entry)) (8 * a) (headAt a r) ⌝ }
+pub fn head_at(bytes: &[u8], a: usize, seen: &[u8; 11]) -> Headed
+    requires { ⌜ (length (now bytes) ≤ 32768) × (a ≤ length (now bytes)) ⌝ }
+    ensures { λ r. ⌜ Reads (headDec (now (seen .entry))) (now (bytes .entry)) (8 * a) (headAt a r) ⌝ }
 {
     let at = 8 * a;
-    if s.len() - a < 10 {
+    if bytes.len() - a < 10 {
         return Headed::Refused(Refusal::PAST, at);
     }
-    match head_fields(Cursor { at }, s, seen) {
+    match head_fields(Cursor { at }, bytes, seen) {
         FieldsAt::Wrong(p) => Headed::Refused(Refusal::BAD_VIEW, p),
         FieldsAt::At(head, p) => {
-            let len = p.sure(s, 16);
+            let len = p.sure(bytes, 16);
             Headed::At(head, len.value)
         }
     }

@@ -14,7 +14,7 @@ use judge_blocks::Reached;
 use judge_blocks::index::index_at;
 use judge_blocks::segments::segments_at;
 use judge_ends::Cleared;
-use judge_ends::Ended;
+use judge_ends::EndAt;
 use judge_ends::end_at;
 use judge_ends::zeros_at;
 use judge_heads::view::Headed;
@@ -28,9 +28,9 @@ struct Opened {
 }
 
 // The views, from byte 24 on; seen counts those of each position, size the bytes in the sheet.
-pub fn judge_views(s: &[u8], w: Widths, count: usize) -> Reached
-    requires { ⌜ (24 ≤ length (now s)) × (length (now s) ≤ 32768) × (count ≤ 255) × (w .b ≤ 8) × (w .c ≤ 16) × (w .k ≤ 8) ⌝ }
-    ensures { λ r. ⌜ Reads (viewsDec w count) (now (s .entry)) 192 (reached r) × (sheetBytes r ≤ 137438953472) ⌝ }
+pub fn judge_views(bytes: &[u8], w: Widths, count: usize) -> Reached
+    requires { ⌜ (24 ≤ length (now bytes)) × (length (now bytes) ≤ 32768) × (count ≤ 255) × (w .b ≤ 8) × (w .c ≤ 16) × (w .k ≤ 8) ⌝ }
+    ensures { λ r. ⌜ Reads (viewsDec w count) (now (bytes .entry)) 192 (reached r) × (sheetBytes r ≤ 137438953472) ⌝ }
 {
     let mut answer = Reached::At { next: 0, size: 0 };
     let mut seen = [0u8; 11];
@@ -38,7 +38,7 @@ pub fn judge_views(s: &[u8], w: Widths, count: usize) -> Reached
     let mut size: usize = 0;
     let mut v: usize = 0;
     'views: while v < count {
-        let head = match head_at(s, a, &seen) {
+        let head = match head_at(bytes, a, &seen) {
             Headed::At(h, len) => Opened {
                 position: h.position,
                 len,
@@ -50,12 +50,12 @@ pub fn judge_views(s: &[u8], w: Widths, count: usize) -> Reached
         };
         let len = head.len;
         let b = a + 10;
-        if s.len() - b < len {
+        if bytes.len() - b < len {
             answer = Reached::Refused(Refusal::PAST, 8 * b);
             break 'views;
         }
         let e = b + len;
-        let block = &s[b..e];
+        let block = &bytes[b..e];
         let end = 8 * block.len();
         let mut p = Cursor::start();
         let mut lines: usize = 0;
@@ -66,7 +66,7 @@ pub fn judge_views(s: &[u8], w: Widths, count: usize) -> Reached
                 answer = Reached::Refused(Refusal::TOO_MANY_LINES, place);
                 break 'views;
             }
-            let Ended::At(_, p1) = end_at(p, block, w) else {
+            let EndAt::At(_, p1) = end_at(p, block, w) else {
                 answer = Reached::Refused(Refusal::BAD_LINE, place);
                 break 'views;
             };
@@ -84,7 +84,7 @@ pub fn judge_views(s: &[u8], w: Widths, count: usize) -> Reached
                 p = p3;
                 i = i + 1;
             }
-            let Ended::At(_, p4) = end_at(p, block, w) else {
+            let EndAt::At(_, p4) = end_at(p, block, w) else {
                 answer = Reached::Refused(Refusal::BAD_LINE, place);
                 break 'views;
             };
@@ -96,7 +96,7 @@ pub fn judge_views(s: &[u8], w: Widths, count: usize) -> Reached
             answer = Reached::Refused(Refusal::BAD_LINE, 8 * b + q);
             break 'views;
         }
-        let index = index_at(s, e, n);
+        let index = index_at(bytes, e, n);
         let Reached::At {
             next: f,
             size: lists,
@@ -105,7 +105,7 @@ pub fn judge_views(s: &[u8], w: Widths, count: usize) -> Reached
             answer = index;
             break 'views;
         };
-        let segments = segments_at(s, f);
+        let segments = segments_at(bytes, f);
         let Reached::At {
             next: g,
             size: payloads,

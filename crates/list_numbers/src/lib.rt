@@ -21,21 +21,21 @@ pub struct Listed {
     pub next: usize,
 }
 
-// The pairs in the index block s of a view with so many lines: each line's count is read, and its differences are passed.
-fn count_pairs(s: &[u8], lines: usize) -> usize
-    requires { ⌜ BlockThere (indexBlock lines) (now s) ⌝ }
-    ensures { λ r. ⌜ PairsCounted lines (now (s .entry)) r ⌝ }
+// The pairs in the index block `block` of a view with so many lines: each line's count is read, and its differences are passed.
+fn count_pairs(block: &[u8], lines: usize) -> usize
+    requires { ⌜ BlockThere (indexBlock lines) (now block) ⌝ }
+    ensures { λ r. ⌜ PairsCounted lines (now (block .entry)) r ⌝ }
 {
-    if s.len() == 0 {
+    if block.len() == 0 {
         return 0;
     }
-    let width = Cursor::start().sure(s, 8);
+    let width = Cursor::start().sure(block, 8);
     let w = width.value;
     let mut at: usize = 8;
     let mut pairs: usize = 0;
     let mut l: usize = 0;
     while l < lines {
-        let count = Cursor { at }.sure(s, w);
+        let count = Cursor { at }.sure(block, w);
         pairs += count.value;
         at += w + count.value * w;
         l += 1;
@@ -44,22 +44,22 @@ fn count_pairs(s: &[u8], lines: usize) -> usize
 }
 
 // The view that starts at byte a.
-pub fn listed_at(s: &[u8], a: usize, w: Widths) -> Listed
-    requires { ⌜ ListedThere w (now s) a ⌝ }
-    ensures { λ r. ⌜ ListedAt w (now (s .entry)) a r ⌝ }
+pub fn listed_at(bytes: &[u8], a: usize, w: Widths) -> Listed
+    requires { ⌜ ListedThere w (now bytes) a ⌝ }
+    ensures { λ r. ⌜ ListedAt w (now (bytes .entry)) a r ⌝ }
 {
-    let number = Cursor { at: 8 * a }.sure(s, 8);
-    let position = Cursor { at: 8 * a + 8 }.sure(s, 8);
-    let blocks = blocks_at(s, a + 8);
+    let number = Cursor { at: 8 * a }.sure(bytes, 8);
+    let position = Cursor { at: 8 * a + 8 }.sure(bytes, 8);
+    let blocks = blocks_at(bytes, a + 8);
     let skeleton = blocks.skeleton.from;
     let skeleton_end = blocks.skeleton.to;
-    let lines = pass_lines(&s[skeleton..skeleton_end], w, ViewHeader::MOST_LINES);
+    let lines = pass_lines(&bytes[skeleton..skeleton_end], w, ViewHeader::MOST_LINES);
     let index = blocks.index.from;
     let index_end = blocks.index.to;
-    let pairs = count_pairs(&s[index..index_end], lines.count);
+    let pairs = count_pairs(&bytes[index..index_end], lines.count);
     let extended = blocks.extended.from;
     let next = blocks.extended.to;
-    let segments = pass_segments(&s[extended..next], next - extended);
+    let segments = pass_segments(&bytes[extended..next], next - extended);
     Listed {
         position: position.value,
         number: number.value,

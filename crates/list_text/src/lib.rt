@@ -72,13 +72,13 @@ fn view_line(v: Listed)
 }
 
 // The lines of the views of an accepted record.
-fn view_lines(s: &[u8], w: Widths, count: usize)
-    requires { ⌜ ViewsThere w count (now s) ⌝ }
+fn view_lines(bytes: &[u8], w: Widths, count: usize)
+    requires { ⌜ ViewsThere w count (now bytes) ⌝ }
 {
     let mut a: usize = Header::BYTES;
     let mut i: usize = 0;
     while i < count {
-        let v = listed_at(s, a, w);
+        let v = listed_at(bytes, a, w);
         a = v.next;
         view_line(v);
         i += 1;
@@ -86,17 +86,17 @@ fn view_lines(s: &[u8], w: Widths, count: usize)
 }
 
 // The listing of any bytes.
-pub fn listing(s: &[u8]) {
-    match judge(s) {
+pub fn listing(bytes: &[u8]) {
+    match judge(bytes) {
         Verdict::Refused(number, _) => refused(number),
         Verdict::Accepted {
             header,
             views,
             size: _,
         } => {
-            record_line(s.len(), views);
+            record_line(bytes.len(), views);
             let scale = header.scale;
-            view_lines(s, scale.widths, views);
+            view_lines(bytes, scale.widths, views);
         }
     }
 }

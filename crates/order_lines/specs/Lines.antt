@@ -11,7 +11,7 @@ use Rattle.put_bytes.specs.Laid.{Laid}
 use Rattle.format.specs.Line.{Line, FitsLine, line, skeleton}
 use Rattle.format.specs.Record.{Narrow}
 use Rattle.format.specs.declared.Widths.{Widths}
-use Rattle.orders.specs.Listed.{listed}
+use Rattle.orders.specs.Listed.{removalLines}
 use Rattle.order_removal.specs.Rank.{Rising}
 use Rattle.order_removal.specs.Kept.{kept}
 
@@ -21,7 +21,7 @@ keptFrom rs l xs = kept (λ i x. x) rs l xs
 
 -- their block
 abbrev pub keptBlock : Widths → List ℕ → List Line → List ℕ
-keptBlock w removal ls = inBytes (skeleton w .enc (keptFrom (listed removal) 0 ls))
+keptBlock w removal ls = inBytes (skeleton w .enc (keptFrom (removalLines removal) 0 ls))
 
 -- lines stand from place p of the block s on, and the bits u follow them
 pub record LinesAt (w : Widths) (s : List ℕ) (p : ℕ) (ls : List Line) (u : Bits) : Type 0 where

@@ -13,7 +13,7 @@ use Rattle.put_bytes.specs.Laid.{Laid}
 use Rattle.format.specs.Differences.{Falls}
 use Rattle.format.specs.Index.{Index, indexBlock, up}
 use Rattle.orders.specs.Least.{leastWidth, indexOf}
-use Rattle.orders.specs.Listed.{listed}
+use Rattle.orders.specs.Listed.{removalLines}
 use Rattle.order_removal.specs.Rank.{Rising}
 use Rattle.order_lists.specs.Lists.{newFrom}
 use Rattle.order_lists.specs.declared.lists.Change.{Change}
@@ -21,7 +21,7 @@ use Rattle.order_lists.specs.declared.index.Size.{Size}
 
 -- the lists that the order leaves of an index
 abbrev pub left : List ℕ → Change → Index → List (List ℕ)
-left removal ch i = newFrom (listed removal) ch 0 (i .lists)
+left removal ch i = newFrom (removalLines removal) ch 0 (i .lists)
 
 -- the bytes of the new block; how many lines it is for does not change them
 abbrev pub newBlock : List ℕ → Change → Index → List ℕ

@@ -9,7 +9,7 @@ use Rattle.format.specs.Differences.{Falls, diffs}
 use Rattle.format.specs.Index.{FitsList, neighbours}
 use Rattle.put_bits.specs.Put.{Puts, Room}
 use Rattle.orders.specs.Least.{maxOf}
-use Rattle.orders.specs.Listed.{listed}
+use Rattle.orders.specs.Listed.{removalLines}
 use Rattle.order_removal.specs.Rank.{Rising}
 use Rattle.order_lists.specs.Walk.{putIn, stayed, WalkAt}
 use Rattle.order_lists.specs.declared.list.OldList.{OldList}
@@ -17,7 +17,7 @@ use Rattle.order_lists.specs.declared.list.Numbers.{Numbers}
 
 -- what its lines ns become: x .low is put in where it waits, x .drop and the lines of the removal are gone
 abbrev pub become : OldList → List ℕ → List ℕ → List ℕ
-become x removal ns = stayed (listed removal) (x .drop) (putIn (x .walk .waiting) (x .low) ns)
+become x removal ns = stayed (removalLines removal) (x .drop) (putIn (x .walk .waiting) (x .low) ns)
 
 pub record ListThere (w : ℕ) (s : List ℕ) (x : OldList) (removal : List ℕ) : Type 0 where
   pub narrow : w ≤ 16

@@ -13,7 +13,7 @@ use Rattle.format.specs.Differences.{Falls}
 use Rattle.format.specs.Index.{FitsList, neighbours, up}
 use Rattle.put_bits.specs.Put.{Puts, Room}
 use Rattle.orders.specs.Least.{maxOf, numbersFrom}
-use Rattle.orders.specs.Listed.{listed}
+use Rattle.orders.specs.Listed.{removalLines}
 use Rattle.order_removal.specs.Rank.{Rising}
 use Rattle.order_removal.specs.Kept.{kept}
 use Rattle.order_lists.specs.Walk.{putIn, stayed, WalkAt}
@@ -80,21 +80,21 @@ pub record ListsThere (w : ℕ) (s : List ℕ) (lines : ℕ) (ch : Change) (remo
   pub behind : Bits
   pub at : ListsAt w s 0 8 value behind
   pub count : length value ≡ lines
-  pub falls : Along up (Falls 0) 0 (newFrom (listed removal) ch 0 value)
+  pub falls : Along up (Falls 0) 0 (newFrom (removalLines removal) ch 0 value)
 
 pub record ListsNumbered (w : ℕ) (s : List ℕ) (lines : ℕ) (ch : Change) (removal : List ℕ) (r : Totals) : Type 0 where
-  pub is : (ls : List (List ℕ)) (u : Bits) → ListsAt w s 0 8 ls u → length ls ≡ lines → Along up (Falls 0) 0 (newFrom (listed removal) ch 0 ls)
-      → (r .lists ≡ length (newFrom (listed removal) ch 0 ls)) × (r .entries ≡ total length (newFrom (listed removal) ch 0 ls))
-      × (r .most ≡ maxOf (numbersFrom 0 (newFrom (listed removal) ch 0 ls)))
+  pub is : (ls : List (List ℕ)) (u : Bits) → ListsAt w s 0 8 ls u → length ls ≡ lines → Along up (Falls 0) 0 (newFrom (removalLines removal) ch 0 ls)
+      → (r .lists ≡ length (newFrom (removalLines removal) ch 0 ls)) × (r .entries ≡ total length (newFrom (removalLines removal) ch 0 ls))
+      × (r .most ≡ maxOf (numbersFrom 0 (newFrom (removalLines removal) ch 0 ls)))
 
 -- ---- all lists put at a width, behind the byte that says it
 
 pub record ListsPutThere (w : ℕ) (s : List ℕ) (lines : ℕ) (ch : Change) (removal : List ℕ) (width : ℕ) (out : List ℕ) : Type 0 where
   pub there : ListsThere w s lines ch removal
   pub narrow : width ≤ 16
-  pub fits : Along up (FitsList width) 0 (newFrom (listed removal) ch 0 (there .value))
-  pub room : Room out 8 (length (encAlong (neighbours width) up 0 (newFrom (listed removal) ch 0 (there .value))))
+  pub fits : Along up (FitsList width) 0 (newFrom (removalLines removal) ch 0 (there .value))
+  pub room : Room out 8 (length (encAlong (neighbours width) up 0 (newFrom (removalLines removal) ch 0 (there .value))))
 
 pub record ListsPut (w : ℕ) (s : List ℕ) (lines : ℕ) (ch : Change) (removal : List ℕ) (width : ℕ) (old now : List ℕ) (r : ℕ) : Type 0 where
-  pub is : (ls : List (List ℕ)) (u : Bits) → ListsAt w s 0 8 ls u → length ls ≡ lines → Along up (FitsList width) 0 (newFrom (listed removal) ch 0 ls)
-      → Puts (encAlong (neighbours width) up 0 (newFrom (listed removal) ch 0 ls)) old 8 now r
+  pub is : (ls : List (List ℕ)) (u : Bits) → ListsAt w s 0 8 ls u → length ls ≡ lines → Along up (FitsList width) 0 (newFrom (removalLines removal) ch 0 ls)
+      → Puts (encAlong (neighbours width) up 0 (newFrom (removalLines removal) ch 0 ls)) old 8 now r

@@ -13,13 +13,13 @@ pub struct Size {
     pub bytes: usize,
 }
 
-// The size of the new index block. The old one is s, of a view with `lines` lines.
-pub fn index_size(s: &[u8], lines: usize, change: Change, removal: &[u8]) -> Size
-    requires { ⌜ IndexThere (now s) lines change (now removal) ⌝ }
-    ensures { λ r. ⌜ IndexSized (now (s .entry)) lines change (now (removal .entry)) r ⌝ }
+// The size of the new index block. The old one is `block`, of a view with `lines` lines.
+pub fn index_size(block: &[u8], lines: usize, change: Change, removal: &[u8]) -> Size
+    requires { ⌜ IndexThere (now block) lines change (now removal) ⌝ }
+    ensures { λ r. ⌜ IndexSized (now (block .entry)) lines change (now (removal .entry)) r ⌝ }
 {
-    let w = Cursor::start().sure(s, 8);
-    let totals = lists_numbers(s, w.value, lines, change, removal);
+    let w = Cursor::start().sure(block, 8);
+    let totals = lists_numbers(block, w.value, lines, change, removal);
     let width = least_width(totals.most);
     Size {
         width,
@@ -30,17 +30,17 @@ pub fn index_size(s: &[u8], lines: usize, change: Change, removal: &[u8]) -> Siz
 // The new index block, with numbers of `width` bits, put at the start of `out`; the answer is how many bytes it has.
 pub fn index_put(
     out: &mut [u8],
-    s: &[u8],
+    block: &[u8],
     lines: usize,
     change: Change,
     removal: &[u8],
     width: usize,
 ) -> usize
-    requires { ⌜ IndexPutThere (now s) lines change (now removal) width (now out) ⌝ }
-    ensures { λ r. ⌜ IndexPut (now (s .entry)) lines change (now (removal .entry)) (now (out .entry)) (now (out .exit)) r ⌝ }
+    requires { ⌜ IndexPutThere (now block) lines change (now removal) width (now out) ⌝ }
+    ensures { λ r. ⌜ IndexPut (now (block .entry)) lines change (now (removal .entry)) (now (out .entry)) (now (out .exit)) r ⌝ }
 {
-    let w = Cursor::start().sure(s, 8);
+    let w = Cursor::start().sure(block, 8);
     put_bits(out, 0, width, 8);
-    let end = lists_put(out, s, w.value, lines, change, removal, width);
+    let end = lists_put(out, block, w.value, lines, change, removal, width);
     (end + 7) / 8
 }

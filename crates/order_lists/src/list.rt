@@ -30,17 +30,17 @@ pub fn larger(a: usize, b: usize) -> usize
     if a < b { b } else { a }
 }
 
-// What the list `list` becomes, measured. It stands in the index block s, whose numbers have w bits.
-pub fn list_numbers(s: &[u8], w: usize, list: OldList, removal: &[u8]) -> Numbers
-    requires { ⌜ ListThere w (now s) list (now removal) ⌝ }
-    ensures { λ r. ⌜ Numbered w (now (s .entry)) list (now (removal .entry)) r ⌝ }
+// What the list `list` becomes, measured. It stands in the index block `block`, whose numbers have w bits.
+pub fn list_numbers(block: &[u8], w: usize, list: OldList, removal: &[u8]) -> Numbers
+    requires { ⌜ ListThere w (now block) list (now removal) ⌝ }
+    ensures { λ r. ⌜ Numbered w (now (block .entry)) list (now (removal .entry)) r ⌝ }
 {
     let mut k = list.walk;
     let mut before = list.own;
     let mut count: usize = 0;
     let mut most: usize = 0;
     while 0 < k.left + k.waiting {
-        let step = step_on(s, w, k, list.low);
+        let step = step_on(block, w, k, list.low);
         k = step.next;
         let Fate::Stays(line) = fate_of(removal, list.drop, step.line) else {
             continue;
@@ -57,21 +57,21 @@ pub fn list_numbers(s: &[u8], w: usize, list: OldList, removal: &[u8]) -> Number
 pub fn list_put(
     out: &mut [u8],
     at: usize,
-    s: &[u8],
+    block: &[u8],
     w: usize,
     list: OldList,
     removal: &[u8],
     width: usize,
 ) -> usize
-    requires { ⌜ PutThere w (now s) list (now removal) width (now out) at ⌝ }
-    ensures { λ r. ⌜ ListPut w (now (s .entry)) list (now (removal .entry)) width (now (out .entry)) at (now (out .exit)) r ⌝ }
+    requires { ⌜ PutThere w (now block) list (now removal) width (now out) at ⌝ }
+    ensures { λ r. ⌜ ListPut w (now (block .entry)) list (now (removal .entry)) width (now (out .entry)) at (now (out .exit)) r ⌝ }
 {
     let mut p = put_bits(out, at, 0, width);
     let mut k = list.walk;
     let mut before = list.own;
     let mut count: usize = 0;
     while 0 < k.left + k.waiting {
-        let step = step_on(s, w, k, list.low);
+        let step = step_on(block, w, k, list.low);
         k = step.next;
         let Fate::Stays(line) = fate_of(removal, list.drop, step.line) else {
             continue;

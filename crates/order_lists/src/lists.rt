@@ -60,12 +60,12 @@ fn left_out_at(change: Change, l: usize) -> usize
     }
 }
 
-// Line l's list, which starts at place p of the index block s, with numbers of w bits; `waiting` lines are to be put into it.
-pub fn list_at(s: &[u8], w: usize, p: usize, l: usize, waiting: usize) -> Entry
-    requires { ⌜ EntryThere w (now s) p l waiting ⌝ }
-    ensures { λ r. ⌜ EntryAt w (now (s .entry)) p l waiting r ⌝ }
+// Line l's list, which starts at place p of the index block `block`, with numbers of w bits; `waiting` lines are to be put into it.
+pub fn list_at(block: &[u8], w: usize, p: usize, l: usize, waiting: usize) -> Entry
+    requires { ⌜ EntryThere w (now block) p l waiting ⌝ }
+    ensures { λ r. ⌜ EntryAt w (now (block .entry)) p l waiting r ⌝ }
 {
-    let count = Cursor { at: p }.sure(s, w);
+    let count = Cursor { at: p }.sure(block, w);
     let at = p + w;
     let left = count.value;
     let walk = ListWalk {
@@ -80,10 +80,10 @@ pub fn list_at(s: &[u8], w: usize, p: usize, l: usize, waiting: usize) -> Entry
     }
 }
 
-// The lists after the order, measured, from those of `lines` lines in the index block s, with numbers of w bits.
-pub fn lists_numbers(s: &[u8], w: usize, lines: usize, change: Change, removal: &[u8]) -> Totals
-    requires { ⌜ ListsThere w (now s) lines change (now removal) ⌝ }
-    ensures { λ r. ⌜ ListsNumbered w (now (s .entry)) lines change (now (removal .entry)) r ⌝ }
+// The lists after the order, measured, from those of `lines` lines in the index block `block`, with numbers of w bits.
+pub fn lists_numbers(block: &[u8], w: usize, lines: usize, change: Change, removal: &[u8]) -> Totals
+    requires { ⌜ ListsThere w (now block) lines change (now removal) ⌝ }
+    ensures { λ r. ⌜ ListsNumbered w (now (block .entry)) lines change (now (removal .entry)) r ⌝ }
 {
     let mut p: usize = 8;
     let mut l: usize = 0;
@@ -93,7 +93,7 @@ pub fn lists_numbers(s: &[u8], w: usize, lines: usize, change: Change, removal: 
     while l < lines {
         let waiting = waiting_at(change, l);
         let drop = left_out_at(change, l);
-        let found = list_at(s, w, p, l, waiting);
+        let found = list_at(block, w, p, l, waiting);
         let rank = rank_of(removal, l);
         p = found.next;
         l += 1;
@@ -107,7 +107,7 @@ pub fn lists_numbers(s: &[u8], w: usize, lines: usize, change: Change, removal: 
             drop,
             own: lists,
         };
-        let numbers = list_numbers(s, w, list, removal);
+        let numbers = list_numbers(block, w, list, removal);
         entries += numbers.count;
         most = larger(most, larger(numbers.count, numbers.most));
         lists += 1;
@@ -123,15 +123,15 @@ pub fn lists_numbers(s: &[u8], w: usize, lines: usize, change: Change, removal: 
 // the place behind them.
 pub fn lists_put(
     out: &mut [u8],
-    s: &[u8],
+    block: &[u8],
     w: usize,
     lines: usize,
     change: Change,
     removal: &[u8],
     width: usize,
 ) -> usize
-    requires { ⌜ ListsPutThere w (now s) lines change (now removal) width (now out) ⌝ }
-    ensures { λ r. ⌜ ListsPut w (now (s .entry)) lines change (now (removal .entry)) width (now (out .entry)) (now (out .exit)) r ⌝ }
+    requires { ⌜ ListsPutThere w (now block) lines change (now removal) width (now out) ⌝ }
+    ensures { λ r. ⌜ ListsPut w (now (block .entry)) lines change (now (removal .entry)) width (now (out .entry)) (now (out .exit)) r ⌝ }
 {
     let mut q: usize = 8;
     let mut p: usize = 8;
@@ -140,7 +140,7 @@ pub fn lists_put(
     while l < lines {
         let waiting = waiting_at(change, l);
         let drop = left_out_at(change, l);
-        let found = list_at(s, w, p, l, waiting);
+        let found = list_at(block, w, p, l, waiting);
         let rank = rank_of(removal, l);
         p = found.next;
         l += 1;
@@ -154,7 +154,7 @@ pub fn lists_put(
             drop,
             own: lists,
         };
-        q = list_put(out, q, s, w, list, removal, width);
+        q = list_put(out, q, block, w, list, removal, width);
         lists += 1;
     }
     q

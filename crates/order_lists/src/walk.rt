@@ -1,6 +1,6 @@
 // One list of neighbours as an order leaves it, line by line: what stands in the block, with a line put in or left out, and with the
 // lines that a removal names left out and the others renumbered.
-ghost use Rattle.orders.specs.Listed.{listed};
+ghost use Rattle.orders.specs.Listed.{removalLines};
 ghost use Rattle.order_removal.specs.Rank.{Rising};
 ghost use Rattle.order_lists.specs.Walk.{WalkThere, Steps, Fares};
 use bits::Cursor;
@@ -27,11 +27,11 @@ pub enum Fate {
     Gone,
 }
 
-// The next line of the list at `k`, which is not at its end. Its differences stand in the index block s and have w bits; `low` is the
+// The next line of the list at `k`, which is not at its end. Its differences stand in the index block `block` and have w bits; `low` is the
 // line to be put in.
-pub fn step_on(s: &[u8], w: usize, k: ListWalk, low: usize) -> Step
-    requires { ⌜ WalkThere w (now s) k ⌝ }
-    ensures { λ r. ⌜ Steps w (now (s .entry)) k low r ⌝ }
+pub fn step_on(block: &[u8], w: usize, k: ListWalk, low: usize) -> Step
+    requires { ⌜ WalkThere w (now block) k ⌝ }
+    ensures { λ r. ⌜ Steps w (now (block .entry)) k low r ⌝ }
 {
     let at = k.at;
     let left = k.left;
@@ -48,7 +48,7 @@ pub fn step_on(s: &[u8], w: usize, k: ListWalk, low: usize) -> Step
             next: put,
         };
     }
-    let d = Cursor { at }.sure(s, w);
+    let d = Cursor { at }.sure(block, w);
     let line = base - d.value;
     let next = ListWalk {
         at: at + w,
@@ -71,7 +71,7 @@ pub fn step_on(s: &[u8], w: usize, k: ListWalk, low: usize) -> Step
 // What becomes of line `line` in a list that leaves `drop` out, under the removal.
 pub fn fate_of(removal: &[u8], drop: usize, line: usize) -> Fate
     requires { ⌜ Rising (now removal) ⌝ }
-    ensures { λ r. ⌜ Fares (listed (now (removal .entry))) drop line r ⌝ }
+    ensures { λ r. ⌜ Fares (removalLines (now (removal .entry))) drop line r ⌝ }
 {
     if line == drop {
         return Fate::Gone;

@@ -7,13 +7,13 @@ use order_lists::walk::ListWalk;
 use order_lists::walk::step_on;
 
 // Whether line `low` is in the list that `from` is at the start of. Its differences have w bits.
-fn list_has(s: &[u8], w: usize, from: ListWalk, low: usize) -> bool
-    requires { ⌜ HasThere w (now s) from ⌝ }
-    ensures { λ r. ⌜ Has w (now (s .entry)) from low r ⌝ }
+fn list_has(block: &[u8], w: usize, from: ListWalk, low: usize) -> bool
+    requires { ⌜ HasThere w (now block) from ⌝ }
+    ensures { λ r. ⌜ Has w (now (block .entry)) from low r ⌝ }
 {
     let mut k = from;
     while 0 < k.left {
-        let step = step_on(s, w, k, 0);
+        let step = step_on(block, w, k, 0);
         k = step.next;
         if step.line == low {
             return true;
@@ -22,29 +22,29 @@ fn list_has(s: &[u8], w: usize, from: ListWalk, low: usize) -> bool
     false
 }
 
-// The list of line `line` in the index block s: behind those of the lines before it. Counts and differences have w bits.
-fn list_of(s: &[u8], w: usize, line: usize) -> ListWalk
-    requires { ⌜ FindThere w (now s) line ⌝ }
-    ensures { λ r. ⌜ FoundAt w (now (s .entry)) line r ⌝ }
+// The list of line `line` in the index block `block`: behind those of the lines before it. Counts and differences have w bits.
+fn list_of(block: &[u8], w: usize, line: usize) -> ListWalk
+    requires { ⌜ FindThere w (now block) line ⌝ }
+    ensures { λ r. ⌜ FoundAt w (now (block .entry)) line r ⌝ }
 {
     let mut p: usize = 8;
     let mut l: usize = 0;
     while l < line {
-        let list = list_at(s, w, p, l, 0);
+        let list = list_at(block, w, p, l, 0);
         p = list.next;
         l += 1;
     }
-    let list = list_at(s, w, p, line, 0);
+    let list = list_at(block, w, p, line, 0);
     list.walk
 }
 
-// Whether line `low` is a neighbour of line `high`, which is not below it, by the index block s: being neighbours is written once, at
+// Whether line `low` is a neighbour of line `high`, which is not below it, by the index block `block`: being neighbours is written once, at
 // the higher line.
-pub fn are_near(s: &[u8], high: usize, low: usize) -> bool
-    requires { ⌜ NearThere (now s) high ⌝ }
-    ensures { λ r. ⌜ Near (now (s .entry)) high low r ⌝ }
+pub fn are_near(block: &[u8], high: usize, low: usize) -> bool
+    requires { ⌜ NearThere (now block) high ⌝ }
+    ensures { λ r. ⌜ Near (now (block .entry)) high low r ⌝ }
 {
-    let w = Cursor::start().sure(s, 8);
-    let list = list_of(s, w.value, high);
-    list_has(s, w.value, list, low)
+    let w = Cursor::start().sure(block, 8);
+    let list = list_of(block, w.value, high);
+    list_has(block, w.value, list, low)
 }

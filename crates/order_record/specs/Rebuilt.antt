@@ -11,7 +11,7 @@ use Rattle.format.specs.Index.{Index}
 use Rattle.format.specs.View.{View}
 use Rattle.format.specs.Record.{Record, read, size}
 use Rattle.format.specs.Places.{viewAt, count}
-use Rattle.orders.specs.Listed.{listed}
+use Rattle.orders.specs.Listed.{removalLines}
 use Rattle.orders.specs.Act.{Act, newLists, newLines}
 use Rattle.order_removal.specs.Rank.{Rising}
 use Rattle.find_parts.specs.Stored.{recordOut}
@@ -25,14 +25,14 @@ use Rattle.order_record.specs.declared.measure.Sizes.{Sizes}
 
 unfoldable pub newView : List ℕ → Change → View → View
 newView removal ch v =
-    record { head = v .head; lines = keptFrom (listed removal) 0 (v .lines); index = newIndex removal ch (v .index); segments = v .segments }
+    record { head = v .head; lines = keptFrom (removalLines removal) 0 (v .lines); index = newIndex removal ch (v .index); segments = v .segments }
 
 unfoldable pub newRecord : List ℕ → Change → ℕ → Record → Record
 newRecord removal ch i r = record { head = r .head; views = set (r .views) i (newView removal ch (viewAt r i)) }
 
 -- to the view v, the order of the definitions is that of code
 pub record Means (a : Act) (v : View) (removal : List ℕ) (ch : Change) : Type 0 where
-  pub lines : keptFrom (listed removal) 0 (v .lines) ≡ newLines a v
+  pub lines : keptFrom (removalLines removal) 0 (v .lines) ≡ newLines a v
   pub lists : (i : Index) → v .index ≡ some i → left removal ch i ≡ newLists a (count v) (i .lists)
 
 -- ---- s is a record's bytes, x is where the view stands that the order names, and the order keeps its lists right

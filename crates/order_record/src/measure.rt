@@ -17,43 +17,43 @@ pub struct Sizes {
     pub bytes: usize,
 }
 
-// How many bytes the new skeleton block has. The old one is s, of `lines` lines; a pair order removes none.
-fn skeleton_size(s: &[u8], w: Widths, lines: usize, removal: &[u8]) -> usize
-    requires { ⌜ OldSkeleton w (now s) lines (now removal) ⌝ }
-    ensures { λ r. ⌜ SkeletonMeasured w (now (s .entry)) (now (removal .entry)) r ⌝ }
+// How many bytes the new skeleton block has. The old one is `block`, of `lines` lines; a pair order removes none.
+fn skeleton_size(block: &[u8], w: Widths, lines: usize, removal: &[u8]) -> usize
+    requires { ⌜ OldSkeleton w (now block) lines (now removal) ⌝ }
+    ensures { λ r. ⌜ SkeletonMeasured w (now (block .entry)) (now (removal .entry)) r ⌝ }
 {
     if removal.len() == 0 {
-        return s.len();
+        return block.len();
     }
-    lines_size(s, w, lines, removal)
+    lines_size(block, w, lines, removal)
 }
 
-// The size of the new index block. The old one is s, of a view with `lines` lines; an empty one is no index, and stays empty.
-fn lists_size(s: &[u8], lines: usize, change: Change, removal: &[u8]) -> Size
-    requires { ⌜ OldIndex (now s) lines change (now removal) ⌝ }
-    ensures { λ r. ⌜ IndexMeasured (now (s .entry)) lines change (now (removal .entry)) r ⌝ }
+// The size of the new index block. The old one is `block`, of a view with `lines` lines; an empty one is no index, and stays empty.
+fn lists_size(block: &[u8], lines: usize, change: Change, removal: &[u8]) -> Size
+    requires { ⌜ OldIndex (now block) lines change (now removal) ⌝ }
+    ensures { λ r. ⌜ IndexMeasured (now (block .entry)) lines change (now (removal .entry)) r ⌝ }
 {
-    if s.len() == 0 {
+    if block.len() == 0 {
         return Size { width: 1, bytes: 0 };
     }
-    index_size(s, lines, change, removal)
+    index_size(block, lines, change, removal)
 }
 
-// The sizes of the new record. The old one is s, and `site` says where the view stands that the order names.
-pub fn measure(s: &[u8], site: Site, change: Change, removal: &[u8]) -> Sizes
-    requires { ⌜ Placed (now s) site change (now removal) ⌝ }
-    ensures { λ r. ⌜ Measured (now (s .entry)) site change (now (removal .entry)) r ⌝ }
+// The sizes of the new record. The old one is `old`, and `site` says where the view stands that the order names.
+pub fn measure(old: &[u8], site: Site, change: Change, removal: &[u8]) -> Sizes
+    requires { ⌜ Placed (now old) site change (now removal) ⌝ }
+    ensures { λ r. ⌜ Measured (now (old .entry)) site change (now (removal .entry)) r ⌝ }
 {
     let from = site.skeleton.from;
     let to = site.skeleton.to;
-    let skeleton = skeleton_size(&s[from..to], site.widths, site.lines, removal);
+    let skeleton = skeleton_size(&old[from..to], site.widths, site.lines, removal);
     let index = site.index.from;
     let end = site.index.to;
-    let lists = lists_size(&s[index..end], site.lines, change, removal);
+    let lists = lists_size(&old[index..end], site.lines, change, removal);
     Sizes {
         skeleton,
         width: lists.width,
         index: lists.bytes,
-        bytes: from + skeleton + 2 + lists.bytes + (s.len() - end),
+        bytes: from + skeleton + 2 + lists.bytes + (old.len() - end),
     }
 }

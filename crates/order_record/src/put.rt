@@ -10,77 +10,77 @@ use order_lists::lists::Change;
 use put_bytes::copy;
 use put_bytes::put_two;
 
-// The first bytes of the record s, up to byte `to`, with the record length `bytes`.
-fn head_put(out: &mut [u8], s: &[u8], to: usize, bytes: usize) -> usize
-    requires { ⌜ HeadRoom (now s) to bytes (now out) ⌝ }
-    ensures { λ r. ⌜ HeadLaid (now (s .entry)) to bytes (now (out .entry)) (now (out .exit)) r ⌝ }
+// The first bytes of the record `old`, up to byte `to`, with the record length `bytes`.
+fn head_put(out: &mut [u8], old: &[u8], to: usize, bytes: usize) -> usize
+    requires { ⌜ HeadRoom (now old) to bytes (now out) ⌝ }
+    ensures { λ r. ⌜ HeadLaid (now (old .entry)) to bytes (now (out .entry)) (now (out .exit)) r ⌝ }
 {
-    let mut at = copy(out, &s[0..10]);
+    let mut at = copy(out, &old[0..10]);
     at += put_two(&mut out[at..], bytes);
-    at += copy(&mut out[at..], &s[12..to]);
+    at += copy(&mut out[at..], &old[12..to]);
     at
 }
 
-// The length `bytes`, and behind it the new skeleton block. The old one is s, of `lines` lines, and a pair order copies it.
+// The length `bytes`, and behind it the new skeleton block. The old one is `block`, of `lines` lines, and a pair order copies it.
 fn skeleton_put(
     out: &mut [u8],
-    s: &[u8],
+    block: &[u8],
     w: Widths,
     lines: usize,
     removal: &[u8],
     bytes: usize,
 ) -> usize
-    requires { ⌜ SkeletonRoom w (now s) lines (now removal) bytes (now out) ⌝ }
-    ensures { λ r. ⌜ SkeletonLaid w (now (s .entry)) (now (removal .entry)) (now (out .entry)) (now (out .exit)) r ⌝ }
+    requires { ⌜ SkeletonRoom w (now block) lines (now removal) bytes (now out) ⌝ }
+    ensures { λ r. ⌜ SkeletonLaid w (now (block .entry)) (now (removal .entry)) (now (out .entry)) (now (out .exit)) r ⌝ }
 {
     let at = put_two(out, bytes);
     if removal.len() == 0 {
-        at + copy(&mut out[at..], s)
+        at + copy(&mut out[at..], block)
     } else {
-        at + lines_put(&mut out[at..], s, w, lines, removal)
+        at + lines_put(&mut out[at..], block, w, lines, removal)
     }
 }
 
-// The length `bytes`, and behind it the new index block, with numbers of `width` bits. The old one is s, of a view with `lines` lines.
+// The length `bytes`, and behind it the new index block, with numbers of `width` bits. The old one is `block`, of a view with `lines` lines.
 fn lists_put(
     out: &mut [u8],
-    s: &[u8],
+    block: &[u8],
     lines: usize,
     change: Change,
     removal: &[u8],
     width: usize,
     bytes: usize,
 ) -> usize
-    requires { ⌜ IndexRoom (now s) lines change (now removal) width bytes (now out) ⌝ }
-    ensures { λ r. ⌜ IndexLaid (now (s .entry)) lines change (now (removal .entry)) (now (out .entry)) (now (out .exit)) r ⌝ }
+    requires { ⌜ IndexRoom (now block) lines change (now removal) width bytes (now out) ⌝ }
+    ensures { λ r. ⌜ IndexLaid (now (block .entry)) lines change (now (removal .entry)) (now (out .entry)) (now (out .exit)) r ⌝ }
 {
     let at = put_two(out, bytes);
-    if s.len() == 0 {
+    if block.len() == 0 {
         return at;
     }
-    at + index_put(&mut out[at..], s, lines, change, removal, width)
+    at + index_put(&mut out[at..], block, lines, change, removal, width)
 }
 
-// The new record, whose sizes are `sizes`; the answer is how many bytes it has. The old one is s, and `site` says where the view
+// The new record, whose sizes are `sizes`; the answer is how many bytes it has. The old one is `old`, and `site` says where the view
 // stands that the order names.
 pub fn put(
     out: &mut [u8],
-    s: &[u8],
+    old: &[u8],
     site: Site,
     change: Change,
     removal: &[u8],
     sizes: Sizes,
 ) -> usize
-    requires { ⌜ RebuildRoom (now s) site change (now removal) sizes (now out) ⌝ }
-    ensures { λ r. ⌜ Rebuilt (now (s .entry)) site change (now (removal .entry)) sizes (now (out .entry)) (now (out .exit)) r ⌝ }
+    requires { ⌜ RebuildRoom (now old) site change (now removal) sizes (now out) ⌝ }
+    ensures { λ r. ⌜ Rebuilt (now (old .entry)) site change (now (removal .entry)) sizes (now (out .entry)) (now (out .exit)) r ⌝ }
 {
     let lines = site.lines;
     let from = site.skeleton.from;
     let to = site.skeleton.to;
-    let mut at = head_put(out, s, from - 2, sizes.bytes);
+    let mut at = head_put(out, old, from - 2, sizes.bytes);
     at += skeleton_put(
         &mut out[at..],
-        &s[from..to],
+        &old[from..to],
         site.widths,
         lines,
         removal,
@@ -90,13 +90,13 @@ pub fn put(
     let end = site.index.to;
     at += lists_put(
         &mut out[at..],
-        &s[index..end],
+        &old[index..end],
         lines,
         change,
         removal,
         sizes.width,
         sizes.index,
     );
-    at += copy(&mut out[at..], &s[end..]);
+    at += copy(&mut out[at..], &old[end..]);
     at
 }

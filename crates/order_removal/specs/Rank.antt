@@ -7,7 +7,7 @@ use lib.ListN.{length}
 use lib.Dec.{ltb}
 use Rattle.bits.specs.Choice.{pick}
 use Rattle.orders.specs.Survive.{elem, RisesFrom}
-use Rattle.orders.specs.Listed.{listed}
+use Rattle.orders.specs.Listed.{removalLines}
 use Rattle.order_removal.specs.declared.Rank.{Rank}
 
 -- how many of the numbers are below n
@@ -17,8 +17,8 @@ below (r ∷ rs) n = pick (ltb r n) (suc (below rs n)) (below rs n)
 
 -- the removal's bytes are a list that rises
 pub record Rising (removal : List ℕ) : Type 0 where
-  pub even : length removal ≡ 2 * length (listed removal)
-  pub rises : RisesFrom 0 (listed removal)
+  pub even : length removal ≡ 2 * length (removalLines removal)
+  pub rises : RisesFrom 0 (removalLines removal)
 
 pub record Ranked (rs : List ℕ) (n : ℕ) (r : Rank) : Type 0 where
   pub below : r .below ≡ below rs n

@@ -1,7 +1,7 @@
 // The list of a removal, as bytes: whether it names lines of a view, and what becomes of a line. The list rises, so that a line is
 // looked up by halving.
 ghost use mathlib.Core.Path.{_≡_};
-ghost use Rattle.orders.specs.Listed.{listed};
+ghost use Rattle.orders.specs.Listed.{removalLines};
 ghost use Rattle.orders.specs.Order.{linesOk};
 ghost use Rattle.order_removal.specs.Rank.{Rising, Ranked};
 use bits::two_at;
@@ -14,7 +14,7 @@ pub struct Rank {
 
 // Whether the list `removal` names lines of a view that has `count`: at least one, rising, each below `count`.
 pub fn lines_right(removal: &[u8], count: usize) -> bool
-    ensures { λ r. ⌜ r ≡ linesOk count (listed (now (removal .entry))) ⌝ }
+    ensures { λ r. ⌜ r ≡ linesOk count (removalLines (now (removal .entry))) ⌝ }
 {
     let size = removal.len();
     if size == 0 {
@@ -42,7 +42,7 @@ pub fn lines_right(removal: &[u8], count: usize) -> bool
 // Line n, in the list `removal`, which rises.
 pub fn rank_of(removal: &[u8], n: usize) -> Rank
     requires { ⌜ Rising (now removal) ⌝ }
-    ensures { λ r. ⌜ Ranked (listed (now (removal .entry))) n r ⌝ }
+    ensures { λ r. ⌜ Ranked (removalLines (now (removal .entry))) n r ⌝ }
 {
     let count = removal.len() / 2;
     let mut low: usize = 0;

@@ -3,7 +3,7 @@ use mathlib.Core.Path.{_≡_, refl}
 use Prim.Native.Nat.{ℕ}
 use mathlib.Core.List.{List, [], _∷_, _++_, map}
 use lib.ListN.{set}
-use Rattle.bits.specs.Bits.{numberOf, bitsOfNumber}
+use Rattle.bits.specs.Bits.{numberOfBits, bitsOfNumber}
 use Rattle.bits.specs.Bytes.{bitsOf, bytesOf}
 use Rattle.bits.specs.Codec.{thenDec, viaDec, onlyDec, judgedDec, wholeDec, roomDec}
 use Rattle.bits.specs.Block.{endedDec, sizedDec}
@@ -78,5 +78,5 @@ abbrev expected : Row → Outcome ℕ
 expected r = r .gives
 
 verdicts : map computed table ≡ map expected table
-unfolding numberOf bitsOfNumber bitsOf bytesOf thenDec viaDec onlyDec judgedDec wholeDec roomDec endedDec sizedDec mostLines leastBytes mostBytes end line skeleton index indexBlock segment segments view viewHeader header views recordOf read size write onRecord onView leastWidth near after edited tests allTests verdict order
+unfolding numberOfBits bitsOfNumber bitsOf bytesOf thenDec viaDec onlyDec judgedDec wholeDec roomDec endedDec sizedDec mostLines leastBytes mostBytes end line skeleton index indexBlock segment segments view viewHeader header views recordOf read size write onRecord onView leastWidth near after edited tests allTests verdict order
 verdicts = refl

@@ -3,13 +3,13 @@ use Prim.Native.Nat.{ℕ}
 use mathlib.Core.Bool.{Bool}
 use mathlib.Core.List.{List}
 use Rattle.bits.specs.Choice.{pick}
-use Rattle.orders.specs.Listed.{listed}
+use Rattle.orders.specs.Listed.{removalLines}
 use Rattle.orders.specs.Act.{Act, remove, join, part}
 use Rattle.orders.specs.Order.{Order}
 
 -- lines: the removal list's bytes
 abbrev pub removal : (view count : ℕ) → (lines : List ℕ) → Order
-removal view count lines = record { view = view; count = count; act = remove (listed lines) }
+removal view count lines = record { view = view; count = count; act = remove (removalLines lines) }
 
 abbrev pub pairAct : Bool → ℕ → ℕ → Act
 pairAct joins a b = pick joins (join a b) (part a b)

@@ -12,5 +12,5 @@ numbersIn [] = []
 numbersIn (b ∷ []) = []
 numbersIn (b ∷ c ∷ bs) = (b * 256 + c) ∷ numbersIn bs
 
-abbrev pub listed : List ℕ → List ℕ
-listed bytes = pick (eqb (length bytes % 2) 0) (numbersIn bytes) []
+abbrev pub removalLines : List ℕ → List ℕ
+removalLines bytes = pick (eqb (length bytes % 2) 0) (numbersIn bytes) []

@@ -1,7 +1,7 @@
 -- P1 to P11, computed.
 use mathlib.Core.Path.{_≡_, refl}
 use mathlib.Core.List.{map}
-use Rattle.bits.specs.Bits.{numberOf, bitsOfNumber}
+use Rattle.bits.specs.Bits.{numberOfBits, bitsOfNumber}
 use Rattle.bits.specs.Bytes.{bitsOf, bytesOf}
 use Rattle.bits.specs.Codec.{thenDec, viaDec, onlyDec, judgedDec, wholeDec, roomDec}
 use Rattle.bits.specs.Block.{endedDec, sizedDec, aheadDec, passDec, recastDec}
@@ -24,5 +24,5 @@ use Rattle.orders.specs.Order.{edited, tests, allTests, verdict, order}
 use Rattle.promises.specs.Samples.{result, expected, computed, table}
 
 pub samples : map computed table ≡ map expected table
-unfolding numberOf bitsOfNumber bitsOf bytesOf thenDec viaDec onlyDec judgedDec wholeDec roomDec endedDec sizedDec aheadDec passDec recastDec mostLines leastBytes mostBytes end line skeleton index indexBlock segment segments view viewHeader header views recordOf read size write onRecord onView tagged fields grammar headerValue viewHeadValue lineValue widthValue listValue segmentValue rawView rawOf sheetOf viewFrom recordFrom readSheet reading writing trail trailing leastWidth near after edited tests allTests verdict order extended result
+unfolding numberOfBits bitsOfNumber bitsOf bytesOf thenDec viaDec onlyDec judgedDec wholeDec roomDec endedDec sizedDec aheadDec passDec recastDec mostLines leastBytes mostBytes end line skeleton index indexBlock segment segments view viewHeader header views recordOf read size write onRecord onView tagged fields grammar headerValue viewHeadValue lineValue widthValue listValue segmentValue rawView rawOf sheetOf viewFrom recordFrom readSheet reading writing trail trailing leastWidth near after edited tests allTests verdict order extended result
 samples = refl

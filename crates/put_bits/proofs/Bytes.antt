@@ -9,7 +9,7 @@ use mathlib.Core.List.{List, [], _∷_, _++_, append-assoc, append-nil}
 use lib.ListN.{length, take, drop, length-append, length-drop, length-replicate, take-append-drop}
 use lib.Pow.{pow-pos, pow-add, high, low}
 use lib.Seq.{take-append-le, drop-append-le, take-all}
-use Rattle.bits.specs.Bits.{Bits, val, bit, numberOf, bitsOfNumber, zeros, pad, filled}
+use Rattle.bits.specs.Bits.{Bits, val, bit, numberOfBits, bitsOfNumber, zeros, pad, filled}
 use Rattle.bits.specs.BitsLaws.{number-lt, filled-long}
 use Rattle.bits.specs.Bytes.{bytesOf, inBytes}
 use Rattle.bits.specs.BytesLaws.{length-in}
@@ -19,15 +19,15 @@ use Rattle.bits.specs.BytesLaws.{length-in}
 spread : (v p n q m : ℕ) → v * (p * q) + (n * q + m) ≡ (v * p + n) * q + m
 spread v p n q m = simp (add-mul, mul-assoc, add-assoc)
 
-pub number-append : (xs ys : Bits) → numberOf (xs ++ ys) ≡ numberOf xs * 2 ^ length ys + numberOf ys
-unfolding numberOf
+pub number-append : (xs ys : Bits) → numberOfBits (xs ++ ys) ≡ numberOfBits xs * 2 ^ length ys + numberOfBits ys
+unfolding numberOfBits
 number-append [] ys = omega arith
 number-append (b ∷ xs) ys =
     ap₂ (λ (n m : ℕ). val b * n + m) (ap (λ (k : ℕ). 2 ^ k) (length-append xs ys) ∙ pow-add 2 (length xs) (length ys)) (number-append xs ys)
-    ∙ spread (val b) (2 ^ length xs) (numberOf xs) (2 ^ length ys) (numberOf ys)
+    ∙ spread (val b) (2 ^ length xs) (numberOfBits xs) (2 ^ length ys) (numberOfBits ys)
 
-pub number-zeros : (n : ℕ) → numberOf (zeros n) ≡ 0
-unfolding numberOf
+pub number-zeros : (n : ℕ) → numberOfBits (zeros n) ≡ 0
+unfolding numberOfBits
 number-zeros zero = refl
 number-zeros (suc n) = omega (arith, number-zeros n)
 
@@ -37,12 +37,12 @@ zero-bits zero = refl
 zero-bits (suc w) = ap₂ (λ (n : ℕ) (r : Bits). bit (n % 2) ∷ r) (div-eq-of-lt (pow-pos w)) (zero-bits w)
 
 -- n zero bits behind
-pub number-filled : (xs : Bits) (n : ℕ) → numberOf (xs ++ zeros n) ≡ numberOf xs * 2 ^ n
+pub number-filled : (xs : Bits) (n : ℕ) → numberOfBits (xs ++ zeros n) ≡ numberOfBits xs * 2 ^ n
 number-filled xs n =
-    number-append xs (zeros n) ∙ ap₂ (λ (k m : ℕ). numberOf xs * 2 ^ k + m) (length-replicate n false) (number-zeros n) ∙ omega arith
+    number-append xs (zeros n) ∙ ap₂ (λ (k m : ℕ). numberOfBits xs * 2 ^ k + m) (length-replicate n false) (number-zeros n) ∙ omega arith
 
-pub number-none : (xs : Bits) → length xs ≡ 0 → numberOf xs ≡ 0
-unfolding numberOf
+pub number-none : (xs : Bits) → length xs ≡ 0 → numberOfBits xs ≡ 0
+unfolding numberOfBits
 number-none [] e = refl
 number-none (b ∷ xs) e = absurd (omega arith)
 
@@ -50,19 +50,19 @@ module _ (a b : ℕ) (xs : Bits) (l : length xs ≡ a + b) where
   length-rest : length (drop a xs) ≡ b
   length-rest = length-drop a xs ∙ omega arith
 
-  number-split : numberOf xs ≡ numberOf (take a xs) * 2 ^ b + numberOf (drop a xs)
+  number-split : numberOfBits xs ≡ numberOfBits (take a xs) * 2 ^ b + numberOfBits (drop a xs)
   number-split =
-      ap numberOf (sym (take-append-drop a xs)) ∙ number-append (take a xs) (drop a xs)
-      ∙ ap (λ (n : ℕ). numberOf (take a xs) * 2 ^ n + numberOf (drop a xs)) length-rest
+      ap numberOfBits (sym (take-append-drop a xs)) ∙ number-append (take a xs) (drop a xs)
+      ∙ ap (λ (n : ℕ). numberOfBits (take a xs) * 2 ^ n + numberOfBits (drop a xs)) length-rest
 
-  rest-lt : numberOf (drop a xs) < 2 ^ b
+  rest-lt : numberOfBits (drop a xs) < 2 ^ b
   rest-lt = rw length-rest at (number-lt (drop a xs))
 
-  pub number-take : numberOf (take a xs) ≡ numberOf xs / 2 ^ b
-  number-take = sym (ap (λ (n : ℕ). n / 2 ^ b) number-split ∙ high (numberOf (take a xs)) b rest-lt)
+  pub number-take : numberOfBits (take a xs) ≡ numberOfBits xs / 2 ^ b
+  number-take = sym (ap (λ (n : ℕ). n / 2 ^ b) number-split ∙ high (numberOfBits (take a xs)) b rest-lt)
 
-  pub number-drop : numberOf (drop a xs) ≡ numberOf xs % 2 ^ b
-  number-drop = sym (ap (λ (n : ℕ). n % 2 ^ b) number-split ∙ low (numberOf (take a xs)) b rest-lt)
+  pub number-drop : numberOfBits (drop a xs) ≡ numberOfBits xs % 2 ^ b
+  number-drop = sym (ap (λ (n : ℕ). n % 2 ^ b) number-split ∙ low (numberOfBits (take a xs)) b rest-lt)
 
 -- ---- bytesOf
 
@@ -74,7 +74,7 @@ bytes-append (suc n) m xs ys l =
     let e : suc n + m ≡ suc (n + m) = omega arith in
     let k : 8 ≤ length xs = omega arith in
     rw e
-    (ap₂ (λ (x : ℕ) (r : List ℕ). x ∷ r) (ap numberOf (take-append-le 8 xs ys k))
+    (ap₂ (λ (x : ℕ) (r : List ℕ). x ∷ r) (ap numberOfBits (take-append-le 8 xs ys k))
     (ap (bytesOf (n + m)) (drop-append-le 8 xs ys k) ∙ bytes-append n m (drop 8 xs) ys (length-drop 8 xs ∙ omega arith)))
 
 pub bytes-first : (n : ℕ) (xs ys : Bits) → length xs ≡ 8 * n → bytesOf n (xs ++ ys) ≡ bytesOf n xs
@@ -85,7 +85,7 @@ pub bytes-take : (m n : ℕ) (xs : Bits) → m ≤ n → take m (bytesOf n xs) �
 unfolding bytesOf
 bytes-take zero n xs l = refl
 bytes-take (suc m) zero xs l = absurd (omega arith)
-bytes-take (suc m) (suc n) xs l = ap (λ (r : List ℕ). numberOf (take 8 xs) ∷ r) (bytes-take m n (drop 8 xs) (omega arith))
+bytes-take (suc m) (suc n) xs l = ap (λ (r : List ℕ). numberOfBits (take 8 xs) ∷ r) (bytes-take m n (drop 8 xs) (omega arith))
 
 -- ---- filled
 
@@ -111,8 +111,8 @@ filled-to xs n e =
     (l, ap (λ (j : ℕ). inBytes (xs ++ zeros j)) p ∙ ap (λ (j : ℕ). bytesOf j (xs ++ zeros k)) d)
 
 -- 1 to 8 bits
-pub one-byte : (xs : Bits) → 1 ≤ length xs → length xs ≤ 8 → inBytes (filled xs) ≡ numberOf xs * 2 ^ (8 - length xs) ∷ []
+pub one-byte : (xs : Bits) → 1 ≤ length xs → length xs ≤ 8 → inBytes (filled xs) ≡ numberOfBits xs * 2 ^ (8 - length xs) ∷ []
 unfolding bytesOf
 one-byte xs a b =
     let (l, e) = filled-to xs 1 (omega arith) in
-    e ∙ ap (λ (r : Bits). numberOf r ∷ []) (take-all 8 (xs ++ zeros (8 - length xs)) (omega arith)) ∙ ap (λ (x : ℕ). x ∷ []) (number-filled xs (8 - length xs))
+    e ∙ ap (λ (r : Bits). numberOfBits r ∷ []) (take-all 8 (xs ++ zeros (8 - length xs)) (omega arith)) ∙ ap (λ (x : ℕ). x ∷ []) (number-filled xs (8 - length xs))

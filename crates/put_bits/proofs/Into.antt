@@ -9,7 +9,7 @@ use mathlib.Core.Bool.{false}
 use mathlib.Core.List.{List, [], _∷_, _++_, append-assoc}
 use lib.ListN.{length, getD, set, take, drop, length-append, length-drop, length-replicate, take-append-drop}
 use lib.Seq.{getD-set-other, sets, sets-eq, length-sets, take-at, drop-at, drop-drop, drop-cons, length-take-le}
-use Rattle.bits.specs.Bits.{Bits, numberOf, bitsOfNumber, zeros, pad, filled}
+use Rattle.bits.specs.Bits.{Bits, numberOfBits, bitsOfNumber, zeros, pad, filled}
 use Rattle.bits.specs.BitsLaws.{length-bits, filled-long}
 use Rattle.bits.specs.Bytes.{bytesOf, inBytes}
 use Rattle.bits.specs.BytesLaws.{length-bytesOf}
@@ -108,8 +108,8 @@ module _ (now : List ℕ) (at value width word m : ℕ) (fits : value < 2 ^ widt
       let k : length (zeros a) ≡ a = length-replicate a false in
       let l : length (zeros a) + width ≤ 24 = omega arith in
       let w : Bits = windowOf (zeros a) value width in
-      let z : 0 / 2 ^ (8 - at % 8) ≡ numberOf (zeros a) = div-eq-of-lt (pow-pos (8 - at % 8)) ∙ sym (number-zeros a) in
-      let n : word ≡ numberOf w =
+      let z : 0 / 2 ^ (8 - at % 8) ≡ numberOfBits (zeros a) = div-eq-of-lt (pow-pos (8 - at % 8)) ∙ sym (number-zeros a) in
+      let n : word ≡ numberOfBits w =
       is-word ∙ ap (λ (v : ℕ). v * 2 ^ (8 - at % 8 + 16) + value * 2 ^ (8 - at % 8 + 16 - width)) z
       ∙ sym (number-window (zeros a) value width l (8 - at % 8) (omega arith) fits) in
       let h : length (zeros a ++ bitsOfNumber width value) ≡ a + width = length-append (zeros a) (bitsOfNumber width value) ∙ omega (arith, k, length-bits width value) in

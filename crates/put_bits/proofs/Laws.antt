@@ -9,7 +9,7 @@ use lib.ListN.{length, getD, take, drop, length-append, length-drop, take-append
 use lib.Pow.{shl-shr}
 use lib.Seq.{sets, sets-eq, length-sets, take-at, length-take-le, drop-append-add, drop-drop, getD-at}
 use Rattle.bits.specs.ChoiceLaws.{eq-split}
-use Rattle.bits.specs.Bits.{Bits, numberOf, bitsOfNumber, filled}
+use Rattle.bits.specs.Bits.{Bits, numberOfBits, bitsOfNumber, filled}
 use Rattle.bits.specs.BitsLaws.{length-bits}
 use Rattle.bits.specs.Bytes.{bytesOf, inBytes}
 use Rattle.bits.specs.BytesLaws.{length-bytesOf}
@@ -68,15 +68,15 @@ module _ {xs : Bits} {before now : List ℕ} {at : ℕ} (p : Put xs before now a
       ∙ drop-append-add (inBytes (filled xs)) (drop a before) (n - a) ∙ drop-drop (n - a) a before ∙ ap (λ (j : ℕ). drop j before) e
 
   -- the byte under way starts with its bits; where there is none yet, none are
-  begun : (byte : ℕ) → byte ≡ getD now (at / 8) 0 → byte < 256 → byte / 2 ^ (8 - at % 8) ≡ numberOf (last at xs)
+  begun : (byte : ℕ) → byte ≡ getD now (at / 8) 0 → byte < 256 → byte / 2 ^ (8 - at % 8) ≡ numberOfBits (last at xs)
   begun byte g h =
       eq-split (at % 8) 0
       (λ e. rw e (div-eq-of-lt h ∙ sym (number-none (last at xs) (length-last ∙ e))))
       (λ e. let o = one-byte (last at xs) (omega (arith, length-last)) (omega (arith, length-last)) in
-      let v : byte ≡ numberOf (last at xs) * 2 ^ (8 - length (last at xs)) =
+      let v : byte ≡ numberOfBits (last at xs) * 2 ^ (8 - length (last at xs)) =
       g ∙ ap (λ (l : List ℕ). getD l (at / 8) 0) (now-is ∙ ap (λ (l : List ℕ). bytesOf (at / 8) (past at xs) ++ (l ++ drop (length (inBytes (filled xs))) before)) o)
       ∙ getD-at (bytesOf (at / 8) (past at xs)) _ _ 0 (at / 8) (length-bytesOf (at / 8) (past at xs)) in
-      ap (λ (n : ℕ). n / 2 ^ (8 - at % 8)) (v ∙ ap (λ (n : ℕ). numberOf (last at xs) * 2 ^ (8 - n)) length-last) ∙ shl-shr (numberOf (last at xs)) (8 - at % 8))
+      ap (λ (n : ℕ). n / 2 ^ (8 - at % 8)) (v ∙ ap (λ (n : ℕ). numberOfBits (last at xs) * 2 ^ (8 - n)) length-last) ∙ shl-shr (numberOfBits (last at xs)) (8 - at % 8))
 
 -- ---- a number behind them
 
@@ -92,7 +92,7 @@ module _ (now : List ℕ) (at value width byte word m : ℕ) (fits : value < 2 ^
       let l : length ys ≡ at % 8 = length-last p in
       let k : length ys + width ≤ 24 = omega arith in
       let w : Bits = windowOf ys value width in
-      let n : word ≡ numberOf w =
+      let n : word ≡ numberOfBits w =
       is-word ∙ ap (λ (v : ℕ). v * 2 ^ (8 - at % 8 + 16) + value * 2 ^ (8 - at % 8 + 16 - width)) (begun p byte is-byte is-small)
       ∙ sym (number-window ys value width k (8 - at % 8) (omega arith) fits) in
       let vs : take m (three word) ≡ bytesOf m w =

@@ -7,7 +7,7 @@ use native.Mathlib.Nat.{add-mul}
 use mathlib.Core.List.{List, [], _∷_, _++_}
 use lib.ListN.{length, take, drop, length-take}
 use lib.Pow.{pow-mono}
-use Rattle.bits.specs.Bits.{Bits, val, numberOf, zeros}
+use Rattle.bits.specs.Bits.{Bits, val, numberOfBits, zeros}
 use Rattle.bits.specs.BitsLaws.{number-lt}
 use Rattle.bits.specs.Bytes.{bytesOf}
 
@@ -61,16 +61,16 @@ sum-long (x ∷ xs) (y ∷ ys) (z ∷ zs) (e, s) = let (a, b) = sum-long xs ys z
 together : (a b p n m : ℕ) → (a + b) * p + (n + m) ≡ (a * p + n) + (b * p + m)
 together a b p n m = ap (λ (k : ℕ). k + (n + m)) (add-mul a b p) ∙ omega arith
 
-sum-number : (xs ys zs : Bits) → Sum xs ys zs → numberOf zs ≡ numberOf xs + numberOf ys
-unfolding numberOf
+sum-number : (xs ys zs : Bits) → Sum xs ys zs → numberOfBits zs ≡ numberOfBits xs + numberOfBits ys
+unfolding numberOfBits
 sum-number [] ys zs (e, f) = rw (e, f) refl
 sum-number (x ∷ xs) [] zs s = absurd (omega arith)
 sum-number (x ∷ xs) (y ∷ ys) [] s = absurd (omega arith)
 sum-number (x ∷ xs) (y ∷ ys) (z ∷ zs) (e, s) =
     let (a, b) = sum-long xs ys zs s in
-    rw (e, a, b, sum-number xs ys zs s) (together (val x) (val y) (2 ^ length xs) (numberOf xs) (numberOf ys))
+    rw (e, a, b, sum-number xs ys zs s) (together (val x) (val y) (2 ^ length xs) (numberOfBits xs) (numberOfBits ys))
 
-byte-lt : (zs : Bits) → numberOf (take 8 zs) < 256
+byte-lt : (zs : Bits) → numberOfBits (take 8 zs) < 256
 byte-lt zs = omega (arith, number-lt (take 8 zs), pow-mono {i = length (take 8 zs)} {j = 8} (omega (arith, length-take 8 zs)))
 
 -- bytes added to bytes
@@ -85,5 +85,5 @@ sum-bytes zero xs ys zs s = refl
 sum-bytes (suc n) xs ys zs s =
     ap₂ (λ (a : ℕ) (r : List ℕ). a ∷ r) (first (sum-take 8 xs ys zs s)) (sum-bytes n (drop 8 xs) (drop 8 ys) (drop 8 zs) (sum-drop 8 xs ys zs s))
   where
-    first : Sum (take 8 xs) (take 8 ys) (take 8 zs) → numberOf (take 8 zs) ≡ (numberOf (take 8 xs) + numberOf (take 8 ys)) % 256
+    first : Sum (take 8 xs) (take 8 ys) (take 8 zs) → numberOfBits (take 8 zs) ≡ (numberOfBits (take 8 xs) + numberOfBits (take 8 ys)) % 256
     first t = omega (arith, sum-number (take 8 xs) (take 8 ys) (take 8 zs) t, byte-lt zs)

@@ -9,7 +9,7 @@ use mathlib.Core.List.{List, [], _∷_, _++_, append-assoc}
 use lib.ListN.{length, take, drop, length-append, length-drop, length-replicate, replicate-append-replicate}
 use lib.Pow.{pow-add, shl-lt, shr-lt, shl-exact, pow-mono}
 use lib.Seq.{take-all}
-use Rattle.bits.specs.Bits.{Bits, numberOf, bitsOfNumber, zeros, filled}
+use Rattle.bits.specs.Bits.{Bits, numberOfBits, bitsOfNumber, zeros, filled}
 use Rattle.bits.specs.BitsLaws.{length-bits, number-bits, number-lt}
 use Rattle.bits.specs.Bytes.{bytesOf, inBytes}
 use Rattle.put_bits.proofs.Bytes.{number-append, number-filled, number-take, number-drop, bytes-first, filled-to}
@@ -40,18 +40,18 @@ shifted free value width f v w =
 abbrev pub three : ℕ → List ℕ
 three n = n / 65536 % 256 ∷ n / 256 % 256 ∷ n % 256 ∷ []
 
-pub three-bytes : (xs : Bits) → length xs ≡ 24 → bytesOf 3 xs ≡ three (numberOf xs)
+pub three-bytes : (xs : Bits) → length xs ≡ 24 → bytesOf 3 xs ≡ three (numberOfBits xs)
 unfolding bytesOf
 three-bytes xs l =
-    let n = numberOf xs in
+    let n = numberOfBits xs in
     let ys : Bits = drop 8 xs in
     let k : length ys ≡ 16 = length-drop 8 xs ∙ omega arith in
     let t : n < 2 ^ 24 = rw l at (number-lt xs) in
-    let e : numberOf ys ≡ n % 65536 = number-drop 8 16 xs l in
+    let e : numberOfBits ys ≡ n % 65536 = number-drop 8 16 xs l in
     let f : take 8 (drop 8 ys) ≡ drop 8 ys = take-all 8 (drop 8 ys) (omega (arith, length-drop 8 ys)) in
-    let x : numberOf (take 8 xs) ≡ n / 65536 % 256 = number-take 8 16 xs l ∙ omega arith in
-    let y : numberOf (take 8 ys) ≡ n / 256 % 256 = number-take 8 8 ys k ∙ omega arith in
-    let z : numberOf (take 8 (drop 8 ys)) ≡ n % 256 = ap numberOf f ∙ number-drop 8 8 ys k ∙ omega arith in
+    let x : numberOfBits (take 8 xs) ≡ n / 65536 % 256 = number-take 8 16 xs l ∙ omega arith in
+    let y : numberOfBits (take 8 ys) ≡ n / 256 % 256 = number-take 8 8 ys k ∙ omega arith in
+    let z : numberOfBits (take 8 (drop 8 ys)) ≡ n % 256 = ap numberOfBits f ∙ number-drop 8 8 ys k ∙ omega arith in
     ap₂ (λ (a : ℕ) (r : List ℕ). a ∷ r) x (ap₂ (λ (a b : ℕ). a ∷ b ∷ []) y z)
 
 -- ---- its bits: those that are put in its first byte, the number, and zeros
@@ -69,18 +69,18 @@ module _ (ys : Bits) (value width : ℕ) (l : length ys + width ≤ 24) where
       length-append (ys ++ bitsOfNumber width value) (zeros k) ∙ omega (arith, length-both, length-replicate k false)
 
   pub number-window : (free : ℕ) → length ys + free ≡ 8 → value < 2 ^ width
-      → numberOf (windowOf ys value width) ≡ numberOf ys * 2 ^ (free + 16) + value * 2 ^ (free + 16 - width)
+      → numberOfBits (windowOf ys value width) ≡ numberOfBits ys * 2 ^ (free + 16) + value * 2 ^ (free + 16 - width)
   number-window free f h =
       let k = free + 16 - width in
       let e : 24 - length (ys ++ bitsOfNumber width value) ≡ k = omega (arith, length-both) in
       let d : width + k ≡ free + 16 = omega arith in
-      let n : numberOf (ys ++ bitsOfNumber width value) ≡ numberOf ys * 2 ^ width + value =
-      number-append ys (bitsOfNumber width value) ∙ ap₂ (λ (a b : ℕ). numberOf ys * 2 ^ a + b) (length-bits width value) (number-bits width value h) in
+      let n : numberOfBits (ys ++ bitsOfNumber width value) ≡ numberOfBits ys * 2 ^ width + value =
+      number-append ys (bitsOfNumber width value) ∙ ap₂ (λ (a b : ℕ). numberOfBits ys * 2 ^ a + b) (length-bits width value) (number-bits width value h) in
       number-filled (ys ++ bitsOfNumber width value) (24 - length (ys ++ bitsOfNumber width value))
       ∙ ap₂ (λ (a b : ℕ). a * 2 ^ b) n e
-      ∙ add-mul (numberOf ys * 2 ^ width) value (2 ^ k)
-      ∙ ap (λ (a : ℕ). a + value * 2 ^ k) (mul-assoc (numberOf ys) (2 ^ width) (2 ^ k) ∙ ap (λ (a : ℕ). numberOf ys * a) (sym (pow-add 2 width k)))
-      ∙ ap (λ (a : ℕ). numberOf ys * 2 ^ a + value * 2 ^ k) d
+      ∙ add-mul (numberOfBits ys * 2 ^ width) value (2 ^ k)
+      ∙ ap (λ (a : ℕ). a + value * 2 ^ k) (mul-assoc (numberOfBits ys) (2 ^ width) (2 ^ k) ∙ ap (λ (a : ℕ). numberOfBits ys * a) (sym (pow-add 2 width k)))
+      ∙ ap (λ (a : ℕ). numberOfBits ys * 2 ^ a + value * 2 ^ k) d
 
   -- the bytes that are begun
   pub bytes-window : (m : ℕ) → (length ys + width + 7) / 8 ≡ m → inBytes (filled (ys ++ bitsOfNumber width value)) ≡ bytesOf m (windowOf ys value width)

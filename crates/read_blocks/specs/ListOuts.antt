@@ -7,7 +7,7 @@ use lib.ListN.{length, drop}
 use Rattle.bits.specs.Bits.{Bits}
 use Rattle.bits.specs.Bytes.{bitsOf}
 use Rattle.bits.specs.Codec.{Read, got, alongDec}
-use Rattle.bits.specs.Reads.{Reads, found, kept}
+use Rattle.bits.specs.Reads.{Reads, found, keeping}
 use Rattle.put_bytes.specs.Laid.{Laid}
 use Rattle.format.specs.Differences.{undiffs, diff, tell}
 
@@ -28,4 +28,4 @@ pub record ValueOut {A : Type 0} (d : Bits → Read Bool A) (bytes : A → List 
 
 -- n differences of w bits, the first at least m, as neighbours by number from l downwards
 abbrev pub numbersDec : (w n m l : ℕ) → Bits → Read Bool (List ℕ)
-numbersDec w n m l s = kept (undiffs l) (alongDec (diff w) tell n (m, l) s)
+numbersDec w n m l s = keeping (undiffs l) (alongDec (diff w) tell n (m, l) s)

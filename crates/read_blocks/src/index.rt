@@ -22,16 +22,16 @@ struct Moved {
 }
 
 // Line l's neighbours by number, from n differences of w bits each.
-fn numbers_out(out: &mut [u8], s: &[u8], p: Cursor, w: usize, l: usize, n: usize) -> Moved
-    requires { ⌜ (w ≤ 16) × (l < 1024) × ValueThere (numbersDec w n 0 l) (λ ns. 2 * length ns) (now s) (p .at) (length (now out)) ⌝ }
-    ensures { λ r. ⌜ ValueOut (numbersDec w n 0 l) (joined two) (now (s .entry)) (p .at) (r .next .at) (now (out .entry)) (now (out .exit)) (r .bytes) ⌝ }
+fn numbers_out(out: &mut [u8], block: &[u8], p: Cursor, w: usize, l: usize, n: usize) -> Moved
+    requires { ⌜ (w ≤ 16) × (l < 1024) × ValueThere (numbersDec w n 0 l) (λ ns. 2 * length ns) (now block) (p .at) (length (now out)) ⌝ }
+    ensures { λ r. ⌜ ValueOut (numbersDec w n 0 l) (joined two) (now (block .entry)) (p .at) (r .next .at) (now (out .entry)) (now (out .exit)) (r .bytes) ⌝ }
 {
     let mut q = p;
     let mut number = l;
     let mut at: usize = 0;
     let mut i: usize = 0;
     while i < n {
-        let d = q.sure(s, w);
+        let d = q.sure(block, w);
         number -= d.value;
         at += put_two(&mut out[at..], number);
         q = d.next;
@@ -41,13 +41,13 @@ fn numbers_out(out: &mut [u8], s: &[u8], p: Cursor, w: usize, l: usize, n: usize
 }
 
 // The 05 field of line l.
-fn list_out(out: &mut [u8], s: &[u8], p: Cursor, w: usize, l: usize) -> Moved
-    requires { ⌜ (w ≤ 16) × (l < 1024) × ValueThere (neighbours w l .dec) listSize (now s) (p .at) (length (now out)) ⌝ }
-    ensures { λ r. ⌜ ValueOut (neighbours w l .dec) listBytes (now (s .entry)) (p .at) (r .next .at) (now (out .entry)) (now (out .exit)) (r .bytes) ⌝ }
+fn list_out(out: &mut [u8], block: &[u8], p: Cursor, w: usize, l: usize) -> Moved
+    requires { ⌜ (w ≤ 16) × (l < 1024) × ValueThere (neighbours w l .dec) listSize (now block) (p .at) (length (now out)) ⌝ }
+    ensures { λ r. ⌜ ValueOut (neighbours w l .dec) listBytes (now (block .entry)) (p .at) (r .next .at) (now (out .entry)) (now (out .exit)) (r .bytes) ⌝ }
 {
-    let count = p.sure(s, w);
+    let count = p.sure(block, w);
     let at = put_three(out, 5, 2 * count.value);
-    let list = numbers_out(&mut out[at..], s, count.next, w, l, count.value);
+    let list = numbers_out(&mut out[at..], block, count.next, w, l, count.value);
     let next = list.next;
     Moved {
         next,
@@ -56,15 +56,15 @@ fn list_out(out: &mut [u8], s: &[u8], p: Cursor, w: usize, l: usize) -> Moved
 }
 
 // The 05 fields of all lines.
-fn lists_out(out: &mut [u8], s: &[u8], p: Cursor, w: usize, lines: usize) -> usize
-    requires { ⌜ (w ≤ 16) × (lines ≤ 1024) × ValueThere (alongDec (neighbours w) up lines 0) (total listSize) (now s) (p .at) (length (now out)) ⌝ }
-    ensures { λ r. ⌜ ((q : ℕ) × ValueOut (alongDec (neighbours w) up lines 0) (joined listBytes) (now (s .entry)) (p .at) q (now (out .entry)) (now (out .exit)) r) ⌝ }
+fn lists_out(out: &mut [u8], block: &[u8], p: Cursor, w: usize, lines: usize) -> usize
+    requires { ⌜ (w ≤ 16) × (lines ≤ 1024) × ValueThere (alongDec (neighbours w) up lines 0) (total listSize) (now block) (p .at) (length (now out)) ⌝ }
+    ensures { λ r. ⌜ ((q : ℕ) × ValueOut (alongDec (neighbours w) up lines 0) (joined listBytes) (now (block .entry)) (p .at) q (now (out .entry)) (now (out .exit)) r) ⌝ }
 {
     let mut q = p;
     let mut at: usize = 0;
     let mut l: usize = 0;
     while l < lines {
-        let list = list_out(&mut out[at..], s, q, w, l);
+        let list = list_out(&mut out[at..], block, q, w, l);
         at += list.bytes;
         q = list.next;
         l += 1;
@@ -72,17 +72,17 @@ fn lists_out(out: &mut [u8], s: &[u8], p: Cursor, w: usize, lines: usize) -> usi
     at
 }
 
-// The index block s of a view with so many lines.
-pub fn index_out(out: &mut [u8], s: &[u8], lines: usize) -> usize
-    requires { ⌜ IndexThere lines (now s) (length (now out)) ⌝ }
-    ensures { λ r. ⌜ IndexOut lines (now (s .entry)) (now (out .entry)) (now (out .exit)) r ⌝ }
+// The index block `block` of a view with so many lines.
+pub fn index_out(out: &mut [u8], block: &[u8], lines: usize) -> usize
+    requires { ⌜ IndexThere lines (now block) (length (now out)) ⌝ }
+    ensures { λ r. ⌜ IndexOut lines (now (block .entry)) (now (out .entry)) (now (out .exit)) r ⌝ }
 {
-    if s.len() == 0 {
+    if block.len() == 0 {
         return 0;
     }
-    let w = Cursor::start().sure(s, 8);
+    let w = Cursor::start().sure(block, 8);
     let mut at = put_three(out, 4, 1);
-    at += copy(&mut out[at..], &s[0..1]);
-    at += lists_out(&mut out[at..], s, w.next, w.value, lines);
+    at += copy(&mut out[at..], &block[0..1]);
+    at += lists_out(&mut out[at..], block, w.next, w.value, lines);
     at
 }

@@ -22,7 +22,7 @@ use format::Widths;
 use put_bytes::put_three;
 
 // An end, and the cursor behind it.
-struct Ended {
+struct SureEnd {
     value: End,
     next: Cursor,
 }
@@ -74,14 +74,14 @@ fn end_out(out: &mut [u8], e: End) -> usize
 }
 
 // The end at the cursor, where its bits are known to be there.
-fn end_sure(p: Cursor, s: &[u8], w: Widths) -> Ended
-    requires { ⌜ (length (now s) ≤ 65535) × (w .b ≤ 8) × (w .c ≤ 16) × (p .at + endBits w ≤ 8 * length (now s)) ⌝ }
-    ensures { λ r. ⌜ Reads (end w .dec) (now (s .entry)) (p .at) (found (r .value) (r .next .at)) ⌝ }
+fn end_sure(p: Cursor, block: &[u8], w: Widths) -> SureEnd
+    requires { ⌜ (length (now block) ≤ 65535) × (w .b ≤ 8) × (w .c ≤ 16) × (p .at + endBits w ≤ 8 * length (now block)) ⌝ }
+    ensures { λ r. ⌜ Reads (end w .dec) (now (block .entry)) (p .at) (found (r .value) (r .next .at)) ⌝ }
 {
-    let kind = p.sure(s, 2);
-    let direction = kind.next.sure(s, w.b);
-    let x = direction.next.sure(s, w.c);
-    let y = x.next.sure(s, w.c);
+    let kind = p.sure(block, 2);
+    let direction = kind.next.sure(block, w.b);
+    let x = direction.next.sure(block, w.c);
+    let y = x.next.sure(block, w.c);
     let value = End {
         kind: kind.value,
         direction: direction.value,
@@ -89,19 +89,19 @@ fn end_sure(p: Cursor, s: &[u8], w: Widths) -> Ended
         y: y.value,
     };
     let next = y.next;
-    Ended { value, next }
+    SureEnd { value, next }
 }
 
 // The bytes of n codes of k bits from the cursor on.
-fn codes_out(out: &mut [u8], s: &[u8], p: Cursor, k: usize, n: usize) -> usize
-    requires { ⌜ (length (now s) ≤ 65535) × (1 ≤ k) × (k ≤ 8) × (p .at + n * k ≤ 8 * length (now s)) × (n ≤ length (now out)) ⌝ }
-    ensures { λ r. ⌜ (r ≡ n) × ((cs : List ℕ) (q : ℕ) → Reads (timesDec (field badLine k) n) (now (s .entry)) (p .at) (found cs q)
+fn codes_out(out: &mut [u8], block: &[u8], p: Cursor, k: usize, n: usize) -> usize
+    requires { ⌜ (length (now block) ≤ 65535) × (1 ≤ k) × (k ≤ 8) × (p .at + n * k ≤ 8 * length (now block)) × (n ≤ length (now out)) ⌝ }
+    ensures { λ r. ⌜ (r ≡ n) × ((cs : List ℕ) (q : ℕ) → Reads (timesDec (field badLine k) n) (now (block .entry)) (p .at) (found cs q)
         → Laid (map (extended k) cs) (now (out .entry)) (now (out .exit)) r) ⌝ }
 {
     let mut q = p;
     let mut i: usize = 0;
     while i < n {
-        let code = q.sure(s, k);
+        let code = q.sure(block, k);
         out[i] = code_byte(code.value, k);
         q = code.next;
         i += 1;
@@ -110,28 +110,28 @@ fn codes_out(out: &mut [u8], s: &[u8], p: Cursor, k: usize, n: usize) -> usize
 }
 
 // The 03 field of a line.
-fn parts_out(out: &mut [u8], s: &[u8], l: Parts, k: usize) -> usize
-    requires { ⌜ PartsThere k (now s) l (length (now out)) ⌝ }
-    ensures { λ r. ⌜ PartsOut k (now (s .entry)) l (now (out .entry)) (now (out .exit)) r ⌝ }
+fn parts_out(out: &mut [u8], block: &[u8], l: Parts, k: usize) -> usize
+    requires { ⌜ PartsThere k (now block) l (length (now out)) ⌝ }
+    ensures { λ r. ⌜ PartsOut k (now (block .entry)) l (now (out .entry)) (now (out .exit)) r ⌝ }
 {
     let mut at = put_three(out, 3, 12 + l.count);
     at += end_out(&mut out[at..], l.start);
     at += end_out(&mut out[at..], l.finish);
-    at += codes_out(&mut out[at..], s, l.codes, k, l.count);
+    at += codes_out(&mut out[at..], block, l.codes, k, l.count);
     at
 }
 
 // The 03 field of the line at the cursor.
-pub fn line_out(out: &mut [u8], s: &[u8], p: Cursor, w: Widths) -> Lined
-    requires { ⌜ LineThere w (now s) (p .at) (length (now out)) ⌝ }
-    ensures { λ r. ⌜ LineOut w (now (s .entry)) (p .at) (now (out .entry)) (now (out .exit)) r ⌝ }
+pub fn line_out(out: &mut [u8], block: &[u8], p: Cursor, w: Widths) -> Lined
+    requires { ⌜ LineThere w (now block) (p .at) (length (now out)) ⌝ }
+    ensures { λ r. ⌜ LineOut w (now (block .entry)) (p .at) (now (out .entry)) (now (out .exit)) r ⌝ }
 {
-    let first = end_sure(p, s, w);
-    let field = first.next.sure(s, 8);
+    let first = end_sure(p, block, w);
+    let field = first.next.sure(block, 8);
     let codes = field.next;
     let count = field.value;
     let at = codes.at + count * w.k;
-    let last = end_sure(Cursor { at }, s, w);
+    let last = end_sure(Cursor { at }, block, w);
     let start = first.value;
     let finish = last.value;
     let next = last.next;
@@ -141,21 +141,21 @@ pub fn line_out(out: &mut [u8], s: &[u8], p: Cursor, w: Widths) -> Lined
         codes,
         count,
     };
-    let written = parts_out(out, s, parts, w.k);
+    let written = parts_out(out, block, parts, w.k);
     Lined { next, written }
 }
 
-// The 03 fields of the lines of a skeleton block, which is s.
-pub fn lines_out(out: &mut [u8], s: &[u8], w: Widths) -> Lines
-    requires { ⌜ LinesThere w (now s) (length (now out)) ⌝ }
-    ensures { λ r. ⌜ LinesOut w (now (s .entry)) (now (out .entry)) (now (out .exit)) r ⌝ }
+// The 03 fields of the lines of a skeleton block, which is `block`.
+pub fn lines_out(out: &mut [u8], block: &[u8], w: Widths) -> Lines
+    requires { ⌜ LinesThere w (now block) (length (now out)) ⌝ }
+    ensures { λ r. ⌜ LinesOut w (now (block .entry)) (now (out .entry)) (now (out .exit)) r ⌝ }
 {
-    let end = 8 * s.len();
+    let end = 8 * block.len();
     let mut p = Cursor::start();
     let mut n: usize = 0;
     let mut at: usize = 0;
     while 8 <= end - p.at {
-        let l = line_out(&mut out[at..], s, p, w);
+        let l = line_out(&mut out[at..], block, p, w);
         at += l.written;
         n += 1;
         p = l.next;

@@ -11,26 +11,26 @@ use put_bytes::copy;
 use put_bytes::put_three;
 
 // The 01 field.
-fn header_out(out: &mut [u8], s: &[u8]) -> usize
-    requires { ⌜ (22 ≤ length (now s)) × (12 ≤ length (now out)) ⌝ }
-    ensures { λ r. ⌜ Laid (headerField (now (s .entry))) (now (out .entry)) (now (out .exit)) r ⌝ }
+fn header_out(out: &mut [u8], bytes: &[u8]) -> usize
+    requires { ⌜ (22 ≤ length (now bytes)) × (12 ≤ length (now out)) ⌝ }
+    ensures { λ r. ⌜ Laid (headerField (now (bytes .entry))) (now (out .entry)) (now (out .exit)) r ⌝ }
 {
     let mut at = put_three(out, 1, 9);
-    at += copy(&mut out[at..], &s[12..14]);
-    at += copy(&mut out[at..], &s[15..22]);
+    at += copy(&mut out[at..], &bytes[12..14]);
+    at += copy(&mut out[at..], &bytes[15..22]);
     at
 }
 
-// The fields of the views of the record s, which has the widths w and so many views.
-fn views_out(out: &mut [u8], s: &[u8], w: Widths, count: usize) -> usize
-    requires { ⌜ ViewsThere w count (now s) (length (now out)) ⌝ }
-    ensures { λ r. ⌜ ViewsOut (now (s .entry)) (now (out .entry)) (now (out .exit)) r ⌝ }
+// The fields of the views of the record `bytes`, which has the widths w and so many views.
+fn views_out(out: &mut [u8], bytes: &[u8], w: Widths, count: usize) -> usize
+    requires { ⌜ ViewsThere w count (now bytes) (length (now out)) ⌝ }
+    ensures { λ r. ⌜ ViewsOut (now (bytes .entry)) (now (out .entry)) (now (out .exit)) r ⌝ }
 {
     let mut p: usize = Header::BYTES;
     let mut i: usize = 0;
     let mut at: usize = 0;
     while i < count {
-        let v = view_out(&mut out[at..], s, p, w);
+        let v = view_out(&mut out[at..], bytes, p, w);
         at += v.written;
         p = v.next;
         i += 1;
@@ -39,11 +39,11 @@ fn views_out(out: &mut [u8], s: &[u8], w: Widths, count: usize) -> usize
 }
 
 // Its sheet.
-pub fn sheet_out(out: &mut [u8], s: &[u8], w: Widths, count: usize) -> usize
-    requires { ⌜ SheetThere w count (now s) (length (now out)) ⌝ }
-    ensures { λ r. ⌜ SheetOut (now (s .entry)) (now (out .entry)) (now (out .exit)) r ⌝ }
+pub fn sheet_out(out: &mut [u8], bytes: &[u8], w: Widths, count: usize) -> usize
+    requires { ⌜ SheetThere w count (now bytes) (length (now out)) ⌝ }
+    ensures { λ r. ⌜ SheetOut (now (bytes .entry)) (now (out .entry)) (now (out .exit)) r ⌝ }
 {
-    let mut at = header_out(out, s);
-    at += views_out(&mut out[at..], s, w, count);
+    let mut at = header_out(out, bytes);
+    at += views_out(&mut out[at..], bytes, w, count);
     at
 }

@@ -17,33 +17,33 @@ pub struct ViewOut {
 }
 
 // The fields of a view's blocks; the length of the first is at byte b.
-fn blocks_out(out: &mut [u8], s: &[u8], b: usize, w: Widths) -> ViewOut
-    requires { ⌜ BlocksThere w (now s) b (length (now out)) ⌝ }
-    ensures { λ r. ⌜ BlocksOut w (now (s .entry)) b (now (out .entry)) (now (out .exit)) r ⌝ }
+fn blocks_out(out: &mut [u8], bytes: &[u8], b: usize, w: Widths) -> ViewOut
+    requires { ⌜ BlocksThere w (now bytes) b (length (now out)) ⌝ }
+    ensures { λ r. ⌜ BlocksOut w (now (bytes .entry)) b (now (out .entry)) (now (out .exit)) r ⌝ }
 {
-    let blocks = blocks_at(s, b);
+    let blocks = blocks_at(bytes, b);
     let skeleton = blocks.skeleton.from;
     let skeleton_end = blocks.skeleton.to;
-    let lines = lines_out(out, &s[skeleton..skeleton_end], w);
+    let lines = lines_out(out, &bytes[skeleton..skeleton_end], w);
     let mut at = lines.written;
     let index = blocks.index.from;
     let index_end = blocks.index.to;
-    at += index_out(&mut out[at..], &s[index..index_end], lines.count);
+    at += index_out(&mut out[at..], &bytes[index..index_end], lines.count);
     let extended = blocks.extended.from;
     let next = blocks.extended.to;
-    at += segments_out(&mut out[at..], &s[extended..next]);
+    at += segments_out(&mut out[at..], &bytes[extended..next]);
     ViewOut { next, written: at }
 }
 
 // The fields of the view at byte a.
-pub fn view_out(out: &mut [u8], s: &[u8], a: usize, w: Widths) -> ViewOut
-    requires { ⌜ ViewThere w (now s) a (length (now out)) ⌝ }
-    ensures { λ r. ⌜ ViewWritten w (now (s .entry)) a (now (out .entry)) (now (out .exit)) r ⌝ }
+pub fn view_out(out: &mut [u8], bytes: &[u8], a: usize, w: Widths) -> ViewOut
+    requires { ⌜ ViewThere w (now bytes) a (length (now out)) ⌝ }
+    ensures { λ r. ⌜ ViewWritten w (now (bytes .entry)) a (now (out .entry)) (now (out .exit)) r ⌝ }
 {
     let mut at = put_three(out, 2, 8);
     let b = a + 8;
-    at += copy(&mut out[at..], &s[a..b]);
-    let blocks = blocks_out(&mut out[at..], s, b, w);
+    at += copy(&mut out[at..], &bytes[a..b]);
+    let blocks = blocks_out(&mut out[at..], bytes, b, w);
     at += blocks.written;
     let next = blocks.next;
     ViewOut { next, written: at }

@@ -3,7 +3,7 @@ use mathlib.Core.Path.{_≡_, refl}
 use Prim.Native.Nat.{ℕ}
 use mathlib.Core.List.{List, [], _∷_, _++_, map}
 use lib.ListN.{set, take, drop}
-use Rattle.bits.specs.Bits.{numberOf, bitsOfNumber}
+use Rattle.bits.specs.Bits.{numberOfBits, bitsOfNumber}
 use Rattle.bits.specs.Bytes.{bitsOf, bytesOf}
 use Rattle.bits.specs.Codec.{thenDec, viaDec, onlyDec, judgedDec}
 use Rattle.bits.specs.Block.{endedDec, aheadDec, passDec, recastDec}
@@ -51,5 +51,5 @@ table =
     ∷ []
 
 verdicts : map verdict table ≡ map expected table
-unfolding numberOf bitsOfNumber bitsOf bytesOf thenDec viaDec onlyDec judgedDec endedDec aheadDec passDec recastDec mostLines mostBytes end line skeleton index indexBlock segment segments view viewHeader header views recordOf size write tagged fields grammar headerValue viewHeadValue lineValue widthValue listValue segmentValue viewFrom recordFrom readSheet writing extended
+unfolding numberOfBits bitsOfNumber bitsOf bytesOf thenDec viaDec onlyDec judgedDec endedDec aheadDec passDec recastDec mostLines mostBytes end line skeleton index indexBlock segment segments view viewHeader header views recordOf size write tagged fields grammar headerValue viewHeadValue lineValue widthValue listValue segmentValue viewFrom recordFrom readSheet writing extended
 verdicts = refl

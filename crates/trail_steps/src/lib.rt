@@ -82,16 +82,16 @@ pub fn step(pen: Pen, code: usize, k: usize, half: usize) -> Stepped
 }
 
 // How many elements the n codes of k bits from the cursor on draw.
-pub fn count_drawn(s: &[u8], p: Cursor, k: usize, n: usize) -> usize
-    requires { ⌜ CodesThere k n (now s) (p .at) ⌝ }
-    ensures { λ r. ⌜ OfCodes k n (now (s .entry)) (p .at) (λ codes. r ≡ drawn k codes) ⌝ }
+pub fn count_drawn(block: &[u8], p: Cursor, k: usize, n: usize) -> usize
+    requires { ⌜ CodesThere k n (now block) (p .at) ⌝ }
+    ensures { λ r. ⌜ OfCodes k n (now (block .entry)) (p .at) (λ codes. r ≡ drawn k codes) ⌝ }
 {
     let top = level_turn(k);
     let mut q = p;
     let mut count: usize = 0;
     let mut i: usize = 0;
     while i < n {
-        let code = q.sure(s, k);
+        let code = q.sure(block, k);
         if code.value != top {
             count += 1;
         }
@@ -104,22 +104,22 @@ pub fn count_drawn(s: &[u8], p: Cursor, k: usize, n: usize) -> usize
 // The trail of the n codes of k bits from the cursor on, first heading `heading`, as 16-bit numbers; the answer is how many.
 pub fn trail_numbers(
     out: &mut [u16],
-    s: &[u8],
+    block: &[u8],
     p: Cursor,
     k: usize,
     n: usize,
     half: usize,
     heading: usize,
 ) -> usize
-    requires { ⌜ CanDraw 1 k n half heading (now s) (p .at) (length (now out)) ⌝ }
-    ensures { λ r. ⌜ OfCodes k n (now (s .entry)) (p .at) (λ codes. Laid (follow half k false heading codes) (now (out .entry)) (now (out .exit)) r) ⌝ }
+    requires { ⌜ CanDraw 1 k n half heading (now block) (p .at) (length (now out)) ⌝ }
+    ensures { λ r. ⌜ OfCodes k n (now (block .entry)) (p .at) (λ codes. Laid (follow half k false heading codes) (now (out .entry)) (now (out .exit)) r) ⌝ }
 {
     let mut q = p;
     let mut pen = Pen::start(heading);
     let mut at: usize = 0;
     let mut i: usize = 0;
     while i < n {
-        let code = q.sure(s, k);
+        let code = q.sure(block, k);
         let stepped = step(pen, code.value, k, half);
         match stepped {
             Stepped::Drawn(element, moved) => {
@@ -138,22 +138,22 @@ pub fn trail_numbers(
 // The same as bytes, high byte first; the answer is how many elements.
 pub fn trail_bytes(
     out: &mut [u8],
-    s: &[u8],
+    block: &[u8],
     p: Cursor,
     k: usize,
     n: usize,
     half: usize,
     heading: usize,
 ) -> usize
-    requires { ⌜ CanDraw 2 k n half heading (now s) (p .at) (length (now out)) ⌝ }
-    ensures { λ r. ⌜ OfCodes k n (now (s .entry)) (p .at) (λ codes. Laid (joined two (follow half k false heading codes)) (now (out .entry)) (now (out .exit)) (2 * r)) ⌝ }
+    requires { ⌜ CanDraw 2 k n half heading (now block) (p .at) (length (now out)) ⌝ }
+    ensures { λ r. ⌜ OfCodes k n (now (block .entry)) (p .at) (λ codes. Laid (joined two (follow half k false heading codes)) (now (out .entry)) (now (out .exit)) (2 * r)) ⌝ }
 {
     let mut q = p;
     let mut pen = Pen::start(heading);
     let mut at: usize = 0;
     let mut i: usize = 0;
     while i < n {
-        let code = q.sure(s, k);
+        let code = q.sure(block, k);
         let stepped = step(pen, code.value, k, half);
         match stepped {
             Stepped::Drawn(element, moved) => {

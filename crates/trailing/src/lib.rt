@@ -37,19 +37,19 @@ pub enum FoundLine {
     Refused(u32, usize),
 }
 
-// The walk along the line at place p of the block s.
-fn walk_at(s: &[u8], p: usize, scale: Scale) -> CodeWalk
-    requires { ⌜ LineThere (scale .widths) (now s) p × (1 ≤ scale .half) × (scale .half ≤ 255) ⌝ }
-    ensures { λ r. ⌜ WalkFound scale (now (s .entry)) p r ⌝ }
+// The walk along the line at place p of the block.
+fn walk_at(block: &[u8], p: usize, scale: Scale) -> CodeWalk
+    requires { ⌜ LineThere (scale .widths) (now block) p × (1 ≤ scale .half) × (scale .half ≤ 255) ⌝ }
+    ensures { λ r. ⌜ WalkFound scale (now (block .entry)) p r ⌝ }
 {
     let half = scale.half;
     let w = scale.widths;
-    let direction = Cursor { at: p + 2 }.sure(s, w.b);
+    let direction = Cursor { at: p + 2 }.sure(block, w.b);
     let count = Cursor {
         at: p + 2 + w.b + 2 * w.c,
-    }.sure(s, 8);
+    }.sure(block, 8);
     let codes = count.next;
-    let drawn = count_drawn(s, codes, w.k, count.value);
+    let drawn = count_drawn(block, codes, w.k, count.value);
     CodeWalk {
         codes,
         count: count.value,

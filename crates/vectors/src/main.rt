@@ -10,9 +10,9 @@ use segment::payload;
 use segment::segment;
 use trailing::trail;
 
-fn sheet(s: &[u8]) {
+fn sheet(bytes: &[u8]) {
     let mut out = io::large_buffer();
-    let answer = read(s, &mut out);
+    let answer = read(bytes, &mut out);
     text(b"sheet ");
     if answer.number == 0 {
         number(answer.length);
@@ -46,9 +46,9 @@ fn numbers(trail: &[u16], count: usize) {
 }
 
 // Whether the view has that line.
-fn trail_of(s: &[u8], view: usize, line: usize) -> bool {
+fn trail_of(bytes: &[u8], view: usize, line: usize) -> bool {
     let mut out = [0u16; 255];
-    let answer = trail(s, view, line, &mut out);
+    let answer = trail(bytes, view, line, &mut out);
     if answer.number != 0 {
         return false;
     }
@@ -72,31 +72,31 @@ fn segment_of(s: &[u8], view: usize, place: usize) -> bool {
     true
 }
 
-fn parts_of(s: &[u8], view: usize) {
+fn parts_of(bytes: &[u8], view: usize) {
     let mut line: usize = 0;
-    while line < 8 && trail_of(s, view, line) {
+    while line < 8 && trail_of(bytes, view, line) {
         line += 1;
     }
     let mut place: usize = 0;
-    while place < 8 && segment_of(s, view, place) {
+    while place < 8 && segment_of(bytes, view, place) {
         place += 1;
     }
 }
 
-fn of_record(s: &[u8]) {
-    list_text::listing(s);
+fn of_record(bytes: &[u8]) {
+    list_text::listing(bytes);
     let Verdict::Accepted {
         header: _,
         views,
         size: _,
-    } = judge(s)
+    } = judge(bytes)
     else {
         return;
     };
-    sheet(s);
+    sheet(bytes);
     let mut view: usize = 0;
     while view < views {
-        parts_of(s, view);
+        parts_of(bytes, view);
         view += 1;
     }
 }

@@ -5,17 +5,17 @@ use bits::two_at;
 use bits::wide;
 use put_bits::put_bits;
 
-// Line l's neighbours, whose numbers are s, as differences of w bits.
-fn list_put(out: &mut [u8], at: usize, s: &[u8], w: usize, l: usize) -> usize
-    requires { ⌜ ListThere w l (now s) (now out) at ⌝ }
-    ensures { λ r. ⌜ ListPut w l (now (s .entry)) (now (out .entry)) at (now (out .exit)) r ⌝ }
+// Line l's neighbours, whose numbers are `value`, as differences of w bits.
+fn list_put(out: &mut [u8], at: usize, value: &[u8], w: usize, l: usize) -> usize
+    requires { ⌜ ListThere w l (now value) (now out) at ⌝ }
+    ensures { λ r. ⌜ ListPut w l (now (value .entry)) (now (out .entry)) at (now (out .exit)) r ⌝ }
 {
-    let count = s.len() / 2;
+    let count = value.len() / 2;
     let mut p = put_bits(out, at, count, w);
     let mut before = l;
     let mut i: usize = 0;
     while i < count {
-        let number = two_at(s, 2 * i);
+        let number = two_at(value, 2 * i);
         p = put_bits(out, p, before - number, w);
         before = number;
         i += 1;
@@ -23,18 +23,18 @@ fn list_put(out: &mut [u8], at: usize, s: &[u8], w: usize, l: usize) -> usize
     p
 }
 
-// The lists of so many lines, whose fields start at byte a of the sheet s.
-fn lists_put(out: &mut [u8], at: usize, s: &[u8], a: usize, w: usize, lines: usize) -> Done
-    requires { ⌜ ListsThere w lines (now s) a (now out) at ⌝ }
-    ensures { λ r. ⌜ ListsPut w lines (now (s .entry)) a (now (out .entry)) at (now (out .exit)) r ⌝ }
+// The lists of so many lines, whose fields start at byte a of the sheet.
+fn lists_put(out: &mut [u8], at: usize, sheet: &[u8], a: usize, w: usize, lines: usize) -> Done
+    requires { ⌜ ListsThere w lines (now sheet) a (now out) at ⌝ }
+    ensures { λ r. ⌜ ListsPut w lines (now (sheet .entry)) a (now (out .entry)) at (now (out .exit)) r ⌝ }
 {
     let mut p = at;
     let mut next = a;
     let mut l: usize = 0;
     while l < lines {
         let from = next + 3;
-        let to = from + two_at(s, next + 1);
-        p = list_put(out, p, &s[from..to], w, l);
+        let to = from + two_at(sheet, next + 1);
+        p = list_put(out, p, &sheet[from..to], w, l);
         next = to;
         l += 1;
     }
@@ -44,18 +44,18 @@ fn lists_put(out: &mut [u8], at: usize, s: &[u8], a: usize, w: usize, lines: usi
     }
 }
 
-// The index of a view with so many lines: none, or that whose 04 is at byte a of the sheet s.
-pub fn index_out(out: &mut [u8], s: &[u8], a: usize, lines: usize) -> Done
-    requires { ⌜ IndexThere lines (now s) a (now out) ⌝ }
-    ensures { λ r. ⌜ IndexPut lines (now (s .entry)) a (now (out .entry)) (now (out .exit)) r ⌝ }
+// The index of a view with so many lines: none, or that whose 04 is at byte a of the sheet.
+pub fn index_out(out: &mut [u8], sheet: &[u8], a: usize, lines: usize) -> Done
+    requires { ⌜ IndexThere lines (now sheet) a (now out) ⌝ }
+    ensures { λ r. ⌜ IndexPut lines (now (sheet .entry)) a (now (out .entry)) (now (out .exit)) r ⌝ }
 {
-    if s.len() <= a {
+    if sheet.len() <= a {
         return Done { next: a, bytes: 0 };
     }
-    if wide(s[a]) != 4 {
+    if wide(sheet[a]) != 4 {
         return Done { next: a, bytes: 0 };
     }
-    let w = wide(s[a + 3]);
+    let w = wide(sheet[a + 3]);
     let at = put_bits(out, 0, w, 8);
-    lists_put(out, at, s, a + 4, w, lines)
+    lists_put(out, at, sheet, a + 4, w, lines)
 }

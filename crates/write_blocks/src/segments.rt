@@ -12,29 +12,29 @@ use bits::wide;
 use put_bytes::copy;
 use put_bytes::put_two;
 
-// The segment whose field has the value s.
-fn segment_out(out: &mut [u8], s: &[u8]) -> usize
-    requires { ⌜ (2 ≤ length (now s)) × (length (now s) ≤ 65533) × (length (now s) + 2 ≤ length (now out)) ⌝ }
-    ensures { λ r. ⌜ Laid ((take 2 (now (s .entry)) ++ two (length (now (s .entry)) + 2)) ++ drop 2 (now (s .entry))) (now (out .entry)) (now (out .exit)) r ⌝ }
+// The segment whose field has the value.
+fn segment_out(out: &mut [u8], value: &[u8]) -> usize
+    requires { ⌜ (2 ≤ length (now value)) × (length (now value) ≤ 65533) × (length (now value) + 2 ≤ length (now out)) ⌝ }
+    ensures { λ r. ⌜ Laid ((take 2 (now (value .entry)) ++ two (length (now (value .entry)) + 2)) ++ drop 2 (now (value .entry))) (now (out .entry)) (now (out .exit)) r ⌝ }
 {
-    let end = s.len();
-    let mut at = copy(out, &s[0..2]);
+    let end = value.len();
+    let mut at = copy(out, &value[0..2]);
     at += put_two(&mut out[at..], end + 2);
-    at += copy(&mut out[at..], &s[2..end]);
+    at += copy(&mut out[at..], &value[2..end]);
     at
 }
 
-// The segments whose fields start at byte a of the sheet s.
-pub fn segments_out(out: &mut [u8], s: &[u8], a: usize) -> Done
-    requires { ⌜ SegmentsThere (now s) a (length (now out)) ⌝ }
-    ensures { λ r. ⌜ SegmentsOut (now (s .entry)) a (now (out .entry)) (now (out .exit)) r ⌝ }
+// The segments whose fields start at byte a of the sheet.
+pub fn segments_out(out: &mut [u8], sheet: &[u8], a: usize) -> Done
+    requires { ⌜ SegmentsThere (now sheet) a (length (now out)) ⌝ }
+    ensures { λ r. ⌜ SegmentsOut (now (sheet .entry)) a (now (out .entry)) (now (out .exit)) r ⌝ }
 {
     let mut p = a;
     let mut at: usize = 0;
-    while p < s.len() && wide(s[p]) == 6 {
+    while p < sheet.len() && wide(sheet[p]) == 6 {
         let from = p + 3;
-        let to = from + two_at(s, p + 1);
-        at += segment_out(&mut out[at..], &s[from..to]);
+        let to = from + two_at(sheet, p + 1);
+        at += segment_out(&mut out[at..], &sheet[from..to]);
         p = to;
     }
     Done { next: p, bytes: at }

@@ -19,55 +19,55 @@ fn put_one(out: &mut [u8], n: usize) -> usize
     1
 }
 
-// The header of a record with so many bytes, up to the device; the sheet s starts with its 01.
-fn device_out(out: &mut [u8], s: &[u8], size: usize) -> usize
-    requires { ⌜ (12 ≤ length (now s)) × (14 ≤ length (now out)) × (size < 65536) ⌝ }
-    ensures { λ r. ⌜ Laid (deviceFrom (now (s .entry)) size) (now (out .entry)) (now (out .exit)) r ⌝ }
+// The header of a record with so many bytes, up to the device; the sheet starts with its 01.
+fn device_out(out: &mut [u8], sheet: &[u8], size: usize) -> usize
+    requires { ⌜ (12 ≤ length (now sheet)) × (14 ≤ length (now out)) × (size < 65536) ⌝ }
+    ensures { λ r. ⌜ Laid (deviceFrom (now (sheet .entry)) size) (now (out .entry)) (now (out .exit)) r ⌝ }
 {
     let mut at = copy(out, b"FSK\x00010\x00\x00\x00");
     at += put_two(&mut out[at..], size);
-    at += copy(&mut out[at..], &s[3..5]);
+    at += copy(&mut out[at..], &sheet[3..5]);
     at
 }
 
 // The rest of it: so many views, the scale, and two bytes that are zero.
-fn scale_out(out: &mut [u8], s: &[u8], views: usize) -> usize
-    requires { ⌜ (12 ≤ length (now s)) × (10 ≤ length (now out)) × (views < 256) ⌝ }
-    ensures { λ r. ⌜ Laid (scaleFrom (now (s .entry)) views) (now (out .entry)) (now (out .exit)) r ⌝ }
+fn scale_out(out: &mut [u8], sheet: &[u8], views: usize) -> usize
+    requires { ⌜ (12 ≤ length (now sheet)) × (10 ≤ length (now out)) × (views < 256) ⌝ }
+    ensures { λ r. ⌜ Laid (scaleFrom (now (sheet .entry)) views) (now (out .entry)) (now (out .exit)) r ⌝ }
 {
     let mut at = put_one(out, views);
-    at += copy(&mut out[at..], &s[5..12]);
+    at += copy(&mut out[at..], &sheet[5..12]);
     at += put_two(&mut out[at..], 0);
     at
 }
 
-// The views, whose fields start at byte 12 of the sheet s.
-fn views_out(out: &mut [u8], s: &[u8], w: Widths) -> usize
-    requires { ⌜ ViewsThere w (now s) (now out) ⌝ }
-    ensures { λ r. ⌜ ViewsPut w (now (s .entry)) (now (out .entry)) (now (out .exit)) r ⌝ }
+// The views, whose fields start at byte 12 of the sheet.
+fn views_out(out: &mut [u8], sheet: &[u8], w: Widths) -> usize
+    requires { ⌜ ViewsThere w (now sheet) (now out) ⌝ }
+    ensures { λ r. ⌜ ViewsPut w (now (sheet .entry)) (now (out .entry)) (now (out .exit)) r ⌝ }
 {
     let mut p: usize = 12;
     let mut at: usize = 0;
-    while p < s.len() {
-        let view = view_out(&mut out[at..], s, p, w);
+    while p < sheet.len() {
+        let view = view_out(&mut out[at..], sheet, p, w);
         at += view.bytes;
         p = view.next;
     }
     at
 }
 
-// The record of the sheet s, of so many bytes and views.
-pub fn record_out(out: &mut [u8], s: &[u8], size: usize, views: usize) -> usize
-    requires { ⌜ RecordThere (now s) size views (now out) ⌝ }
-    ensures { λ r. ⌜ RecordPut (now (s .entry)) size views (now (out .entry)) (now (out .exit)) r ⌝ }
+// The record of the sheet, of so many bytes and views.
+pub fn record_out(out: &mut [u8], sheet: &[u8], size: usize, views: usize) -> usize
+    requires { ⌜ RecordThere (now sheet) size views (now out) ⌝ }
+    ensures { λ r. ⌜ RecordPut (now (sheet .entry)) size views (now (out .entry)) (now (out .exit)) r ⌝ }
 {
     let w = Widths {
-        c: wide(s[6]),
-        b: wide(s[7]),
-        k: wide(s[8]),
+        c: wide(sheet[6]),
+        b: wide(sheet[7]),
+        k: wide(sheet[8]),
     };
-    let mut at = device_out(out, s, size);
-    at += scale_out(&mut out[at..], s, views);
-    at += views_out(&mut out[at..], s, w);
+    let mut at = device_out(out, sheet, size);
+    at += scale_out(&mut out[at..], sheet, views);
+    at += views_out(&mut out[at..], sheet, w);
     at
 }

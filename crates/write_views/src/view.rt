@@ -11,11 +11,11 @@ use write_blocks::line::lines_out;
 use write_blocks::segments::segments_out;
 
 // The skeleton block behind its length.
-fn skeleton(out: &mut [u8], s: &[u8], a: usize, w: Widths) -> Lines
-    requires { ⌜ SkeletonThere w (now s) a (now out) ⌝ }
-    ensures { λ r. ⌜ SkeletonOut w (now (s .entry)) a (now (out .entry)) (now (out .exit)) r ⌝ }
+fn skeleton(out: &mut [u8], sheet: &[u8], a: usize, w: Widths) -> Lines
+    requires { ⌜ SkeletonThere w (now sheet) a (now out) ⌝ }
+    ensures { λ r. ⌜ SkeletonOut w (now (sheet .entry)) a (now (out .entry)) (now (out .exit)) r ⌝ }
 {
-    let lines = lines_out(&mut out[2..], s, a, w);
+    let lines = lines_out(&mut out[2..], sheet, a, w);
     let at = put_two(out, lines.bytes);
     Lines {
         next: lines.next,
@@ -25,11 +25,11 @@ fn skeleton(out: &mut [u8], s: &[u8], a: usize, w: Widths) -> Lines
 }
 
 // The index block behind its length.
-fn index(out: &mut [u8], s: &[u8], a: usize, lines: usize) -> Done
-    requires { ⌜ IndexSizedThere lines (now s) a (now out) ⌝ }
-    ensures { λ r. ⌜ IndexSized lines (now (s .entry)) a (now (out .entry)) (now (out .exit)) r ⌝ }
+fn index(out: &mut [u8], sheet: &[u8], a: usize, lines: usize) -> Done
+    requires { ⌜ IndexSizedThere lines (now sheet) a (now out) ⌝ }
+    ensures { λ r. ⌜ IndexSized lines (now (sheet .entry)) a (now (out .entry)) (now (out .exit)) r ⌝ }
 {
-    let block = index_out(&mut out[2..], s, a, lines);
+    let block = index_out(&mut out[2..], sheet, a, lines);
     let at = put_two(out, block.bytes);
     Done {
         next: block.next,
@@ -38,11 +38,11 @@ fn index(out: &mut [u8], s: &[u8], a: usize, lines: usize) -> Done
 }
 
 // The extended block behind its length.
-fn extended(out: &mut [u8], s: &[u8], a: usize) -> Done
-    requires { ⌜ SegmentsSizedThere (now s) a (now out) ⌝ }
-    ensures { λ r. ⌜ SegmentsSized (now (s .entry)) a (now (out .entry)) (now (out .exit)) r ⌝ }
+fn extended(out: &mut [u8], sheet: &[u8], a: usize) -> Done
+    requires { ⌜ SegmentsSizedThere (now sheet) a (now out) ⌝ }
+    ensures { λ r. ⌜ SegmentsSized (now (sheet .entry)) a (now (out .entry)) (now (out .exit)) r ⌝ }
 {
-    let block = segments_out(&mut out[2..], s, a);
+    let block = segments_out(&mut out[2..], sheet, a);
     let at = put_two(out, block.bytes);
     Done {
         next: block.next,
@@ -50,19 +50,19 @@ fn extended(out: &mut [u8], s: &[u8], a: usize) -> Done
     }
 }
 
-// The view whose 02 is at byte a of the sheet s.
-pub fn view_out(out: &mut [u8], s: &[u8], a: usize, w: Widths) -> Done
-    requires { ⌜ ViewThere w (now s) a (now out) ⌝ }
-    ensures { λ r. ⌜ ViewPut w (now (s .entry)) a (now (out .entry)) (now (out .exit)) r ⌝ }
+// The view whose 02 is at byte a of the sheet.
+pub fn view_out(out: &mut [u8], sheet: &[u8], a: usize, w: Widths) -> Done
+    requires { ⌜ ViewThere w (now sheet) a (now out) ⌝ }
+    ensures { λ r. ⌜ ViewPut w (now (sheet .entry)) a (now (out .entry)) (now (out .exit)) r ⌝ }
 {
     let from = a + 3;
     let to = a + 11;
-    let mut at = copy(out, &s[from..to]);
-    let lines = skeleton(&mut out[at..], s, to, w);
+    let mut at = copy(out, &sheet[from..to]);
+    let lines = skeleton(&mut out[at..], sheet, to, w);
     at += lines.bytes;
-    let lists = index(&mut out[at..], s, lines.next, lines.count);
+    let lists = index(&mut out[at..], sheet, lines.next, lines.count);
     at += lists.bytes;
-    let segments = extended(&mut out[at..], s, lists.next);
+    let segments = extended(&mut out[at..], sheet, lists.next);
     at += segments.bytes;
     let next = segments.next;
     Done { next, bytes: at }

@@ -30,7 +30,7 @@ use Rattle.sheet_bytes.proofs.Laws.Rendered.{rendered}
 use Rattle.find_parts.specs.Stored.{recordOut}
 use Rattle.write_views.specs.Records.{RecordThere, RecordPut}
 use Rattle.find_parts.proofs.Laws.Written.{stored-long, written}
-use Rattle.writing.specs.Judged.{SheetRight, SheetRefused, InOrder}
+use Rattle.writing.specs.JudgedSheet.{SheetRight, SheetRefused, InOrder}
 
 -- ---- the sheet
 

@@ -9,8 +9,8 @@ use Rattle.outcome.specs.Refusals.{badSheet}
 use Rattle.format.specs.Record.{Record, size}
 use Rattle.sheet.specs.Sheet.{readSheet}
 use Rattle.check_values.specs.Sheet.{ValuesThere}
-use Rattle.writing.specs.declared.Judged.{Judged}
-use Rattle.writing.specs.declared.Judged.the-variants as judged
+use Rattle.writing.specs.declared.JudgedSheet.{JudgedSheet}
+use Rattle.writing.specs.declared.JudgedSheet.the-variants as judged
 
 -- n views, z bytes
 pub record SheetRight (s : List ℕ) (n z : ℕ) : Type 0 where
@@ -28,6 +28,6 @@ abbrev pub InOrder : List ℕ → Bool → Type 0
 InOrder s true = ValuesThere s
 InOrder s false = SheetRefused s badSheet
 
-abbrev pub SheetIs : List ℕ → Judged → Type 0
+abbrev pub SheetIs : List ℕ → JudgedSheet → Type 0
 SheetIs s (judged.Right n z) = SheetRight s n z
 SheetIs s (judged.Refused e) = SheetRefused s e

@@ -2,7 +2,7 @@
 // there is room.
 ghost use Rattle.outcome.specs.Outcome.{Answers};
 ghost use Rattle.sheet.specs.Sheet.{writing};
-ghost use Rattle.writing.specs.Judged.{InOrder, SheetIs};
+ghost use Rattle.writing.specs.JudgedSheet.{InOrder, SheetIs};
 use check_fields::whole;
 use check_shape::shape;
 use check_values::Valued;
@@ -15,32 +15,32 @@ use outcome::refuse;
 use write_views::record::record_out;
 
 // The views and the bytes of the sheet's record; or the number of its refusal.
-enum Judged {
+enum JudgedSheet {
     Right { views: usize, bytes: usize },
     Refused(u32),
 }
 
 // Whether no field is cut and the fields obey the grammar.
-fn in_order(s: &[u8]) -> bool
-    ensures { λ r. ⌜ InOrder (now (s .entry)) r ⌝ }
+fn in_order(sheet: &[u8]) -> bool
+    ensures { λ r. ⌜ InOrder (now (sheet .entry)) r ⌝ }
 {
-    if whole(s) { shape(s) } else { false }
+    if whole(sheet) { shape(sheet) } else { false }
 }
 
 // 21 over the whole sheet, 22 over the whole sheet, 19.
-fn judge_sheet(s: &[u8]) -> Judged
-    ensures { λ r. ⌜ SheetIs (now (s .entry)) r ⌝ }
+fn judge_sheet(sheet: &[u8]) -> JudgedSheet
+    ensures { λ r. ⌜ SheetIs (now (sheet .entry)) r ⌝ }
 {
-    if !in_order(s) {
-        return Judged::Refused(Refusal::BAD_SHEET);
+    if !in_order(sheet) {
+        return JudgedSheet::Refused(Refusal::BAD_SHEET);
     }
-    match values(s) {
-        Valued::Wrong => Judged::Refused(Refusal::BAD_VALUE),
+    match values(sheet) {
+        Valued::Wrong => JudgedSheet::Refused(Refusal::BAD_VALUE),
         Valued::Right { views, bytes: size } => {
             if Header::MOST_BYTES < size {
-                Judged::Refused(Refusal::TOO_LONG)
+                JudgedSheet::Refused(Refusal::TOO_LONG)
             } else {
-                Judged::Right { views, bytes: size }
+                JudgedSheet::Right { views, bytes: size }
             }
         }
     }
@@ -50,8 +50,8 @@ pub fn write(sheet: &[u8], bytes: &mut [u8]) -> Answer
     ensures { λ r. ⌜ Answers (writing (now (sheet .entry))) (now (bytes .entry)) (now (bytes .exit)) r ⌝ }
 {
     match judge_sheet(sheet) {
-        Judged::Refused(number) => refuse(number),
-        Judged::Right { views, bytes: size } => {
+        JudgedSheet::Refused(number) => refuse(number),
+        JudgedSheet::Right { views, bytes: size } => {
             if bytes.len() < size {
                 refuse(Refusal::NO_ROOM)
             } else {

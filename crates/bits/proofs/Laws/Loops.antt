@@ -9,43 +9,43 @@ use mathlib.Core.List.{List, [], _∷_, _++_}
 use lib.ListN.{length, take, drop, length-drop}
 use lib.Dec.{leb}
 use Rattle.bits.specs.ChoiceLaws.{pick-yes, pick-no}
-use Rattle.bits.specs.Bits.{Bits, numberOf}
+use Rattle.bits.specs.Bits.{Bits, numberOfBits}
 use Rattle.bits.specs.Codec.{Read, got, refused, next, Codec, fieldDec, timesDec, alongDec}
 use Rattle.bits.specs.CodecLaws.{field, pick-got}
 use Rattle.bits.specs.Block.{few, zerosDec, manyDec, fillDec}
 use Rattle.bits.specs.BlockLaws.{few-yes, few-no, many-over, fill-more}
 use Rattle.bits.specs.Lists.{total}
-use Rattle.bits.specs.Reads.{kept, summed, tallied}
+use Rattle.bits.specs.Reads.{keeping, summed, tallied}
 use Rattle.bits.proofs.Laws.Reads.{first-field}
 
 -- ---- what is kept of values, of which the first is read
 
-pub kept-same : {S A B : Type 0} (f g : A → B) (o : Read S A) → ((a : A) → f a ≡ g a) → kept f o ≡ kept g o
-kept-same f g (got a r) h = ap (λ (b : _). got b r) (h a)
-kept-same f g (refused e l) h = refl
+pub keeping-same : {S A B : Type 0} (f g : A → B) (o : Read S A) → ((a : A) → f a ≡ g a) → keeping f o ≡ keeping g o
+keeping-same f g (got a r) h = ap (λ (b : _). got b r) (h a)
+keeping-same f g (refused e l) h = refl
 
-pub kept-none : {S A : Type 0} (o : Read S (List A)) → kept (λ xs. [] ++ xs) o ≡ o
-kept-none (got xs r) = refl
-kept-none (refused e l) = refl
+pub keeping-none : {S A : Type 0} (o : Read S (List A)) → keeping (λ xs. [] ++ xs) o ≡ o
+keeping-none (got xs r) = refl
+keeping-none (refused e l) = refl
 
-pub kept-cons : {S A B : Type 0} (g : List A → B) (x : A) (o : Read S (List A)) → kept g (next o (λ xs q. got (x ∷ xs) q)) ≡ kept (λ xs. g (x ∷ xs)) o
-kept-cons g x (got xs q) = refl
-kept-cons g x (refused e l) = refl
+pub keeping-cons : {S A B : Type 0} (g : List A → B) (x : A) (o : Read S (List A)) → keeping g (next o (λ xs q. got (x ∷ xs) q)) ≡ keeping (λ xs. g (x ∷ xs)) o
+keeping-cons g x (got xs q) = refl
+keeping-cons g x (refused e l) = refl
 
 -- the sum, and the count with it, go on
-pub sum-more : {S A : Type 0} (f : A → ℕ) (z : ℕ) (x : A) (o : Read S (List A)) → kept (λ xs. z + total f (x ∷ xs)) o ≡ summed f (z + f x) o
-sum-more f z x o = kept-same _ _ o (λ xs. omega arith)
+pub sum-more : {S A : Type 0} (f : A → ℕ) (z : ℕ) (x : A) (o : Read S (List A)) → keeping (λ xs. z + total f (x ∷ xs)) o ≡ summed f (z + f x) o
+sum-more f z x o = keeping-same _ _ o (λ xs. omega arith)
 
 pub tally-more : {S A : Type 0} (f : A → ℕ) (n z : ℕ) (x : A) (o : Read S (List A))
-    → kept (λ xs. (n + length (x ∷ xs), z + total f (x ∷ xs))) o ≡ tallied f (n + 1) (z + f x) o
+    → keeping (λ xs. (n + length (x ∷ xs), z + total f (x ∷ xs))) o ≡ tallied f (n + 1) (z + f x) o
 tally-more f n z x o =
-    kept-same _ _ o λ xs.
+    keeping-same _ _ o λ xs.
     let a : n + suc (length xs) ≡ n + 1 + length xs = omega arith in
     let b : z + (f x + total f xs) ≡ z + f x + total f xs = omega arith in
     λ i. (a i, b i)
 
-pub sum-start : {S A : Type 0} (f : A → ℕ) (o : Read S (List A)) → summed f 0 o ≡ kept (total f) o
-sum-start f o = kept-same _ _ o (λ xs. omega arith)
+pub sum-start : {S A : Type 0} (f : A → ℕ) (o : Read S (List A)) → summed f 0 o ≡ keeping (total f) o
+sum-start f o = keeping-same _ _ o (λ xs. omega arith)
 
 -- one value less of n
 less : {n i : ℕ} → i < n → n - i ≡ suc (n - (i + 1))
@@ -55,8 +55,8 @@ less l = omega arith
 
 module _ {S A : Type 0} (c : Codec S A) (n i : ℕ) (s : List S) where
   pub times-turn : {B : Type 0} (g : List A → B) {x : A} {r : List S} → i < n → c .dec s ≡ got x r
-      → kept g (timesDec c (n - i) s) ≡ kept (λ xs. g (x ∷ xs)) (timesDec c (n - (i + 1)) r)
-  times-turn g {x} {r} l h = ap (λ (k : ℕ). kept g (timesDec c k s)) (less l) ∙ rw h (kept-cons g x (timesDec c (n - (i + 1)) r))
+      → keeping g (timesDec c (n - i) s) ≡ keeping (λ xs. g (x ∷ xs)) (timesDec c (n - (i + 1)) r)
+  times-turn g {x} {r} l h = ap (λ (k : ℕ). keeping g (timesDec c k s)) (less l) ∙ rw h (keeping-cons g x (timesDec c (n - (i + 1)) r))
 
   pub times-stop : {e l : ℕ} → i < n → c .dec s ≡ refused e l → timesDec c (n - i) s ≡ refused e l
   times-stop k h = ap (λ (j : ℕ). timesDec c j s) (less k) ∙ rw h
@@ -66,8 +66,8 @@ module _ {S A : Type 0} (c : Codec S A) (n i : ℕ) (s : List S) where
 
 module _ {S A I : Type 0} (c : I → Codec S A) (m : I → A → I) (n j : ℕ) (i : I) (s : List S) where
   pub along-turn : {B : Type 0} (g : List A → B) {x : A} {r : List S} → j < n → c i .dec s ≡ got x r
-      → kept g (alongDec c m (n - j) i s) ≡ kept (λ xs. g (x ∷ xs)) (alongDec c m (n - (j + 1)) (m i x) r)
-  along-turn g {x} {r} l h = ap (λ (k : ℕ). kept g (alongDec c m k i s)) (less l) ∙ rw h (kept-cons g x (alongDec c m (n - (j + 1)) (m i x) r))
+      → keeping g (alongDec c m (n - j) i s) ≡ keeping (λ xs. g (x ∷ xs)) (alongDec c m (n - (j + 1)) (m i x) r)
+  along-turn g {x} {r} l h = ap (λ (k : ℕ). keeping g (alongDec c m k i s)) (less l) ∙ rw h (keeping-cons g x (alongDec c m (n - (j + 1)) (m i x) r))
 
   pub along-stop : {e l : ℕ} → j < n → c i .dec s ≡ refused e l → alongDec c m (n - j) i s ≡ refused e l
   along-stop k h = ap (λ (d : ℕ). alongDec c m d i s) (less k) ∙ rw h
@@ -79,10 +79,10 @@ module _ {S A I : Type 0} (c : I → Codec S A) (m : I → A → I) (n j : ℕ) 
 
 module _ {A : Type 0} (c : Codec Bool A) (bad over most n : ℕ) (s : Bits) where
   pub many-turn : {B : Type 0} (g : List A → B) {x : A} {r : Bits} → n < most → 8 ≤ length s → c .dec s ≡ got x r
-      → kept g (manyDec c bad over (most - n) s) ≡ kept (λ xs. g (x ∷ xs)) (manyDec c bad over (most - (n + 1)) r)
+      → keeping g (manyDec c bad over (most - n) s) ≡ keeping (λ xs. g (x ∷ xs)) (manyDec c bad over (most - (n + 1)) r)
   many-turn g {x} {r} l h e =
-      ap (λ (k : ℕ). kept g (manyDec c bad over k s)) (less l)
-      ∙ ap (kept g) (pick-no (few (length s)) _ _ (few-no (length s) h) ∙ step) ∙ kept-cons g x (manyDec c bad over (most - (n + 1)) r)
+      ap (λ (k : ℕ). keeping g (manyDec c bad over k s)) (less l)
+      ∙ ap (keeping g) (pick-no (few (length s)) _ _ (few-no (length s) h) ∙ step) ∙ keeping-cons g x (manyDec c bad over (most - (n + 1)) r)
     where
       step : next (c .dec s) (λ y q. next (manyDec c bad over (most - (n + 1)) q) (λ xs u. got (y ∷ xs) u)) ≡ next (manyDec c bad over (most - (n + 1)) r) (λ xs u. got (x ∷ xs) u)
       step = rw e
@@ -104,10 +104,10 @@ module _ {A : Type 0} (c : Codec Bool A) (bad over most n : ℕ) (s : Bits) wher
 
 module _ {A : Type 0} (c : Codec Bool A) (bad most n : ℕ) (s : Bits) where
   pub fill-turn : {B : Type 0} (g : List A → B) {x : A} {r : Bits} → n < most → 0 < length s → c .dec s ≡ got x r
-      → kept g (fillDec c bad (most - n) s) ≡ kept (λ xs. g (x ∷ xs)) (fillDec c bad (most - (n + 1)) r)
+      → keeping g (fillDec c bad (most - n) s) ≡ keeping (λ xs. g (x ∷ xs)) (fillDec c bad (most - (n + 1)) r)
   fill-turn g {x} {r} l h e =
-      ap (λ (k : ℕ). kept g (fillDec c bad k s)) (less l)
-      ∙ ap (kept g) (fill-more c bad (most - (n + 1)) s h ∙ step) ∙ kept-cons g x (fillDec c bad (most - (n + 1)) r)
+      ap (λ (k : ℕ). keeping g (fillDec c bad k s)) (less l)
+      ∙ ap (keeping g) (fill-more c bad (most - (n + 1)) s h ∙ step) ∙ keeping-cons g x (fillDec c bad (most - (n + 1)) r)
     where
       step : next (c .dec s) (λ y q. next (fillDec c bad (most - (n + 1)) q) (λ xs u. got (y ∷ xs) u)) ≡ next (fillDec c bad (most - (n + 1)) r) (λ xs u. got (x ∷ xs) u)
       step = rw e
@@ -131,18 +131,18 @@ numbers-fill e w (suc k) (suc n) s o h l =
     let m : length s ≡ w + k * w = omega (arith, h, add-mul 1 k w) in
     let (xs, z, d) = numbers-fill e w k n (drop w s) o (length-drop w s ∙ omega arith) (omega arith) in
     let f = first-field e w s (omega arith) in
-    (numberOf (take w s) ∷ xs, ap suc z, fill-more (field e w) e n s (omega arith) ∙ rw (f, d))
+    (numberOfBits (take w s) ∷ xs, ap suc z, fill-more (field e w) e n s (omega arith) ∙ rw (f, d))
 
 -- ---- zero bits, one by one
 
 pub bit-zero : (e : ℕ) (s : Bits) {v : ℕ} {r : Bits} → fieldDec e 1 s ≡ got v r → v ≡ 0 → zerosDec e s ≡ zerosDec e r
-unfolding numberOf
+unfolding numberOfBits
 bit-zero e [] h z = let y : _≡_ {A = ℕ} 0 1 = cc in absurd (omega arith)
 bit-zero e (false ∷ s) h z = ap (zerosDec e) (pick-got (leb 1 (length (false ∷ s))) _ _ e _ h .2)
 bit-zero e (true ∷ s) h z = absurd (omega (arith, pick-got (leb 1 (length (true ∷ s))) _ _ e _ h .1))
 
 pub bit-one : (e : ℕ) (s : Bits) {v : ℕ} {r : Bits} → fieldDec e 1 s ≡ got v r → (v ≡ 0 → ⊥) → zerosDec e s ≡ refused e (length s)
-unfolding numberOf
+unfolding numberOfBits
 bit-one e [] h z = let y : _≡_ {A = ℕ} 0 1 = cc in absurd (omega arith)
 bit-one e (false ∷ s) h z = absurd (z (omega (arith, pick-got (leb 1 (length (false ∷ s))) _ _ e _ h .1)))
 bit-one e (true ∷ s) h z = refl

@@ -12,7 +12,7 @@ use lib.Seq.{drop-drop, drop-at, take-at, take-add, take-all, take-take, length-
 use lib.Dec.{T, leb, le→leb}
 use mir.Facts.{no-leb}
 use Rattle.bits.specs.ChoiceLaws.{pick-yes, pick-no}
-use Rattle.bits.specs.Bits.{Bits, numberOf, bitsOfNumber}
+use Rattle.bits.specs.Bits.{Bits, numberOfBits, bitsOfNumber}
 use Rattle.bits.specs.BitsLaws.{length-bits}
 use Rattle.bits.specs.Lists.{All}
 use Rattle.bits.specs.ListsLaws.{all-front, all-rest}
@@ -22,8 +22,8 @@ use Rattle.bits.specs.Codec.{Read, got, refused, next, fieldDec, timesDe
 use Rattle.bits.specs.CodecLaws.{field}
 use Rattle.bits.specs.Block.{Block, maybeDec, sizedDec, inside}
 use Rattle.bits.specs.SizedLaws.{sized, prefixed}
-use Rattle.bits.specs.Reads.{Found, found, fault, Reads, kept}
-use Rattle.bits.proofs.Laws.Reads.{length-rest, first-field, known, go-on, stop, made, keeps, field-past, kept-got, kept-refused}
+use Rattle.bits.specs.Reads.{Found, found, fault, Reads, keeping}
+use Rattle.bits.proofs.Laws.Reads.{length-rest, first-field, known, go-on, stop, made, keeps, field-past, keeping-got, keeping-refused}
 
 -- ---- a block of the bytes
 
@@ -121,9 +121,9 @@ bytes-there e (suc k) s h =
     let l : length (drop 8 s) ≡ length s - 8 = length-drop 8 s in
     let (xs, d) = bytes-there e k (drop 8 s) (omega arith) in
     let q : 8 + 8 * k ≡ 8 * suc k = omega arith in (
-      numberOf (take 8 s) ∷ xs,
+      numberOfBits (take 8 s) ∷ xs,
       ap (λ (o : Read Bool ℕ). next o (λ x r. next (timesDec (field e 8) k r) (λ ys u. got (x ∷ ys) u))) (first-field e 8 s (omega arith))
-          ∙ rw d (ap (got (numberOf (take 8 s) ∷ xs)) (drop-drop (8 * k) 8 s ∙ ap (λ (n : ℕ). drop n s) q)),
+          ∙ rw d (ap (got (numberOfBits (take 8 s) ∷ xs)) (drop-drop (8 * k) 8 s ∙ ap (λ (n : ℕ). drop n s) q)),
     )
 
 pub bytes-cut : (e k : ℕ) (s : Bits) → length s < 8 * k → (l : ℕ) × (timesDec (field e 8) k s ≡ refused e l)
@@ -147,7 +147,7 @@ maybe-more w (b ∷ s) h = refl
 
 module _ {A B : Type 0} (w : Block A) (f : A → B) (s : List ℕ) (a : ℕ) where
   abbrev Behind : Found B → Type 0
-  Behind r = Reads (λ x. kept f (prefixed w 6 .dec x)) s (8 * a) r
+  Behind r = Reads (λ x. keeping f (prefixed w 6 .dec x)) s (8 * a) r
 
   pub behind-cut : a ≤ length s → length s - a < 2 → Behind (fault 6 (8 * a))
   behind-cut i h = keeps f (made _ _ (stop _ _ (field-past 6 s (8 * a) 16 (omega arith) (omega arith))))
@@ -163,13 +163,13 @@ module _ {A B : Type 0} (w : Block A) (f : A → B) (s : List ℕ) (a : ℕ) whe
       long : length blk ≡ n
       long = ap length d ∙ part-length s (a + 2) n i
 
-      pub behind-bad : {x y : ℕ} → Reads (λ z. kept f (w .dec z)) blk 0 (fault x y) → Behind (fault x (8 * (a + 2) + y))
+      pub behind-bad : {x y : ℕ} → Reads (λ z. keeping f (w .dec z)) blk 0 (fault x y) → Behind (fault x (8 * (a + 2) + y))
       behind-bad {x} {y} h =
-          let z : w .dec (bitsOf (part s (a + 2) n)) ≡ refused x (8 * n - y) = ap (λ (l : List ℕ). w .dec (bitsOf l)) (sym d) ∙ kept-refused f _ (h .is) ∙ ap (λ (l : ℕ). refused x (8 * l - y)) long in
+          let z : w .dec (bitsOf (part s (a + 2) n)) ≡ refused x (8 * n - y) = ap (λ (l : List ℕ). w .dec (bitsOf l)) (sym d) ∙ keeping-refused f _ (h .is) ∙ ap (λ (l : ℕ). refused x (8 * l - y)) long in
           keeps f (made _ _ (go-on _ (λ n. sized w 6 n) there (sized-bad w 6 n (a + 2) s i (omega (arith, h .within, long)) z)))
 
-      pub behind-good : {b : B} {y : ℕ} → Reads (λ z. kept f (w .dec z)) blk 0 (found b y) → Behind (found b (8 * (a + 2 + n)))
+      pub behind-good : {b : B} {y : ℕ} → Reads (λ z. keeping f (w .dec z)) blk 0 (found b y) → Behind (found b (8 * (a + 2 + n)))
       behind-good h =
-          kept-got f _ (h .is) λ v z e.
+          keeping-got f _ (h .is) λ v z e.
           known (ap (λ (b : B). found b (8 * (a + 2 + n))) e)
           (keeps f (made _ _ (go-on _ (λ n. sized w 6 n) there (sized-good w 6 n (a + 2) s i (ap (λ (l : List ℕ). w .dec (bitsOf l)) (sym d) ∙ z)))))

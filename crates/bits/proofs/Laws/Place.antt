@@ -11,7 +11,7 @@ use lib.Seq.{take-suc, getD-append-add, getD-drop}
 use lib.Pow.{pow-mono}
 use Rattle.bits.specs.ChoiceLaws.{split}
 use Rattle.bits.specs.Lists.{All}
-use Rattle.bits.specs.Bits.{Bits, val, numberOf, bitsOfNumber}
+use Rattle.bits.specs.Bits.{Bits, val, numberOfBits, bitsOfNumber}
 use Rattle.bits.specs.BitsLaws.{length-bits, val-bit, number-lt}
 use Rattle.bits.specs.Bytes.{Byte, bitsOf}
 use Rattle.bits.specs.BytesLaws.{length-bitsOf}
@@ -21,15 +21,15 @@ val-le true = omega arith
 val-le false = omega arith
 
 -- one bit more
-pub number-snoc : (s : Bits) (b : Bool) → numberOf (s ++ b ∷ []) ≡ 2 * numberOf s + val b
-unfolding numberOf
+pub number-snoc : (s : Bits) (b : Bool) → numberOfBits (s ++ b ∷ []) ≡ 2 * numberOfBits s + val b
+unfolding numberOfBits
 number-snoc [] b = omega arith
 number-snoc (true ∷ s) b = omega (arith, number-snoc s b, length-append s (b ∷ []), ap (λ (n : ℕ). 2 ^ n) (length-append s (b ∷ []) ∙ add-one (length s)), pow-suc 2 (length s))
 number-snoc (false ∷ s) b = omega (arith, number-snoc s b)
 
 -- the loop of a reader: j bits read, one more
-number-step : (s : Bits) (j : ℕ) → j < length s → numberOf (take (suc j) s) ≡ 2 * numberOf (take j s) + val (getD s j false)
-number-step s j h = ap numberOf (take-suc s j false h) ∙ number-snoc (take j s) (getD s j false)
+number-step : (s : Bits) (j : ℕ) → j < length s → numberOfBits (take (suc j) s) ≡ 2 * numberOfBits (take j s) + val (getD s j false)
+number-step s j h = ap numberOfBits (take-suc s j false h) ∙ number-snoc (take j s) (getD s j false)
 
 shift : (x : ℕ) (xs : List ℕ) (q : ℕ) → getD (bitsOfNumber 8 x ++ bitsOf xs) (8 + q) false ≡ getD (bitsOf xs) q false
 shift x xs q = rw (length-bits 8 x) at (getD-append-add (bitsOfNumber 8 x) (bitsOf xs) q false)
@@ -72,13 +72,13 @@ pub code-bit : (xs : List ℕ) (p r : ℕ) → ((i : ℕ) → getD xs i 0 < 2 ^ 
     → r / 2 ^ (7 - p % 8) % 2 ≡ val (getD (bitsOf xs) p false)
 code-bit xs p r f l e = rw e (sym (bit-at xs p (all-bytes xs f) l))
 
-pub number-small : (s : Bits) (i k : ℕ) → i ≤ k → numberOf (take i s) < 2 ^ k
+pub number-small : (s : Bits) (i k : ℕ) → i ≤ k → numberOfBits (take i s) < 2 ^ k
 number-small s i k h =
     let l : length (take i s) ≤ k = simp length-take (omega arith) in
     omega (arith, number-lt (take i s), pow-mono l)
 
 pub code-step : (xs : List ℕ) (at i : ℕ) → at + i < 8 * length xs
-    → numberOf (take (i + 1) (drop at (bitsOf xs))) ≡ numberOf (take i (drop at (bitsOf xs))) * 2 + val (getD (bitsOf xs) (at + i) false)
+    → numberOfBits (take (i + 1) (drop at (bitsOf xs))) ≡ numberOfBits (take i (drop at (bitsOf xs))) * 2 + val (getD (bitsOf xs) (at + i) false)
 code-step xs at i h =
     let s : Bits = drop at (bitsOf xs) in
     let l : i < length s = simp (length-drop, length-bitsOf) (omega arith) in

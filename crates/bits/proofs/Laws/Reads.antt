@@ -13,22 +13,22 @@ use mir.Facts.{no-leb}
 use borrow.Author.Tests.{eq-eqb, ne-eqb}
 use Rattle.bits.specs.Choice.{pick, within}
 use Rattle.bits.specs.ChoiceLaws.{pick-yes, pick-no, within-yes, within-not-low, within-not-high}
-use Rattle.bits.specs.Bits.{Bits, numberOf}
+use Rattle.bits.specs.Bits.{Bits, numberOfBits}
 use Rattle.bits.specs.Bytes.{bitsOf}
 use Rattle.bits.specs.BytesLaws.{length-bitsOf}
 use Rattle.bits.specs.Codec.{Read, got, refused, next, Codec, fieldDec, thenDec, viaDec, onlyDec, wholeDec, judgedDec, roomDec}
 use Rattle.bits.specs.CodecLaws.{field, field-back, fixed, ranged}
-use Rattle.bits.specs.Reads.{Found, found, fault, placed, placeOf, Reads, kept}
+use Rattle.bits.specs.Reads.{Found, found, fault, placed, placeFound, Reads, keeping}
 
 pub length-rest : (s : List ℕ) (p : ℕ) → length (drop p (bitsOf s)) ≡ 8 * length s - p
 length-rest s p = simp (length-drop, length-bitsOf)
 
 -- the first n bits as a number
-pub first-field : (e n : ℕ) (s : Bits) → n ≤ length s → fieldDec e n s ≡ got (numberOf (take n s)) (drop n s)
+pub first-field : (e n : ℕ) (s : Bits) → n ≤ length s → fieldDec e n s ≡ got (numberOfBits (take n s)) (drop n s)
 first-field e n s l = pick-yes (leb n (length s)) _ _ (le→leb n (length s) l)
 
 -- the field of n bits at place p, where it fits, and where it passes the end
-pub field-at : (e : ℕ) (s : List ℕ) (p n v : ℕ) → p ≤ 8 * length s → n ≤ 8 * length s - p → v ≡ numberOf (take n (drop p (bitsOf s)))
+pub field-at : (e : ℕ) (s : List ℕ) (p n v : ℕ) → p ≤ 8 * length s → n ≤ 8 * length s - p → v ≡ numberOfBits (take n (drop p (bitsOf s)))
     → Reads (fieldDec e n) s p (found v (p + n))
 field-at e s p n v i h z =
     let l : n ≤ length (drop p (bitsOf s)) = rw (length-rest s p) h in
@@ -45,7 +45,7 @@ abbrev pub mapped : {A B : Type 0} → (A → B) → Found A → Found B
 mapped f (found a p) = found (f a) p
 mapped f (fault e p) = fault e p
 
-mapped-within : {A B : Type 0} (f : A → B) (r : Found A) {m : ℕ} → placeOf r ≤ m → placeOf (mapped f r) ≤ m
+mapped-within : {A B : Type 0} (f : A → B) (r : Found A) {m : ℕ} → placeFound r ≤ m → placeFound (mapped f r) ≤ m
 mapped-within f (found a p) i = i
 mapped-within f (fault e p) i = i
 
@@ -85,10 +85,10 @@ module _ {A B : Type 0} (c : Codec Bool A) {s : List ℕ} {p : ℕ} where
       go (fault e x) = refl
 
 -- what is kept of a value
-pub keeps : {A B : Type 0} {d : Bits → Read Bool A} {s : List ℕ} {p : ℕ} (f : A → B) {r : Found A} → Reads d s p r → Reads (λ x. kept f (d x)) s p (mapped f r)
+pub keeps : {A B : Type 0} {d : Bits → Read Bool A} {s : List ℕ} {p : ℕ} (f : A → B) {r : Found A} → Reads d s p r → Reads (λ x. keeping f (d x)) s p (mapped f r)
 keeps {A = A} {s = s} f {r} h = record { is = rw (h .is) (go r); within = mapped-within f r (h .within) }
   where
-    go : (r : Found A) → kept f (placed s r) ≡ placed s (mapped f r)
+    go : (r : Found A) → keeping f (placed s r) ≡ placed s (mapped f r)
     go (found b x) = refl
     go (fault e x) = refl
 
@@ -143,20 +143,20 @@ module _ {A : Type 0} (c : Codec Bool A) {s : List ℕ} {p : ℕ} where
 pub own : (e : ℕ) (s : List ℕ) (p n x q : ℕ) → p ≤ 8 * length s → Reads (fieldDec e n) s p (fault x q) → Reads (fieldDec e n) s p (fault e p)
 own e s p n x q i h = record { is = go (leb n (length (drop p (bitsOf s)))) (h .is) ∙ ap (refused e) (length-rest s p); within = i }
   where
-    go : (t : Bool) → pick t (got (numberOf (take n (drop p (bitsOf s)))) (drop n (drop p (bitsOf s)))) (refused e (length (drop p (bitsOf s)))) ≡ refused x (8 * length s - q)
-        → pick t (got (numberOf (take n (drop p (bitsOf s)))) (drop n (drop p (bitsOf s)))) (refused e (length (drop p (bitsOf s)))) ≡ refused e (length (drop p (bitsOf s)))
+    go : (t : Bool) → pick t (got (numberOfBits (take n (drop p (bitsOf s)))) (drop n (drop p (bitsOf s)))) (refused e (length (drop p (bitsOf s)))) ≡ refused x (8 * length s - q)
+        → pick t (got (numberOfBits (take n (drop p (bitsOf s)))) (drop n (drop p (bitsOf s)))) (refused e (length (drop p (bitsOf s)))) ≡ refused e (length (drop p (bitsOf s)))
     go true y = let z : _≡_ {A = ℕ} 0 1 = cc in absurd (omega arith)
     go false y = refl
 
 -- ---- what is kept of a value
 
-pub kept-got : {S A B P : Type 0} {b : B} {r : List S} (f : A → B) (o : Read S A) → kept f o ≡ got b r → ((a : A) → o ≡ got a r → f a ≡ b → P) → P
-kept-got f (got a q) p k = k a (ap (got a) (cc)) (cc)
-kept-got f (refused e l) p k = let z : _≡_ {A = ℕ} 0 1 = cc in absurd (omega arith)
+pub keeping-got : {S A B P : Type 0} {b : B} {r : List S} (f : A → B) (o : Read S A) → keeping f o ≡ got b r → ((a : A) → o ≡ got a r → f a ≡ b → P) → P
+keeping-got f (got a q) p k = k a (ap (got a) (cc)) (cc)
+keeping-got f (refused e l) p k = let z : _≡_ {A = ℕ} 0 1 = cc in absurd (omega arith)
 
-pub kept-refused : {S A B : Type 0} {e l : ℕ} (f : A → B) (o : Read S A) → kept f o ≡ refused e l → o ≡ refused e l
-kept-refused f (got a q) p = let z : _≡_ {A = ℕ} 0 1 = cc in absurd (omega arith)
-kept-refused f (refused x y) p = cc
+pub keeping-refused : {S A B : Type 0} {e l : ℕ} (f : A → B) (o : Read S A) → keeping f o ≡ refused e l → o ≡ refused e l
+keeping-refused f (got a q) p = let z : _≡_ {A = ℕ} 0 1 = cc in absurd (omega arith)
+keeping-refused f (refused x y) p = cc
 
 pub at-place : {A : Type 0} {d : Bits → Read Bool A} {s : List ℕ} {p p′ : ℕ} {r : Found A} → p ≡ p′ → Reads d s p r → Reads d s p′ r
 at-place {d = d} {s = s} {r = r} e h = subst (λ (x : ℕ). Reads d s x r) e h
@@ -170,11 +170,11 @@ pub up-to : {A : Type 0} {d : Bits → Read Bool A} {s : List ℕ} {p q q′ : �
 up-to {d = d} {s = s} {p = p} {a = a} e h = subst (λ (x : ℕ). Reads d s p (found a x)) e h
 
 -- a read whose value is partly kept is a read
-pub unkept-bad : {A B : Type 0} {d : Bits → Read Bool A} (f : A → B) {s : List ℕ} {p e q : ℕ} → Reads (λ x. kept f (d x)) s p (fault e q) → Reads d s p (fault e q)
-unkept-bad f h = record { is = kept-refused f _ (h .is); within = h .within }
+pub unkept-bad : {A B : Type 0} {d : Bits → Read Bool A} (f : A → B) {s : List ℕ} {p e q : ℕ} → Reads (λ x. keeping f (d x)) s p (fault e q) → Reads d s p (fault e q)
+unkept-bad f h = record { is = keeping-refused f _ (h .is); within = h .within }
 
-pub unkept : {A B P : Type 0} {d : Bits → Read Bool A} (f : A → B) {s : List ℕ} {p q : ℕ} {b : B} → Reads (λ x. kept f (d x)) s p (found b q) → ((a : A) → f a ≡ b → Reads d s p (found a q) → P) → P
-unkept f h k = kept-got f _ (h .is) λ a e z. k a z (record { is = e; within = h .within })
+pub unkept : {A B P : Type 0} {d : Bits → Read Bool A} (f : A → B) {s : List ℕ} {p q : ℕ} {b : B} → Reads (λ x. keeping f (d x)) s p (found b q) → ((a : A) → f a ≡ b → Reads d s p (found a q) → P) → P
+unkept f h k = keeping-got f _ (h .is) λ a e z. k a z (record { is = e; within = h .within })
 
 -- ---- numbers with a rule
 

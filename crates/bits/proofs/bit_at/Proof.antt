@@ -18,7 +18,7 @@ shr-result c = search needs
 
 returns : tie.Need-returns
 returns c =
-    code-bit (c .before .before .before .args .s .now) (c .before .before .before .args .at) (c .wide .result)
+    code-bit (c .before .before .before .args .bytes .now) (c .before .before .before .args .at) (c .wide .result)
     (λ i. c .before .shared-slice-known2 .given i .fits) (c .before .before .before .pre) (c .wide .ensures)
 
 pub bit-at-spec : {M : Type 1} → statement M

@@ -6,7 +6,7 @@ use mathlib.Core.List.{List}
 use mathlib.Core.Bool.{false}
 use lib.ListN.{take, drop, getD}
 use Rattle.bits.proofs.Laws.Place.{val-le, number-small, code-step}
-use Rattle.bits.specs.Bits.{Bits, numberOf}
+use Rattle.bits.specs.Bits.{Bits, numberOfBits}
 use Rattle.bits.specs.Bytes.{bitsOf}
 use Rattle.bits.proofs.number_at.Statement.{statement}
 use Rattle.bits.proofs.number_at.Tie as tie
@@ -15,17 +15,17 @@ abbrev bits : List ℕ → ℕ → Bits
 bits s at = drop at (bitsOf s)
 
 abbrev Inv-loop : tie.InvT-loop
-Inv-loop s at w x₀ i₀ x i = (i ≤ w) × (x ≡ numberOf (take i (drop at (bitsOf s))))
+Inv-loop s at w x₀ i₀ x i = (i ≤ w) × (x ≡ numberOfBits (take i (drop at (bitsOf s))))
 
 abbrev μ-loop : tie.MeasureT-loop
 μ-loop s at w x₀ i₀ x i = w - i
 
 loop-holds : tie.Need-loop-holds Inv-loop μ-loop
-unfolding numberOf
+unfolding numberOfBits
 loop-holds c = (omega arith, refl)
 
 mul-x : tie.Need-mul-x Inv-loop μ-loop
-mul-x c = omega (arith, number-small (bits (c .before .before .before .args .s .now) (c .before .before .before .args .at)) (c .before .loop .i) 32 (omega arith))
+mul-x c = omega (arith, number-small (bits (c .before .before .before .args .bytes .now) (c .before .before .before .args .at)) (c .before .loop .i) 32 (omega arith))
 
 add-bit-at : tie.Need-add-bit-at Inv-loop μ-loop
 add-bit-at c = omega arith
@@ -35,7 +35,7 @@ bit-at-requires c κs = omega arith
 
 add-x : tie.Need-add-x Inv-loop μ-loop
 add-x c =
-    omega (arith, number-small (bits (c .before .before .before .before .args .s .now) (c .before .before .before .before .args .at)) (c .before .before .loop .i) 32 (omega arith), val-le (getD (bitsOf (c .before .before .before .before .args .s .now)) (c .before .before .before .before .args .at + c .before .before .loop .i) false))
+    omega (arith, number-small (bits (c .before .before .before .before .args .bytes .now) (c .before .before .before .before .args .at)) (c .before .before .loop .i) 32 (omega arith), val-le (getD (bitsOf (c .before .before .before .before .args .bytes .now)) (c .before .before .before .before .args .at + c .before .before .loop .i) false))
 
 add-i : tie.Need-add-i Inv-loop μ-loop
 add-i c = omega arith
@@ -45,7 +45,7 @@ loop-less c = omega arith
 
 loop-again : tie.Need-loop-again Inv-loop μ-loop
 loop-again c =
-    (omega arith, omega (arith, code-step (c .before .before .before .before .args .s .now) (c .before .before .before .before .args .at) (c .before .before .loop .i) (omega arith)))
+    (omega arith, omega (arith, code-step (c .before .before .before .before .args .bytes .now) (c .before .before .before .before .args .at) (c .before .before .loop .i) (omega arith)))
 
 returns : tie.Need-returns Inv-loop μ-loop
 returns c =

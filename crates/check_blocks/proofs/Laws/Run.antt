@@ -15,8 +15,8 @@ use Rattle.bits.specs.ListsLaws.{total-append}
 use Rattle.bits.specs.Bytes.{bitsOf}
 use Rattle.bits.specs.Codec.{got, refused}
 use Rattle.bits.specs.Block.{Block}
-use Rattle.bits.specs.Reads.{kept}
-use Rattle.bits.proofs.Laws.Loops.{kept-same, kept-none, kept-cons}
+use Rattle.bits.specs.Reads.{keeping}
+use Rattle.bits.proofs.Laws.Loops.{keeping-same, keeping-none, keeping-cons}
 use Rattle.outcome.specs.Refusals.{badValue}
 use Rattle.sheet.specs.Fields.{Field}
 use Rattle.sheet.specs.Grammar.{front, rest}
@@ -36,7 +36,7 @@ pub record Going {A I : Type 0} (t : ℕ) (test : List ℕ → Bool) (b : I → 
   pub right : T (every test (front t left))
   pub count : n + length (front t left) ≡ length (front t fs)
   pub done : List A
-  pub reads : eachDec b m i (front t fs) ≡ kept (λ xs. done ++ xs) (eachDec b m j (front t left))
+  pub reads : eachDec b m i (front t fs) ≡ keeping (λ xs. done ++ xs) (eachDec b m j (front t left))
   pub all : z ≡ total takes done
 
 module _ {A I : Type 0} {t : ℕ} {test : List ℕ → Bool} {b : I → Block A} {m : I → A → I} {takes : A → ℕ} {s : List ℕ} {fs : List Field} {i : I} where
@@ -49,7 +49,7 @@ module _ {A I : Type 0} {t : ℕ} {test : List ℕ → Bool} {b : I → Block A}
         right = h .right;
         count = omega arith;
         done = [];
-        reads = sym (kept-none (eachDec b m i (front t fs)));
+        reads = sym (keeping-none (eachDec b m i (front t fs)));
         all = refl;
       }
 
@@ -61,7 +61,7 @@ module _ {A I : Type 0} {t : ℕ} {test : List ℕ → Bool} {b : I → Block A}
         record {
           behind = subst (λ (x : List Field). FieldsAt s p x) (sym d ∙ g .others) (g .stand);
           value = g .done;
-          reads = g .reads ∙ ap (λ (vs : List (List ℕ)). kept (λ xs. g .done ++ xs) (eachDec b m j vs)) a ∙ ap (λ (xs : List A). got xs []) (append-nil (g .done));
+          reads = g .reads ∙ ap (λ (vs : List (List ℕ)). keeping (λ xs. g .done ++ xs) (eachDec b m j vs)) a ∙ ap (λ (xs : List A). got xs []) (append-nil (g .done));
           all = g .all;
         }
       where
@@ -89,8 +89,8 @@ module _ {A I : Type 0} {t : ℕ} {test : List ℕ → Bool} {b : I → Block A}
       pub one-more : n < length (front t fs)
       one-more = omega (arith, g .count, ap length front-is)
 
-      reads-next : eachDec b m i (front t fs) ≡ kept (λ xs. g .done ++ xs) (eachDec b m j (v ∷ front t (N .others)))
-      reads-next = g .reads ∙ ap (λ (vs : List (List ℕ)). kept (λ xs. g .done ++ xs) (eachDec b m j vs)) front-is
+      reads-next : eachDec b m i (front t fs) ≡ keeping (λ xs. g .done ++ xs) (eachDec b m j (v ∷ front t (N .others)))
+      reads-next = g .reads ∙ ap (λ (vs : List (List ℕ)). keeping (λ xs. g .done ++ xs) (eachDec b m j vs)) front-is
 
       pub going-wrong : {l : ℕ} → b j .dec (bitsOf v) ≡ refused badValue l → RunWrong t b m i fs
       going-wrong {l} e = record { left = l; refuses = reads-next ∙ rw e }
@@ -105,7 +105,7 @@ module _ {A I : Type 0} {t : ℕ} {test : List ℕ → Bool} {b : I → Block A}
             count = omega (arith, g .count, ap length front-is);
             done = g .done ++ x ∷ [];
             reads =
-                reads-next ∙ rw e (kept-cons (λ xs. g .done ++ xs) x (eachDec b m (m j x) (front t (N .others))))
-                ∙ kept-same _ _ (eachDec b m (m j x) (front t (N .others))) (λ xs. sym (append-snoc (g .done) x xs));
+                reads-next ∙ rw e (keeping-cons (λ xs. g .done ++ xs) x (eachDec b m (m j x) (front t (N .others))))
+                ∙ keeping-same _ _ (eachDec b m (m j x) (front t (N .others))) (λ xs. sym (append-snoc (g .done) x xs));
             all = omega (arith, g .all, c, total-append takes (g .done) (x ∷ []));
           }

@@ -7,7 +7,7 @@ use mathlib.Core.Bool.{not}
 use mathlib.Core.List.{List, []}
 use lib.ListN.{length, take, drop, length-drop}
 use lib.Dec.{T, leb→le}
-use Rattle.bits.specs.Bits.{Bits, numberOf}
+use Rattle.bits.specs.Bits.{Bits, numberOfBits}
 use Rattle.bits.specs.Bytes.{bitsOf}
 use Rattle.bits.specs.BytesLaws.{length-bitsOf}
 use Rattle.bits.specs.Codec.{got}
@@ -39,7 +39,7 @@ segment-in v l =
     let m : length r ≡ 8 * (length v - 2) = length-drop 16 s ∙ omega (arith, length-bitsOf v) in
     let (xs, z, d) = numbers-fill badValue 8 (length v - 2) (length r) r (omega arith) (omega arith) (omega arith) in
     let f = first-field badValue 16 s (omega (arith, length-bitsOf v)) in
-    record { value = record { kind = numberOf (take 16 s); payload = xs }; reads = rw (f, d); bytes = omega arith }
+    record { value = record { kind = numberOfBits (take 16 s); payload = xs }; reads = rw (f, d); bytes = omega arith }
 
 -- ---- the loop over them
 

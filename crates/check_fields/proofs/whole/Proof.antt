@@ -17,11 +17,11 @@ Inv-loop s p₀ p = Going s p
 abbrev μ-loop : tie.MeasureT-loop
 μ-loop s p₀ p = length s - p
 
-bytes : (c : tie.At-loop Inv-loop μ-loop) → All Byte (c .before .before .args .s .now)
-bytes c = all-bytes (c .before .before .args .s .now) (λ i. c .before .shared-slice-known .given i .fits)
+bytes : (c : tie.At-loop Inv-loop μ-loop) → All Byte (c .before .before .args .sheet .now)
+bytes c = all-bytes (c .before .before .args .sheet .now) (λ i. c .before .shared-slice-known .given i .fits)
 
 loop-holds : tie.Need-loop-holds Inv-loop μ-loop
-loop-holds c = going-first (c .before .args .s .now)
+loop-holds c = going-first (c .before .args .sheet .now)
 
 sub-if1 : tie.Need-sub-if1 Inv-loop μ-loop
 sub-if1 c = search needs
@@ -29,7 +29,7 @@ sub-if1 c = search needs
 returns : tie.Need-returns Inv-loop μ-loop
 returns c =
     let l = c .before .before in
-    going-stops (bytes l) (l .loop .inv) (c .before .loop-test .taken) (cut-start (l .before .before .args .s .now) (bytes l) (l .loop .p) (l .loop .inv .within) (c .if1 .taken))
+    going-stops (bytes l) (l .loop .inv) (c .before .loop-test .taken) (cut-start (l .before .before .args .sheet .now) (bytes l) (l .loop .p) (l .loop .inv .within) (c .if1 .taken))
 
 add-two-at : tie.Need-add-two-at Inv-loop μ-loop
 add-two-at c = search needs
@@ -47,7 +47,7 @@ returns-2 : tie.Need-returns-2 Inv-loop μ-loop
 returns-2 c =
     let l = c .before .before .before .before in
     going-stops (bytes l) (l .loop .inv) (c .before .before .before .loop-test .taken)
-    (cut-value (l .before .before .args .s .now) (bytes l) (l .loop .p) (l .loop .inv .within) (c .before .two-at .result) (c .before .two-at .ensures) (c .if2 .taken))
+    (cut-value (l .before .before .args .sheet .now) (bytes l) (l .loop .p) (l .loop .inv .within) (c .before .two-at .result) (c .before .two-at .ensures) (c .if2 .taken))
 
 add-p : tie.Need-add-p Inv-loop μ-loop
 add-p c = search needs

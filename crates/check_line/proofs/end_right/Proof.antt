@@ -16,7 +16,7 @@ use Rattle.check_line.proofs.end_right.Statement.{statement}
 use Rattle.check_line.proofs.end_right.Tie as tie
 
 -- the last number, up to the end's last bit
-read-y : (c : tie.After-sure4) → Reads (fieldDec badValue 16) (c .before .before .before .before .before .args .s .now) (c .before .sure3 .result .next .at) (found (c .sure4 .result .value) (c .before .before .before .before .before .args .p .at + 48))
+read-y : (c : tie.After-sure4) → Reads (fieldDec badValue 16) (c .before .before .before .before .before .args .value .now) (c .before .sure3 .result .next .at) (found (c .sure4 .result .value) (c .before .before .before .before .before .args .p .at + 48))
 read-y c = up-to (omega (arith, c .before .before .before .sure .ensures .1, c .before .before .sure2 .ensures .1, c .before .sure3 .ensures .1, c .sure4 .ensures .1)) (c .sure4 .ensures .0 badValue)
 
 right-kind : (c : tie.Else1) → ltb (c .before .before .before .before .before .sure .result .value) (2 ^ 2) ≡ true

@@ -9,14 +9,14 @@ use borrow.Author.Needs.{needs}
 use Rattle.check_line.proofs.line_value.Statement.{statement}
 use Rattle.check_line.proofs.line_value.Tie as tie
 
-first : (c : tie.After-end-right) → Passes (endValue (c .before .before .before .args .w) .dec) (c .before .before .before .args .s .now) 0 48 (c .end-right .result)
-first c = subst (λ (p : ℕ). Passes (endValue (c .before .before .before .args .w) .dec) (c .before .before .before .args .s .now) p (p + 48) (c .end-right .result)) (c .before .start .ensures) (c .end-right .ensures)
+first : (c : tie.After-end-right) → Passes (endValue (c .before .before .before .args .w) .dec) (c .before .before .before .args .value .now) 0 48 (c .end-right .result)
+first c = subst (λ (p : ℕ). Passes (endValue (c .before .before .before .args .w) .dec) (c .before .before .before .args .value .now) p (p + 48) (c .end-right .result)) (c .before .start .ensures) (c .end-right .ensures)
 
-start : (c : tie.Else1) → There (endValue (c .before .before .before .before .args .w) .dec) (c .before .before .before .before .args .s .now) 0 48
-start c = passed (endValue (c .before .before .before .before .args .w) .dec) (c .before .before .before .before .args .s .now) 0 48 (c .before .end-right .result) (c .if1 .left) (first (c .before))
+start : (c : tie.Else1) → There (endValue (c .before .before .before .before .args .w) .dec) (c .before .before .before .before .args .value .now) 0 48
+start c = passed (endValue (c .before .before .before .before .args .w) .dec) (c .before .before .before .before .args .value .now) 0 48 (c .before .end-right .result) (c .if1 .left) (first (c .before))
 
-finish : (c : tie.Else2) → There (endValue (c .before .before .before .before .before .before .args .w) .dec) (c .before .before .before .before .before .before .args .s .now) 48 96
-finish c = passed (endValue (c .before .before .before .before .before .before .args .w) .dec) (c .before .before .before .before .before .before .args .s .now) 48 96 (c .before .end-right2 .result) (c .if2 .left) (c .before .end-right2 .ensures)
+finish : (c : tie.Else2) → There (endValue (c .before .before .before .before .before .before .args .w) .dec) (c .before .before .before .before .before .before .args .value .now) 48 96
+finish c = passed (endValue (c .before .before .before .before .before .before .args .w) .dec) (c .before .before .before .before .before .before .args .value .now) 48 96 (c .before .end-right2 .result) (c .if2 .left) (c .before .end-right2 .ensures)
 
 start-requires : tie.Need-start-requires
 start-requires c κs = search needs
@@ -26,14 +26,14 @@ end-right-requires c κs = search needs
 
 returns : tie.Need-returns
 returns c =
-    bad-start (c .before .before .before .before .args .w) (not-passed (endValue (c .before .before .before .before .args .w) .dec) (c .before .before .before .before .args .s .now) 0 48 (c .before .end-right .result) (c .if1 .taken) (first (c .before)))
+    bad-start (c .before .before .before .before .args .w) (not-passed (endValue (c .before .before .before .before .args .w) .dec) (c .before .before .before .before .args .value .now) 0 48 (c .before .end-right .result) (c .if1 .taken) (first (c .before)))
 
 end-right-requires-2 : tie.Need-end-right-requires-2
 end-right-requires-2 c κs = search needs
 
 returns-2 : tie.Need-returns-2
 returns-2 c =
-    bad-finish (c .before .before .before .before .before .before .args .w) (start (c .before .before)) (not-passed (endValue (c .before .before .before .before .before .before .args .w) .dec) (c .before .before .before .before .before .before .args .s .now) 48 96 (c .before .end-right2 .result) (c .if2 .taken) (c .before .end-right2 .ensures))
+    bad-finish (c .before .before .before .before .before .before .args .w) (start (c .before .before)) (not-passed (endValue (c .before .before .before .before .before .before .args .w) .dec) (c .before .before .before .before .before .before .args .value .now) 48 96 (c .before .end-right2 .result) (c .if2 .taken) (c .before .end-right2 .ensures))
 
 codes-right-requires : tie.Need-codes-right-requires
 codes-right-requires c κs = search needs

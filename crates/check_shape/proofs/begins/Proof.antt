@@ -10,7 +10,7 @@ use borrow.Author.Needs.{needs}
 use Rattle.check_shape.proofs.begins.Statement.{statement}
 use Rattle.check_shape.proofs.begins.Tie as tie
 
-here : (c : tie.Then1) (fs : List Field) → FieldsAt (c .before .before .before .args .s .now) (c .before .before .before .args .p) fs → First (c .before .before .before .args .tag) (c .before .before .before .args .s .now) (c .before .before .before .args .p) fs
+here : (c : tie.Then1) (fs : List Field) → FieldsAt (c .before .before .before .args .sheet .now) (c .before .before .before .args .p) fs → First (c .before .before .before .args .tag) (c .before .before .before .args .sheet .now) (c .before .before .before .args .p) fs
 here c fs h = first (c .before .before .before .args .tag) h (told (c .if1 .taken) (c .before .starts .ensures .is fs h))
 
 starts-requires : tie.Need-starts-requires

@@ -8,7 +8,7 @@ use mathlib.Core.List.{List}
 use Rattle.sheet.specs.Fields.{Field}
 use Rattle.check_fields.specs.Fields.{FieldsAt}
 use Rattle.check_shape.specs.Shape.{Passes, PassedAt}
-use Rattle.check_shape.specs.declared.Passed.{Passed}
+use Rattle.check_shape.specs.declared.PassedFields.{PassedFields}
 use Rattle.check_shape.proofs.Laws.Sizes.{listKind}
 use Rattle.check_shape.proofs.Laws.Stand.{told, denied, Begun, begun}
 use Rattle.check_shape.proofs.Laws.Index.{no-index, not-one, lists-wrong, count-wrong, index-right}
@@ -16,11 +16,11 @@ use borrow.Author.Needs.{needs}
 use Rattle.check_shape.proofs.index_end.Statement.{statement}
 use Rattle.check_shape.proofs.index_end.Tie as tie
 
-first : (c : tie.Else2) (fs : List Field) → FieldsAt (c .before .before .before .before .before .args .s .now) (c .before .before .before .before .before .args .p) fs → Begun 4 1 (c .before .before .before .before .before .args .s .now) (c .before .before .before .before .before .args .p) fs
+first : (c : tie.Else2) (fs : List Field) → FieldsAt (c .before .before .before .before .before .args .sheet .now) (c .before .before .before .before .before .args .p) fs → Begun 4 1 (c .before .before .before .before .before .args .sheet .now) (c .before .before .before .before .before .args .p) fs
 first c fs h = begun 4 1 h (told (not-false _ (c .if2 .left)) (c .before .begins .ensures .is fs h))
 
-passed : (c : tie.After-lists) (fs : List Field) → FieldsAt (c .before .before .before .before .before .before .before .before .args .s .now) (c .before .before .before .before .before .before .before .before .args .p + 4) fs → PassedAt listKind (c .before .before .before .before .before .before .before .before .args .s .now) fs (c .lists .given .0 .0) (c .lists .given .0 .1 .0)
-passed c = subst (λ (r : Passed). Passes listKind (c .before .before .before .before .before .before .before .before .args .s .now) (c .before .before .before .before .before .before .before .before .args .p + 4) r) (c .lists .given .1) (c .before .before .pass .ensures)
+passed : (c : tie.After-lists) (fs : List Field) → FieldsAt (c .before .before .before .before .before .before .before .before .args .sheet .now) (c .before .before .before .before .before .before .before .before .args .p + 4) fs → PassedAt listKind (c .before .before .before .before .before .before .before .before .args .sheet .now) fs (c .lists .given .0 .0) (c .lists .given .0 .1 .0)
+passed c = subst (λ (r : PassedFields). Passes listKind (c .before .before .before .before .before .before .before .before .args .sheet .now) (c .before .before .before .before .before .before .before .before .args .p + 4) r) (c .lists .given .1) (c .before .before .pass .ensures)
 
 starts-requires : tie.Need-starts-requires
 starts-requires c κs = search needs
@@ -53,7 +53,7 @@ enum-told c = search needs
 returns-3 : tie.Need-returns-3
 returns-3 c =
     λ fs h. let B = first (c .before .before .before) fs h in
-    lists-wrong (c .before .before .before .before .before .before .before .before .args .lines) B (subst (λ (r : Passed). Passes listKind (c .before .before .before .before .before .before .before .before .args .s .now) (c .before .before .before .before .before .before .before .before .args .p + 4) r) (c .enum-told .given .1) (c .before .before .pass .ensures) (B .others) (B .behind))
+    lists-wrong (c .before .before .before .before .before .before .before .before .args .lines) B (subst (λ (r : PassedFields). Passes listKind (c .before .before .before .before .before .before .before .before .args .sheet .now) (c .before .before .before .before .before .before .before .before .args .p + 4) r) (c .enum-told .given .1) (c .before .before .pass .ensures) (B .others) (B .behind))
 
 returns-4 : tie.Need-returns-4
 returns-4 c =

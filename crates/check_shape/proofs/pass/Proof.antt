@@ -25,16 +25,16 @@ abbrev μ-loop : tie.MeasureT-loop
 μ-loop s p kind next₀ count₀ next count =
     length s - next
 
-going : (c : tie.At-loop Inv-loop μ-loop) → Going (c .before .before .args .kind) (c .before .before .args .s .now) (c .before .before .pre .0 .value) (c .loop .count) (c .loop .next)
+going : (c : tie.At-loop Inv-loop μ-loop) → Going (c .before .before .args .kind) (c .before .before .args .sheet .now) (c .before .before .pre .0 .value) (c .loop .count) (c .loop .next)
 going c = c .loop .inv .1 (c .before .before .pre .0 .value) (c .before .before .pre .0 .stand)
 
-here : (c : tie.Then1 Inv-loop μ-loop) (fs : List Field) (h : FieldsAt (c .before .before .before .before .args .s .now) (c .before .before .before .before .args .p) fs) → First (c .before .before .before .before .args .kind .tag) (c .before .before .before .before .args .s .now) (c .before .before .loop .next) (c .before .before .loop .inv .1 fs h .left)
+here : (c : tie.Then1 Inv-loop μ-loop) (fs : List Field) (h : FieldsAt (c .before .before .before .before .args .sheet .now) (c .before .before .before .before .args .p) fs) → First (c .before .before .before .before .args .kind .tag) (c .before .before .before .before .args .sheet .now) (c .before .before .loop .next) (c .before .before .loop .inv .1 fs h .left)
 here c fs h = let g = c .before .before .loop .inv .1 fs h in first (c .before .before .before .before .args .kind .tag) (g .stand) (told (c .if1 .taken) (c .before .starts .ensures .is (g .left) (g .stand)))
 
-its-size : (c : tie.After-two-at Inv-loop μ-loop) (fs : List Field) (h : FieldsAt (c .before .before .before .before .before .args .s .now) (c .before .before .before .before .before .args .p) fs) → c .two-at .result ≡ length (here (c .before) fs h .field .value)
+its-size : (c : tie.After-two-at Inv-loop μ-loop) (fs : List Field) (h : FieldsAt (c .before .before .before .before .before .args .sheet .now) (c .before .before .before .before .before .args .p) fs) → c .two-at .result ≡ length (here (c .before) fs h .field .value)
 its-size c fs h = c .two-at .ensures ∙ here (c .before) fs h .size
 
-wrong : (c : tie.After-two-at Inv-loop μ-loop) → (T (sized (c .before .before .before .before .before .args .kind) (c .two-at .result)) → ⊥) → (fs : List Field) → FieldsAt (c .before .before .before .before .before .args .s .now) (c .before .before .before .before .before .args .p) fs → T (not (allSized (c .before .before .before .before .before .args .kind) fs))
+wrong : (c : tie.After-two-at Inv-loop μ-loop) → (T (sized (c .before .before .before .before .before .args .kind) (c .two-at .result)) → ⊥) → (fs : List Field) → FieldsAt (c .before .before .before .before .before .args .sheet .now) (c .before .before .before .before .before .args .p) fs → T (not (allSized (c .before .before .before .before .before .args .kind) fs))
 wrong c u fs h = going-wrong (c .before .before .before .loop .inv .1 fs h) (here (c .before) fs h) (subst (λ (n : ℕ). T (sized (c .before .before .before .before .before .args .kind) n) → ⊥) (its-size c fs h) u)
 
 loop-holds : tie.Need-loop-holds Inv-loop μ-loop
@@ -87,7 +87,7 @@ loop-less c =
 loop-again : tie.Need-loop-again Inv-loop μ-loop
 loop-again c =
     let k = c .before .before .before .before .before .before .before .before .before .before .before .args .kind in
-    let s = c .before .before .before .before .before .before .before .before .before .before .before .args .s .now in
+    let s = c .before .before .before .before .before .before .before .before .before .before .before .args .sheet .now in
     let l = c .before .before .before .before .before .before .before .before .before .loop in (
       omega (arith, l .inv .0),
       λ fs h. let F = here (c .before .before .before .before .before .before .before) fs h in let e = its-size (c .before .before .before .before .before .before) fs h in

@@ -9,7 +9,7 @@ use lib.ListN.{length}
 use Rattle.sheet.specs.Fields.{Field}
 use Rattle.check_fields.specs.Fields.{FieldsAt}
 use Rattle.check_shape.specs.Shape.{ViewEnds, ViewAt}
-use Rattle.check_shape.specs.declared.End.{End}
+use Rattle.check_shape.specs.declared.PartEnd.{PartEnd}
 use Rattle.check_shape.proofs.Laws.Stand.{told, denied, Begun, begun}
 use Rattle.check_shape.proofs.Laws.Sheet.{further, Going, going-first, going-on, going-wrong, going-all, shape-is, no-first, views-not, no-views, some-views}
 use borrow.Author.Needs.{needs}
@@ -24,14 +24,14 @@ abbrev μ-loop : tie.MeasureT-loop
 μ-loop s p₀ views₀ p views =
     length s - p
 
-first : (c : tie.Else1 Inv-loop μ-loop) → Begun 1 9 (c .before .before .before .args .s .now) 0 (c .before .before .before .pre .value)
+first : (c : tie.Else1 Inv-loop μ-loop) → Begun 1 9 (c .before .before .before .args .sheet .now) 0 (c .before .before .before .pre .value)
 first c = begun 1 9 (c .before .before .before .pre .stand) (told (not-false _ (c .if1 .left)) (c .before .begins .ensures .is (c .before .before .before .pre .value) (c .before .before .before .pre .stand)))
 
-going : (c : tie.At-loop Inv-loop μ-loop) → Going (c .before .before .before .before .args .s .now) (first (c .before) .others) (c .loop .views) (c .loop .p)
+going : (c : tie.At-loop Inv-loop μ-loop) → Going (c .before .before .before .before .args .sheet .now) (first (c .before) .others) (c .loop .views) (c .loop .p)
 going c = c .loop .inv .1 (first (c .before) .others) (first (c .before) .behind)
 
-view : (c : tie.After-next Inv-loop μ-loop) (fs : List Field) → FieldsAt (c .before .before .before .before .before .before .before .before .args .s .now) (c .before .before .before .before .loop .p) fs → ViewAt (c .before .before .before .before .before .before .before .before .args .s .now) fs (c .next .given .0 .0)
-view c = subst (λ (r : End). ViewEnds (c .before .before .before .before .before .before .before .before .args .s .now) (c .before .before .before .before .loop .p) r) (c .next .given .1) (c .before .before .view-end .ensures)
+view : (c : tie.After-next Inv-loop μ-loop) (fs : List Field) → FieldsAt (c .before .before .before .before .before .before .before .before .args .sheet .now) (c .before .before .before .before .loop .p) fs → ViewAt (c .before .before .before .before .before .before .before .before .args .sheet .now) fs (c .next .given .0 .0)
+view c = subst (λ (r : PartEnd). ViewEnds (c .before .before .before .before .before .before .before .before .args .sheet .now) (c .before .before .before .before .loop .p) r) (c .next .given .1) (c .before .before .view-end .ensures)
 
 begins-requires : tie.Need-begins-requires Inv-loop μ-loop
 begins-requires c κs =
@@ -58,7 +58,7 @@ enum-told c = search needs
 returns-2 : tie.Need-returns-2 Inv-loop μ-loop
 returns-2 c =
     let g = going (c .before .before .before .before) in
-    shape-is (c .before .before .before .before .before .before .before .before .pre) _ (views-not (first (c .before .before .before .before .before)) (going-wrong g (c .before .before .before .loop-test .taken) (subst (λ (r : End). ViewEnds (c .before .before .before .before .before .before .before .before .args .s .now) (c .before .before .before .before .loop .p) r) (c .enum-told .given .1) (c .before .before .view-end .ensures) (g .left) (g .stand))))
+    shape-is (c .before .before .before .before .before .before .before .before .pre) _ (views-not (first (c .before .before .before .before .before)) (going-wrong g (c .before .before .before .loop-test .taken) (subst (λ (r : PartEnd). ViewEnds (c .before .before .before .before .before .before .before .before .args .sheet .now) (c .before .before .before .before .loop .p) r) (c .enum-told .given .1) (c .before .before .view-end .ensures) (g .left) (g .stand))))
 
 add-views : tie.Need-add-views Inv-loop μ-loop
 add-views c =

@@ -16,9 +16,9 @@ use Rattle.bits.specs.BytesLaws.{length-bitsOf}
 use Rattle.bits.specs.Codec.{Read, got, fieldDec}
 use Rattle.bits.specs.CodecLaws.{field}
 use Rattle.bits.specs.Block.{fillDec, passDec}
-use Rattle.bits.specs.Reads.{Reads, found, kept}
-use Rattle.bits.proofs.Laws.Reads.{kept-got}
-use Rattle.bits.proofs.Laws.Loops.{kept-same, fill-turn, fill-done, numbers-fill}
+use Rattle.bits.specs.Reads.{Reads, found, keeping}
+use Rattle.bits.proofs.Laws.Reads.{keeping-got}
+use Rattle.bits.proofs.Laws.Loops.{keeping-same, fill-turn, fill-done, numbers-fill}
 use Rattle.bits.proofs.Laws.Parts.{some-left, drop-end}
 use Rattle.outcome.specs.Refusals.{badValue}
 use Rattle.format.specs.Differences.{diffs}
@@ -78,14 +78,14 @@ module _ (w l : ℕ) (s : List ℕ) where
   pub record ListFrom (m before i : ℕ) : Type 0 where
     pub even : i % 2 ≡ 0
     pub within : i ≤ length s
-    pub tests : kept (right w m before) (rest i) ≡ kept (right w 0 l) (fillDec (field badValue 16) badValue (length (bitsOf s)) (bitsOf s))
+    pub tests : keeping (right w m before) (rest i) ≡ keeping (right w 0 l) (fillDec (field badValue 16) badValue (length (bitsOf s)) (bitsOf s))
 
   pub list-first : ListFrom 0 l 0
   list-first =
       record {
         even = refl;
         within = omega arith;
-        tests = ap (λ (n : ℕ). kept (right w 0 l) (fillDec (field badValue 16) badValue n (bitsOf s))) (sub-zero (length (bitsOf s)));
+        tests = ap (λ (n : ℕ). keeping (right w 0 l) (fillDec (field badValue 16) badValue n (bitsOf s))) (sub-zero (length (bitsOf s)));
       }
 
   module _ (even-length : length s % 2 ≡ 0) where
@@ -104,7 +104,7 @@ module _ (w l : ℕ) (s : List ℕ) where
     unfolding listValue passDec right
     list-done {m} {before} {i} g h e =
         let z = fill-done (field badValue 16) badValue (length (bitsOf s) - i / 2) (drop (8 * i) (bitsOf s)) (drop-end s (8 * i) (omega arith)) in
-        let y : got true [] ≡ got (right w 0 l (whole .0)) [] = ap (kept (right w m before)) (sym z) ∙ g .tests ∙ ap (kept (right w 0 l)) (whole .2) in
+        let y : got true [] ≡ got (right w 0 l (whole .0)) [] = ap (keeping (right w m before)) (sym z) ∙ g .tests ∙ ap (keeping (right w 0 l)) (whole .2) in
         let x : right w 0 l (whole .0) ≡ true = cc in
         record {
           value = whole .0;
@@ -117,7 +117,7 @@ module _ (w l : ℕ) (s : List ℕ) where
       abbrev behind : Read Bool (List ℕ)
       behind = fillDec (field badValue 16) badValue (length (bitsOf s) - (i / 2 + 1)) (drop q (bitsOf s))
 
-      turn : kept (right w m before) (rest i) ≡ kept (λ xs. right w m before (v ∷ xs)) behind
+      turn : keeping (right w m before) (rest i) ≡ keeping (λ xs. right w m before (v ∷ xs)) behind
       turn =
           fill-turn (field badValue 16) badValue (length (bitsOf s)) (i / 2) (drop (8 * i) (bitsOf s)) (right w m before) (omega (arith, length-bitsOf s))
           (some-left s (8 * i) (omega arith)) (r .is)
@@ -126,12 +126,12 @@ module _ (w l : ℕ) (s : List ℕ) where
       list-turn y a e =
           let b : (i + 2) / 2 ≡ i / 2 + 1 = omega (arith, g .even) in
           let d : 8 * (i + 2) ≡ q = omega arith in
-          let z = kept-same (λ xs. right w m before (v ∷ xs)) (right w 1 v) behind (λ xs. right-more w m before v xs a e) in
+          let z = keeping-same (λ xs. right w m before (v ∷ xs)) (right w 1 v) behind (λ xs. right-more w m before v xs a e) in
           record { even = omega (arith, g .even); within = omega (arith, g .even); tests = rw (b, d) (sym (turn ∙ z) ∙ g .tests) }
 
       stops : ((xs : List ℕ) → right w m before (v ∷ xs) ≡ false) → Wrong (listValue w l) s
       stops k =
-          kept-got (λ xs. right w m before (v ∷ xs)) behind (sym turn ∙ g .tests ∙ ap (kept (right w 0 l)) (whole .2)) λ xs z e.
+          keeping-got (λ xs. right w m before (v ∷ xs)) behind (sym turn ∙ g .tests ∙ ap (keeping (right w 0 l)) (whole .2)) λ xs z e.
           wrong (list-bad w l (whole .0) (sym e ∙ k xs))
 
       pub too-high : before < v + m → Wrong (listValue w l) s

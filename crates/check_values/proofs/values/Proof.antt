@@ -30,23 +30,23 @@ abbrev μ-loop : tie.MeasureT-loop
 μ-loop s from end w seen₀ p₀ views₀ bytes₀ seen p views bytes =
     length s - p
 
-parts : (c : tie.Start Inv-loop μ-loop) → SheetParts (c .args .s .now) (c .pre .value)
+parts : (c : tie.Start Inv-loop μ-loop) → SheetParts (c .args .sheet .now) (c .pre .value)
 parts c = sheet-parts (c .pre .value) (c .pre .stand) (c .pre .right)
 
-head : (c : tie.After-header-value Inv-loop μ-loop) (r : HeaderWorth) → c .header-value .result ≡ r → Told headerValue (part (c .before .before .before .args .s .now) 3 9) (headerIs r)
-head c r e = subst (λ (x : HeaderWorth). Told headerValue (part (c .before .before .before .args .s .now) 3 9) (headerIs x)) e (c .header-value .ensures)
+head : (c : tie.After-header-value Inv-loop μ-loop) (r : HeaderWorth) → c .header-value .result ≡ r → Told headerValue (part (c .before .before .before .args .sheet .now) 3 9) (headerIs r)
+head c r e = subst (λ (x : HeaderWorth). Told headerValue (part (c .before .before .before .args .sheet .now) 3 9) (headerIs x)) e (c .header-value .ensures)
 
-head-reads : (c : tie.After-h Inv-loop μ-loop) → headerValue .dec (bitsOf (part (c .before .before .before .before .before .args .s .now) 3 9)) ≡ got (c .h .given .0 .0) []
+head-reads : (c : tie.After-h Inv-loop μ-loop) → headerValue .dec (bitsOf (part (c .before .before .before .before .before .args .sheet .now) 3 9)) ≡ got (c .h .given .0 .0) []
 head-reads c = head (c .before .before) _ (c .h .given .1)
 
-going : (c : tie.At-loop Inv-loop μ-loop) → Going (c .before .before .before .before .h .given .0 .0 .scale .widths) (c .before .before .before .before .before .before .before .before .before .args .s .now) (c .loop .seen) (c .loop .p) (c .loop .views) (c .loop .bytes) (parts (c .before .before .before .before .before .before .before .before .before) .others)
+going : (c : tie.At-loop Inv-loop μ-loop) → Going (c .before .before .before .before .h .given .0 .0 .scale .widths) (c .before .before .before .before .before .before .before .before .before .args .sheet .now) (c .loop .seen) (c .loop .p) (c .loop .views) (c .loop .bytes) (parts (c .before .before .before .before .before .before .before .before .before) .others)
 going c = let D = parts (c .before .before .before .before .before .before .before .before .before) in c .loop .inv .is (D .others) (D .views)
 
-view-is : (c : tie.After-view-values Inv-loop μ-loop) (r : ViewWorth) → c .view-values .result ≡ r → ViewIs (c .before .before .before .before .before .before .before .h .given .0 .0 .scale .widths) (c .before .before .before .loop .seen) (c .before .before .before .before .before .before .before .before .before .before .before .before .args .s .now) (c .before .before .before .loop .p) r
-view-is c r e = subst (λ (x : ViewWorth). ViewIs (c .before .before .before .before .before .before .before .h .given .0 .0 .scale .widths) (c .before .before .before .loop .seen) (c .before .before .before .before .before .before .before .before .before .before .before .before .args .s .now) (c .before .before .before .loop .p) x) e (c .view-values .ensures)
+view-is : (c : tie.After-view-values Inv-loop μ-loop) (r : ViewWorth) → c .view-values .result ≡ r → ViewIs (c .before .before .before .before .before .before .before .h .given .0 .0 .scale .widths) (c .before .before .before .loop .seen) (c .before .before .before .before .before .before .before .before .before .before .before .before .args .sheet .now) (c .before .before .before .loop .p) r
+view-is c r e = subst (λ (x : ViewWorth). ViewIs (c .before .before .before .before .before .before .before .h .given .0 .0 .scale .widths) (c .before .before .before .loop .seen) (c .before .before .before .before .before .before .before .before .before .before .before .before .args .sheet .now) (c .before .before .before .loop .p) x) e (c .view-values .ensures)
 
 -- the next view ends within the sheet, and is one of 255
-far : (c : tie.After-view Inv-loop μ-loop) → (c .view .given .0 .0 .end ≤ length (c .before .before .before .before .before .before .before .before .before .before .before .before .before .before .args .s .now)) × (c .before .before .before .before .before .loop .views + 1 ≤ 255)
+far : (c : tie.After-view Inv-loop μ-loop) → (c .view .given .0 .0 .end ≤ length (c .before .before .before .before .before .before .before .before .before .before .before .before .before .before .args .sheet .now)) × (c .before .before .before .before .before .loop .views + 1 ≤ 255)
 far c =
     let g = going (c .before .before .before .before .before) in
     let l = c .before .before .before .before .loop-test .taken in
@@ -81,7 +81,7 @@ returns c =
 
 loop-holds : tie.Need-loop-holds Inv-loop μ-loop
 loop-holds c =
-    views-first (c .before .before .before .h .given .0 .0 .scale .widths) (c .before .before .before .before .before .before .before .before .args .s .now)
+    views-first (c .before .before .before .h .given .0 .0 .scale .widths) (c .before .before .before .before .before .before .before .before .args .sheet .now)
 
 view-values-requires : tie.Need-view-values-requires Inv-loop μ-loop
 view-values-requires c κs =

@@ -13,7 +13,7 @@ use Rattle.bits.specs.Bits.{Bits}
 use Rattle.bits.specs.Bytes.{bitsOf}
 use Rattle.bits.specs.Codec.{Codec, got, refused, next}
 use Rattle.bits.specs.Lists.{total}
-use Rattle.bits.specs.Reads.{found, fault, Reads, kept}
+use Rattle.bits.specs.Reads.{found, fault, Reads, keeping}
 use Rattle.bits.proofs.Laws.Reads.{length-rest, go-on, stop, made, unkept, unkept-bad}
 use Rattle.bits.proofs.Laws.Parts.{drop-end}
 use Rattle.outcome.specs.Refusals.{badSize, bytesOver}
@@ -39,7 +39,7 @@ module _ (s : List ℕ) where
 
   size-bad : T (not sizeOk) → Judges s (Refused badSize 0)
   unfolding read
-  size-bad t = record { is = ap (kept summary) (pick-no sizeOk _ _ t) ∙ ap (refused badSize) (sym (sub-zero _)); within = omega arith }
+  size-bad t = record { is = ap (keeping summary) (pick-no sizeOk _ _ t) ∙ ap (refused badSize) (sym (sub-zero _)); within = omega arith }
 
   pub too-short : length s < 24 → Judges s (Refused badSize 0)
   unfolding leastBytes
@@ -54,11 +54,11 @@ module _ (s : List ℕ) where
   size-ok l h = within-yes leastBytes mostBytes (length s) l h
 
   module _ (t : T sizeOk) where
-    opened : kept summary (read s) ≡ kept summary (next (recordOf (length s) .dec (bitsOf s)) allOf)
+    opened : keeping summary (read s) ≡ keeping summary (next (recordOf (length s) .dec (bitsOf s)) allOf)
     unfolding read
-    opened = ap (kept summary) (pick-yes sizeOk _ _ t)
+    opened = ap (keeping summary) (pick-yes sizeOk _ _ t)
 
-    record-bad : {e q : ℕ} → Reads (recordOf (length s) .dec) s 0 (fault e q) → kept summary (read s) ≡ refused e (8 * length s - q)
+    record-bad : {e q : ℕ} → Reads (recordOf (length s) .dec) s 0 (fault e q) → keeping summary (read s) ≡ refused e (8 * length s - q)
     record-bad h = opened ∙ rw (h .is)
 
     pub header-bad : (e q : ℕ) → Reads (headerDec (length s)) s 0 (fault e q) → Judges s (Refused e q)
@@ -84,7 +84,7 @@ module _ (s : List ℕ) where
             record-is λ vs _ _ x.
             record { is = opened ∙ rw (x .is) (go (record { head = h; views = vs }) (drop (8 * a) (bitsOf s)) (length-rest s (8 * a))); within = omega arith }
           where
-            go : (x : Record) (b : Bits) → length b ≡ 8 * length s - 8 * a → kept summary (allOf x b) ≡ refused bytesOver (8 * length s - 8 * a)
+            go : (x : Record) (b : Bits) → length b ≡ 8 * length s - 8 * a → keeping summary (allOf x b) ≡ refused bytesOver (8 * length s - 8 * a)
             go x [] e = absurd (omega arith)
             go x (y ∷ b) e = ap (refused bytesOver) e
 

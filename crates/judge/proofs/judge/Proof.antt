@@ -16,19 +16,19 @@ use borrow.Author.Needs.{needs}
 use Rattle.judge.proofs.judge.Statement.{statement}
 use Rattle.judge.proofs.judge.Tie as tie
 
-fits : (c : tie.Else2) → T (sizeOk (c .before .before .before .args .s .now))
-fits c = size-ok (c .before .before .before .args .s .now) (omega (arith, c .before .if1 .left)) (omega (arith, c .if2 .left))
+fits : (c : tie.Else2) → T (sizeOk (c .before .before .before .args .bytes .now))
+fits c = size-ok (c .before .before .before .args .bytes .now) (omega (arith, c .before .if1 .left)) (omega (arith, c .if2 .left))
 
-head : (c : tie.After-h) → Reads (headerDec (length (c .before .before .before .before .before .before .args .s .now))) (c .before .before .before .before .before .before .args .s .now) 0 (found ((c .h .given .0 .0), (c .h .given .0 .1 .0)) 192)
+head : (c : tie.After-h) → Reads (headerDec (length (c .before .before .before .before .before .before .args .bytes .now))) (c .before .before .before .before .before .before .args .bytes .now) 0 (found ((c .h .given .0 .0), (c .h .given .0 .1 .0)) 192)
 head c = known (ap headerAt (c .h .given .1)) (c .before .before .header-at .ensures)
 
 returns : tie.Need-returns
 returns c =
-    too-short (c .before .before .args .s .now) (c .if1 .taken)
+    too-short (c .before .before .args .bytes .now) (c .if1 .taken)
 
 returns-2 : tie.Need-returns-2
 returns-2 c =
-    too-long (c .before .before .before .args .s .now) (c .if2 .taken)
+    too-long (c .before .before .before .args .bytes .now) (c .if2 .taken)
 
 header-at-requires : tie.Need-header-at-requires
 header-at-requires c κs = search needs
@@ -41,7 +41,7 @@ enum-known-h c = search needs
 
 judge-views-requires : tie.Need-judge-views-requires
 judge-views-requires c κs =
-    let f = header-fits (c .before .before .before .before .before .before .before .before .before .args .s .now) (c .before .before .before .h .given .0 .0) (c .before .before .before .h .given .0 .1 .0) (head (c .before .before .before)) in
+    let f = header-fits (c .before .before .before .before .before .before .before .before .before .args .bytes .now) (c .before .before .before .h .given .0 .0) (c .before .before .before .h .given .0 .1 .0) (head (c .before .before .before)) in
     (omega (arith, c .before .before .before .before .before .before .before .if1 .left), omega (arith, c .before .before .before .before .before .before .if2 .left), f .0, f .1, f .2, f .3)
 
 enum-known-e-2 : tie.Need-enum-known-e-2
@@ -60,19 +60,19 @@ add-t22 c =
 
 returns-3 : tie.Need-returns-3
 returns-3 c =
-    header-bad (c .before .before .before .before .before .before .before .args .s .now) (fits (c .before .before .before .before)) _ _ (known (ap headerAt (c .before .e .given .1)) (c .before .before .before .header-at .ensures))
+    header-bad (c .before .before .before .before .before .before .before .args .bytes .now) (fits (c .before .before .before .before)) _ _ (known (ap headerAt (c .before .e .given .1)) (c .before .before .before .header-at .ensures))
 
 returns-4 : tie.Need-returns-4
 returns-4 c =
-    views-bad (c .before .before .before .before .before .before .before .before .before .before .before .before .before .args .s .now) (fits (c .before .before .before .before .before .before .before .before .before .before)) (c .before .before .before .before .before .before .before .h .given .0 .0) (c .before .before .before .before .before .before .before .h .given .0 .1 .0) (head (c .before .before .before .before .before .before .before)) _ _ (known (ap reached (c .before .e2 .given .1)) (c .before .before .before .judge-views .ensures .0))
+    views-bad (c .before .before .before .before .before .before .before .before .before .before .before .before .before .args .bytes .now) (fits (c .before .before .before .before .before .before .before .before .before .before)) (c .before .before .before .before .before .before .before .h .given .0 .0) (c .before .before .before .before .before .before .before .h .given .0 .1 .0) (head (c .before .before .before .before .before .before .before)) _ _ (known (ap reached (c .before .e2 .given .1)) (c .before .before .before .judge-views .ensures .0))
 
 returns-5 : tie.Need-returns-5
 returns-5 c =
-    left-over (c .before .before .before .before .before .before .before .before .before .before .before .before .before .before .args .s .now) (fits (c .before .before .before .before .before .before .before .before .before .before .before)) (c .before .before .before .before .before .before .before .before .h .given .0 .0) (c .before .before .before .before .before .before .before .before .h .given .0 .1 .0) (head (c .before .before .before .before .before .before .before .before)) (c .before .before .a .given .0 .0) (c .before .before .a .given .0 .1 .0) (known (ap reached (c .before .before .a .given .1)) (c .before .before .before .before .judge-views .ensures .0)) (c .if3 .taken)
+    left-over (c .before .before .before .before .before .before .before .before .before .before .before .before .before .before .args .bytes .now) (fits (c .before .before .before .before .before .before .before .before .before .before .before)) (c .before .before .before .before .before .before .before .before .h .given .0 .0) (c .before .before .before .before .before .before .before .before .h .given .0 .1 .0) (head (c .before .before .before .before .before .before .before .before)) (c .before .before .a .given .0 .0) (c .before .before .a .given .0 .1 .0) (known (ap reached (c .before .before .a .given .1)) (c .before .before .before .before .judge-views .ensures .0)) (c .if3 .taken)
 
 returns-6 : tie.Need-returns-6
 returns-6 c =
-    all-read (c .before .before .before .before .before .before .before .before .before .before .before .before .before .before .args .s .now) (fits (c .before .before .before .before .before .before .before .before .before .before .before)) (c .before .before .before .before .before .before .before .before .h .given .0 .0) (c .before .before .before .before .before .before .before .before .h .given .0 .1 .0) (head (c .before .before .before .before .before .before .before .before)) (c .before .before .a .given .0 .0) (c .before .before .a .given .0 .1 .0) (known (ap reached (c .before .before .a .given .1)) (c .before .before .before .before .judge-views .ensures .0)) (omega (arith, c .if3 .left))
+    all-read (c .before .before .before .before .before .before .before .before .before .before .before .before .before .before .args .bytes .now) (fits (c .before .before .before .before .before .before .before .before .before .before .before)) (c .before .before .before .before .before .before .before .before .h .given .0 .0) (c .before .before .before .before .before .before .before .before .h .given .0 .1 .0) (head (c .before .before .before .before .before .before .before .before)) (c .before .before .a .given .0 .0) (c .before .before .a .given .0 .1 .0) (known (ap reached (c .before .before .a .given .1)) (c .before .before .before .before .judge-views .ensures .0)) (omega (arith, c .if3 .left))
 
 pub judge-spec : {M : Type 1} → statement M
 judge-spec =

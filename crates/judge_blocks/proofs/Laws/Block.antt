@@ -10,15 +10,15 @@ use Rattle.bits.specs.Bits.{Bits}
 use Rattle.bits.specs.Codec.{Read}
 use Rattle.bits.specs.Block.{Block}
 use Rattle.bits.specs.SizedLaws.{prefixed}
-use Rattle.bits.specs.Reads.{found, fault, Reads, kept}
+use Rattle.bits.specs.Reads.{found, fault, Reads, keeping}
 use Rattle.bits.proofs.Laws.Reads.{known}
 use Rattle.bits.proofs.Laws.Parts.{part, part-length, behind-cut, behind-past, behind-bad, behind-good}
 use Rattle.outcome.specs.Refusals.{past}
 use Rattle.judge_blocks.specs.Answers.{Whole, Cut, lengthPast, blockPast, Behind}
-use Rattle.judge_blocks.specs.declared.block.BlockAt.{BlockAt}
+use Rattle.judge_blocks.specs.declared.block.WholeBlock.{WholeBlock}
 
 -- the answer of `block_at`, once its case is known
-pub told : (s : List ℕ) (a : ℕ) {r r′ : BlockAt} → r ≡ r′ → Behind s a r → Behind s a r′
+pub told : (s : List ℕ) (a : ℕ) {r r′ : WholeBlock} → r ≡ r′ → Behind s a r → Behind s a r′
 told s a e h = subst (Behind s a) e h
 
 pub block-length : {s : List ℕ} {a b e : ℕ} → Whole s a b e → length (part s b (e - b)) ≡ e - b
@@ -27,10 +27,10 @@ block-length {s} {b = b} {e} h = part-length s b (e - b) (omega (arith, h .order
 -- w is the block's format, and f what is kept of its value
 module _ {A B : Type 0} (w : Block A) (f : A → B) where
   abbrev judge : Bits → Read Bool B
-  judge x = kept f (w .dec x)
+  judge x = keeping f (w .dec x)
 
   abbrev fromLength : Bits → Read Bool B
-  fromLength x = kept f (prefixed w past .dec x)
+  fromLength x = keeping f (prefixed w past .dec x)
 
   pub block-cut : {s : List ℕ} {a p : ℕ} → a ≤ length s → Cut s a p → Reads fromLength s (8 * a) (fault past p)
   block-cut {s} {a} i (lengthPast h e) = known (ap (fault past) (sym e)) (behind-cut w f s a i h)

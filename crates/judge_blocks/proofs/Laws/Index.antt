@@ -19,8 +19,8 @@ use Rattle.bits.specs.CodecLaws.{along, along-back, ranged}
 use Rattle.bits.specs.Block.{few, zerosDec, endedDec}
 use Rattle.bits.specs.BlockLaws.{few-yes, few-no, ended}
 use Rattle.bits.specs.Lists.{total}
-use Rattle.bits.specs.Reads.{found, fault, Reads, kept, after, summed}
-use Rattle.bits.proofs.Laws.Reads.{length-rest, gives, refuses, go-on, stop, made, kept-got, kept-refused, below}
+use Rattle.bits.specs.Reads.{found, fault, Reads, keeping, passing, summed}
+use Rattle.bits.proofs.Laws.Reads.{length-rest, gives, refuses, go-on, stop, made, keeping-got, keeping-refused, below}
 use Rattle.bits.proofs.Laws.Loops.{sum-more, along-turn, along-stop, along-done}
 use Rattle.bits.proofs.Laws.Parts.{drop-end, maybe-more}
 use Rattle.outcome.specs.Refusals.{badIndex}
@@ -38,7 +38,7 @@ listsFrom w s z m l p = summed listSize z (alongDec (neighbours w) up m l (drop 
 
 -- m differences at place p; i is what those before say
 abbrev pub diffsFrom : (w : ℕ) (s : List ℕ) (m : ℕ) (i : ℕ × ℕ) (p : ℕ) → Read Bool (Unit {0})
-diffsFrom w s m i p = after (alongDec (diff w) tell m i (drop p (bitsOf s)))
+diffsFrom w s m i p = passing (alongDec (diff w) tell m i (drop p (bitsOf s)))
 
 pub lists-start : (w : ℕ) (s : List ℕ) (z n p : ℕ) → listsFrom w s z (n - 0) 0 p ≡ listsFrom w s z n 0 p
 lists-start w s z n p = ap (λ (k : ℕ). listsFrom w s z k 0 p) (sub-zero n)
@@ -53,7 +53,7 @@ module _ (w l : ℕ) {s : List ℕ} {p k f : ℕ} (K : Reads (fieldDec badIndex 
       → Reads (neighbours w l .dec) s p (fault e x)
   diffs-stop i {j} {q} {e} {x} t inv h =
       let z : alongDec (diff w) tell k (0, l) (drop f (bitsOf s)) ≡ refused e (8 * length s - x) =
-      kept-refused _ _ (sym inv ∙ ap after (along-stop (diff w) tell k j i (drop q (bitsOf s)) t (h .is))) in
+      keeping-refused _ _ (sym inv ∙ ap passing (along-stop (diff w) tell k j i (drop q (bitsOf s)) t (h .is))) in
       made _ _ (go-on _ (λ n. along (diff w) tell n (0, l)) K (refuses _ e x (h .within) z))
 
   pub diffs-turn : (i : ℕ × ℕ) {j q d y : ℕ} → j < k → diffsFrom w s (k - j) i q ≡ diffsFrom w s k (0, l) f → Reads (diff w i .dec) s q (found d y)
@@ -63,7 +63,7 @@ module _ (w l : ℕ) {s : List ℕ} {p k f : ℕ} (K : Reads (fieldDec badIndex 
   pub diffs-done : {P : Type 0} (i : ℕ × ℕ) {j q : ℕ} → q ≤ 8 * length s → k ≤ j → diffsFrom w s (k - j) i q ≡ diffsFrom w s k (0, l) f
       → ((ns : List ℕ) → length ns ≡ k → Reads (neighbours w l .dec) s p (found ns q) → P) → P
   diffs-done i {j} {q} t h inv g =
-      kept-got _ _ (sym inv ∙ ap after (along-done (diff w) tell k j i (drop q (bitsOf s)) h)) λ ds z _.
+      keeping-got _ _ (sym inv ∙ ap passing (along-done (diff w) tell k j i (drop q (bitsOf s)) h)) λ ds z _.
       g (undiffs l ds) (length-undiffs l ds ∙ along-back (diff w) tell k (0, l) _ ds _ z .0 .0)
       (made _ _ (go-on _ (λ n. along (diff w) tell n (0, l)) K (gives _ ds q t z)))
 
@@ -84,9 +84,9 @@ module _ (n : ℕ) (s : List ℕ) (some-bytes : 0 < length s) where
   some-bits : 0 < length (bitsOf s)
   some-bits = rw (length-bitsOf s) (omega arith)
 
-  open-index : indexDec n (bitsOf s) ≡ kept indexSize (next (endedDec (index n) badIndex (bitsOf s)) (λ a r. got (some a) r))
+  open-index : indexDec n (bitsOf s) ≡ keeping indexSize (next (endedDec (index n) badIndex (bitsOf s)) (λ a r. got (some a) r))
   unfolding indexDec indexBlock
-  open-index = ap (kept indexSize) (maybe-more (ended (index n) badIndex) (bitsOf s) some-bits)
+  open-index = ap (keeping indexSize) (maybe-more (ended (index n) badIndex) (bitsOf s) some-bits)
 
   index-bad : {e q : ℕ} → Reads (index n .dec) s 0 (fault e q) → Reads (indexDec n) s 0 (fault e q)
   unfolding endedDec
@@ -99,7 +99,7 @@ module _ (n : ℕ) (s : List ℕ) (some-bytes : 0 < length s) where
   -- the lists have been read up to place p
   module _ {i : Index} {p : ℕ} (h : Reads (index n .dec) s 0 (found i p)) where
     abbrev left : Read Bool Index → Read Bool ℕ
-    left o = kept indexSize (next o (λ a r. got (some a) r))
+    left o = keeping indexSize (next o (λ a r. got (some a) r))
 
     pub index-dirt : {q : ℕ} → Reads (zerosDec badIndex) s p (fault badIndex q) → Reads (indexDec n) s 0 (fault badIndex q)
     unfolding endedDec
@@ -133,13 +133,13 @@ module _ (n : ℕ) (s : List ℕ) (some-bytes : 0 < length s) where
     unfolding index
     lists-stop z {l} {p} {e} {q} k inv h =
         let y : alongDec (neighbours w) up n 0 (drop f (bitsOf s)) ≡ refused e (8 * length s - q) =
-        kept-refused _ _ (sym inv ∙ ap (summed listSize z) (along-stop (neighbours w) up n l l (drop p (bitsOf s)) k (h .is))) in
+        keeping-refused _ _ (sym inv ∙ ap (summed listSize z) (along-stop (neighbours w) up n l l (drop p (bitsOf s)) k (h .is))) in
         index-bad (made _ _ (go-on _ (λ w. along (neighbours w) up n 0) W (refuses _ e q (h .within) y)))
 
     pub lists-turn : (z y : ℕ) {l p : ℕ} {ns : List ℕ} {q : ℕ} → y ≡ z + listSize ns → l < n → listsFrom w s z (n - l) l p ≡ listsFrom w s 4 n 0 f
         → Reads (neighbours w l .dec) s p (found ns q) → listsFrom w s y (n - (l + 1)) (l + 1) q ≡ listsFrom w s 4 n 0 f
     lists-turn z y {l} {p} {ns} {q} e k inv h =
-        let more : kept (λ xs. z + total listSize xs) (alongDec (neighbours w) up (n - l) l (drop p (bitsOf s))) ≡ listsFrom w s (z + listSize ns) (n - (l + 1)) (suc l) q =
+        let more : keeping (λ xs. z + total listSize xs) (alongDec (neighbours w) up (n - l) l (drop p (bitsOf s))) ≡ listsFrom w s (z + listSize ns) (n - (l + 1)) (suc l) q =
         along-turn (neighbours w) up n l l (drop p (bitsOf s)) _ k (h .is) ∙ sum-more listSize z ns (alongDec (neighbours w) up (n - (l + 1)) (suc l) (drop q (bitsOf s))) in
         ap₂ (λ (x j : ℕ). listsFrom w s x (n - (l + 1)) j q) e (add-one l) ∙ sym more ∙ inv
 
@@ -147,5 +147,5 @@ module _ (n : ℕ) (s : List ℕ) (some-bytes : 0 < length s) where
         → ((i : Index) → 4 + total listSize (i .lists) ≡ z → Reads (index n .dec) s 0 (found i p) → P) → P
     unfolding index
     lists-done {z = z} {l} {p} i k inv g =
-        kept-got _ _ (sym inv ∙ ap (summed listSize z) (along-done (neighbours w) up n l l (drop p (bitsOf s)) k)) λ ls y e.
+        keeping-got _ _ (sym inv ∙ ap (summed listSize z) (along-done (neighbours w) up n l l (drop p (bitsOf s)) k)) λ ls y e.
         g (record { width = w; lists = ls }) (omega arith) (made _ _ (go-on _ (λ w. along (neighbours w) up n 0) W (gives _ ls p i y)))

@@ -16,7 +16,7 @@ use Rattle.bits.specs.Codec.{got, Codec, fieldDec, thenDec}
 use Rattle.bits.specs.CodecLaws.{field, then, only, times, times-back}
 use Rattle.bits.specs.Block.{fillDec}
 use Rattle.bits.specs.Lists.{total}
-use Rattle.bits.specs.Reads.{found, fault, Reads, kept, summed}
+use Rattle.bits.specs.Reads.{found, fault, Reads, keeping, summed}
 use Rattle.bits.proofs.Laws.Reads.{length-rest, gives, refuses, go-on, stop, made, pass, fail, room-there, room-past, all-of, none-of, none-of-it}
 use Rattle.bits.proofs.Laws.Loops.{sum-more, sum-start, fill-turn, fill-stop, fill-done}
 use Rattle.bits.proofs.Laws.Parts.{bytes-there, bytes-cut, some-left, drop-end}
@@ -78,7 +78,7 @@ module _ (s : List ℕ) where
   unfolding segmentsDec segments
   fill-start =
       sum-start segmentSize (fillDec segment badSegment (8 * length s - 0) (bitsOf s))
-      ∙ ap (λ (k : ℕ). kept (total segmentSize) (fillDec segment badSegment k (bitsOf s))) (sub-zero _ ∙ sym (length-bitsOf s))
+      ∙ ap (λ (k : ℕ). keeping (total segmentSize) (fillDec segment badSegment k (bitsOf s))) (sub-zero _ ∙ sym (length-bitsOf s))
 
   module _ (z n p : ℕ) (inv : Filled z n p) where
     module _ (h : n ≤ p) (k : p < 8 * length s) where

@@ -13,13 +13,13 @@ use borrow.Author.Needs.{needs}
 use Rattle.judge_ends.proofs.end_at.Statement.{statement}
 use Rattle.judge_ends.proofs.end_at.Tie as tie
 
-read-kind : (c : tie.After-kind) → Reads (fieldDec badLine 2) (c .before .before .before .before .args .s .now) (c .before .before .before .before .args .p .at) (found (c .kind .given .0 .0) (c .kind .given .0 .1 .0 .at))
+read-kind : (c : tie.After-kind) → Reads (fieldDec badLine 2) (c .before .before .before .before .args .block .now) (c .before .before .before .before .args .p .at) (found (c .kind .given .0 .0) (c .kind .given .0 .1 .0 .at))
 read-kind c = known (ap (taken badLine) (c .kind .given .1)) (c .before .before .field .ensures badLine)
 
-read-direction : (c : tie.After-direction) → Reads (fieldDec badLine (c .before .before .before .before .before .before .before .before .args .w .b)) (c .before .before .before .before .before .before .before .before .args .s .now) (c .before .before .before .before .kind .given .0 .1 .0 .at) (found (c .direction .given .0 .0) (c .direction .given .0 .1 .0 .at))
+read-direction : (c : tie.After-direction) → Reads (fieldDec badLine (c .before .before .before .before .before .before .before .before .args .w .b)) (c .before .before .before .before .before .before .before .before .args .block .now) (c .before .before .before .before .kind .given .0 .1 .0 .at) (found (c .direction .given .0 .0) (c .direction .given .0 .1 .0 .at))
 read-direction c = known (ap (taken badLine) (c .direction .given .1)) (c .before .before .field2 .ensures badLine)
 
-read-x : (c : tie.After-x) → Reads (fieldDec badLine (c .before .before .before .before .before .before .before .before .before .before .before .before .args .w .c)) (c .before .before .before .before .before .before .before .before .before .before .before .before .args .s .now) (c .before .before .before .before .direction .given .0 .1 .0 .at) (found (c .x .given .0 .0) (c .x .given .0 .1 .0 .at))
+read-x : (c : tie.After-x) → Reads (fieldDec badLine (c .before .before .before .before .before .before .before .before .before .before .before .before .args .w .c)) (c .before .before .before .before .before .before .before .before .before .before .before .before .args .block .now) (c .before .before .before .before .direction .given .0 .1 .0 .at) (found (c .x .given .0 .0) (c .x .given .0 .1 .0 .at))
 read-x c = known (ap (taken badLine) (c .x .given .1)) (c .before .before .field3 .ensures badLine)
 
 field-requires : tie.Need-field-requires

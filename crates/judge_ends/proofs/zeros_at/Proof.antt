@@ -36,7 +36,7 @@ sure-requires c κs = search needs
 returns : tie.Need-returns Inv-loop μ-loop
 returns c =
     let m = c .before .before .before .before .before .loop in
-    let s = c .before .before .before .before .before .before .before .args .s .now in
+    let s = c .before .before .before .before .before .before .before .args .block .now in
     λ e. record { is = sym (m .inv .1 e) ∙ bit-one e (drop (m .q .at) (bitsOf s)) (c .before .before .sure .ensures .0 e .is) (c .if2 .taken) ∙ ap (refused e) (length-rest s (m .q .at)); within = m .inv .0 }
 
 loop-less : tie.Need-loop-less Inv-loop μ-loop
@@ -45,12 +45,12 @@ loop-less c = search needs
 loop-again : tie.Need-loop-again Inv-loop μ-loop
 loop-again c =
     let m = c .before .before .before .before .before .before .loop in
-    (omega (arith, c .before .before .before .sure .ensures .1), λ e. sym (bit-zero e (drop (m .q .at) (bitsOf (c .before .before .before .before .before .before .before .before .args .s .now))) (c .before .before .before .sure .ensures .0 e .is) (c .before .if2 .left)) ∙ m .inv .1 e)
+    (omega (arith, c .before .before .before .sure .ensures .1), λ e. sym (bit-zero e (drop (m .q .at) (bitsOf (c .before .before .before .before .before .before .before .before .args .block .now))) (c .before .before .before .sure .ensures .0 e .is) (c .before .if2 .left)) ∙ m .inv .1 e)
 
 returns-2 : tie.Need-returns-2 Inv-loop μ-loop
 returns-2 c =
     let m = c .before .before .loop in
-    let s = c .before .before .before .before .args .s .now in
+    let s = c .before .before .before .before .args .block .now in
     λ e. record { is = sym (m .inv .1 e) ∙ ap (zerosDec e) (drop-end s (m .q .at) (omega (arith, c .if1 .left))) ∙ ap (got tt) (sym (drop-end s (8 * length s) (omega arith))); within = omega arith }
 
 pub zeros-at-spec : {M : Type 1} → statement M

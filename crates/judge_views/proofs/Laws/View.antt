@@ -13,7 +13,7 @@ use Rattle.bits.specs.Codec.{Codec, got, refused, alongDec}
 use Rattle.bits.specs.CodecLaws.{then}
 use Rattle.bits.specs.SizedLaws.{sized, headed, prefixed}
 use Rattle.bits.specs.Lists.{total}
-use Rattle.bits.specs.Reads.{Found, found, fault, Reads, kept, summed}
+use Rattle.bits.specs.Reads.{Found, found, fault, Reads, keeping, summed}
 use Rattle.bits.proofs.Laws.Reads.{go-on, stop, made, unkept, unkept-bad, up-to}
 use Rattle.bits.proofs.Laws.Loops.{sum-more, sum-start, along-turn, along-stop, along-done}
 use Rattle.bits.proofs.Laws.Parts.{part, sized-good, sized-bad, sized-past}
@@ -68,14 +68,14 @@ module _ (w : Widths) (ps : List ℕ) (s : List ℕ) (a : ℕ) where
         pub index-bad : {e q : ℕ} → Reads (indexAtDec m) s (8 * (a + 10 + n)) (fault e q) → Reads (view w ps .dec) s (8 * a) (fault e q)
         unfolding view indexAtDec
         index-bad {e} {q} r =
-            let x = subst (λ (k : ℕ). Reads (λ y. kept indexSize (prefixed (indexBlock k) past .dec y)) s (8 * (a + 10 + n)) (fault e q)) (sym l) r in
+            let x = subst (λ (k : ℕ). Reads (λ y. keeping indexSize (prefixed (indexBlock k) past .dec y)) s (8 * (a + 10 + n)) (fault e q)) (sym l) r in
             made _ _ (go-on _ rest lines-are (stop _ _ (unkept-bad _ x)))
 
         module _ (b c : ℕ) (r : Reads (indexAtDec m) s (8 * (a + 10 + n)) (found c (8 * b))) where
           index-is : {P : Type 0} → ((o : Option Index) → indexSize o ≡ c → Reads (prefixed (indexBlock (length ls)) past .dec) s (8 * (a + 10 + n)) (found o (8 * b)) → P) → P
           unfolding indexAtDec
           index-is f =
-              let x = subst (λ (k : ℕ). Reads (λ y. kept indexSize (prefixed (indexBlock k) past .dec y)) s (8 * (a + 10 + n)) (found c (8 * b))) (sym l) r in
+              let x = subst (λ (k : ℕ). Reads (λ y. keeping indexSize (prefixed (indexBlock k) past .dec y)) s (8 * (a + 10 + n)) (found c (8 * b))) (sym l) r in
               unkept _ x f
 
           pub segments-bad : {e q : ℕ} → Reads segmentsAtDec s (8 * b) (fault e q) → Reads (view w ps .dec) s (8 * a) (fault e q)

@@ -13,7 +13,7 @@ use Rattle.bits.specs.Bytes.{bitsOf}
 use Rattle.bits.specs.Codec.{got, refused, timesDec, fieldDec}
 use Rattle.bits.specs.CodecLaws.{field}
 use Rattle.bits.specs.Lists.{total}
-use Rattle.bits.specs.Reads.{Reads, found, fault, taken, after}
+use Rattle.bits.specs.Reads.{Reads, found, fault, taken, passing}
 use Rattle.bits.proofs.Laws.Reads.{known, below}
 use Rattle.bits.proofs.Laws.Loops.{times-turn}
 use Rattle.bits.proofs.Laws.Parts.{part, part-length}
@@ -39,7 +39,7 @@ use Rattle.judge_views.proofs.judge_views.Tie as tie
 abbrev Inv-loop2 : tie.InvT-loop2
 Inv-loop2 s w count answer₀ seen a size v head len b e block end p₀ lines n place codes i₀ answer p i =
     (i ≤ codes) × (p .at ≤ 8 * length block) × (answer ≡ answer₀)
-    × (after (timesDec (field badLine (w .k)) (codes - i) (drop (p .at) (bitsOf block))) ≡ after (timesDec (field badLine (w .k)) codes (drop (p₀ .at) (bitsOf block))))
+    × (passing (timesDec (field badLine (w .k)) (codes - i) (drop (p .at) (bitsOf block))) ≡ passing (timesDec (field badLine (w .k)) codes (drop (p₀ .at) (bitsOf block))))
 
 abbrev μ-loop2 : tie.MeasureT-loop2
 μ-loop2 s w count answer₀ seen a size v head len b e block end p₀ lines n place codes i₀ answer p i =
@@ -62,35 +62,35 @@ abbrev μ-views : tie.MeasureT-views
     count - v
 
 -- the header of a view
-head : (c : tie.After-h Inv-loop2 μ-loop2 Inv-loop μ-loop Inv-views μ-views) → Reads (viewHeader (λ q. occurs q (c .before .before .before .before .before .views .inv .4 .0)) .dec) (c .before .before .before .before .before .before .before .args .s .now) (8 * c .before .before .before .before .before .views .a) (found (c .h .given .0 .0, c .h .given .0 .1 .0) (8 * c .before .before .before .before .before .views .a + 80))
+head : (c : tie.After-h Inv-loop2 μ-loop2 Inv-loop μ-loop Inv-views μ-views) → Reads (viewHeader (λ q. occurs q (c .before .before .before .before .before .views .inv .4 .0)) .dec) (c .before .before .before .before .before .before .before .args .bytes .now) (8 * c .before .before .before .before .before .views .a) (found (c .h .given .0 .0, c .h .given .0 .1 .0) (8 * c .before .before .before .before .before .views .a + 80))
 head c = head-seen _ _ _ (c .before .before .before .before .before .views .inv .4 .1 .1) (known (ap (headAt (c .before .before .before .before .before .views .a)) (c .h .given .1)) (c .before .before .head-at .ensures))
 
 -- the skeleton's block
 abbrev blk : tie.After-block Inv-loop2 μ-loop2 Inv-loop μ-loop Inv-views μ-views → List ℕ
-blk c = take ((c .before .before .before .before .before .before .before .before .views .a) + 10 + (c .before .before .before .h .given .0 .1 .0) - ((c .before .before .before .before .before .before .before .before .views .a) + 10)) (drop ((c .before .before .before .before .before .before .before .before .views .a) + 10) (c .before .before .before .before .before .before .before .before .before .before .args .s .now))
+blk c = take ((c .before .before .before .before .before .before .before .before .views .a) + 10 + (c .before .before .before .h .given .0 .1 .0) - ((c .before .before .before .before .before .before .before .before .views .a) + 10)) (drop ((c .before .before .before .before .before .before .before .before .views .a) + 10) (c .before .before .before .before .before .before .before .before .before .before .args .bytes .now))
 
-fits : (c : tie.After-block Inv-loop2 μ-loop2 Inv-loop μ-loop Inv-views μ-views) → (c .before .before .before .before .before .before .before .before .views .a) + 10 + (c .before .before .before .h .given .0 .1 .0) ≤ length (c .before .before .before .before .before .before .before .before .before .before .args .s .now)
+fits : (c : tie.After-block Inv-loop2 μ-loop2 Inv-loop μ-loop Inv-views μ-views) → (c .before .before .before .before .before .before .before .before .views .a) + 10 + (c .before .before .before .h .given .0 .1 .0) ≤ length (c .before .before .before .before .before .before .before .before .before .before .args .bytes .now)
 fits c = omega (arith, c .before .if1 .left, head (c .before .before .before) .within)
 
-same : (c : tie.After-block Inv-loop2 μ-loop2 Inv-loop μ-loop Inv-views μ-views) → blk c ≡ part (c .before .before .before .before .before .before .before .before .before .before .args .s .now) ((c .before .before .before .before .before .before .before .before .views .a) + 10) (c .before .before .before .h .given .0 .1 .0)
+same : (c : tie.After-block Inv-loop2 μ-loop2 Inv-loop μ-loop Inv-views μ-views) → blk c ≡ part (c .before .before .before .before .before .before .before .before .before .before .args .bytes .now) ((c .before .before .before .before .before .before .before .before .views .a) + 10) (c .before .before .before .h .given .0 .1 .0)
 same c =
     let e : (c .before .before .before .before .before .before .before .before .views .a) + 10 + (c .before .before .before .h .given .0 .1 .0) - ((c .before .before .before .before .before .before .before .before .views .a) + 10) ≡ (c .before .before .before .h .given .0 .1 .0) = omega arith in
-    ap (λ (n : ℕ). take n (drop ((c .before .before .before .before .before .before .before .before .views .a) + 10) (c .before .before .before .before .before .before .before .before .before .before .args .s .now))) e
+    ap (λ (n : ℕ). take n (drop ((c .before .before .before .before .before .before .before .before .views .a) + 10) (c .before .before .before .before .before .before .before .before .before .before .args .bytes .now))) e
 
 long : (c : tie.After-block Inv-loop2 μ-loop2 Inv-loop μ-loop Inv-views μ-views) → length (blk c) ≡ (c .before .before .before .h .given .0 .1 .0)
-long c = ap length (same c) ∙ part-length (c .before .before .before .before .before .before .before .before .before .before .args .s .now) ((c .before .before .before .before .before .before .before .before .views .a) + 10) (c .before .before .before .h .given .0 .1 .0) (fits c)
+long c = ap length (same c) ∙ part-length (c .before .before .before .before .before .before .before .before .before .before .args .bytes .now) ((c .before .before .before .before .before .before .before .before .views .a) + 10) (c .before .before .before .h .given .0 .1 .0) (fits c)
 
 small : (c : tie.After-block Inv-loop2 μ-loop2 Inv-loop μ-loop Inv-views μ-views) → length (blk c) ≤ 32768
 small c = omega (arith, long c, fits c, c .before .before .before .before .before .before .before .before .before .before .pre)
 
 -- a refusal in the block is the answer
-bad-view : (c : tie.After-block Inv-loop2 μ-loop2 Inv-loop μ-loop Inv-views μ-views) (e q : ℕ) → q ≤ 8 * length (blk c) → skeleton (c .before .before .before .before .before .before .before .before .before .before .args .w) .dec (bitsOf (blk c)) ≡ refused e (8 * length (blk c) - q) → Reads (viewsDec (c .before .before .before .before .before .before .before .before .before .before .args .w) (c .before .before .before .before .before .before .before .before .before .before .args .count)) (c .before .before .before .before .before .before .before .before .before .before .args .s .now) 192 (fault e (8 * ((c .before .before .before .before .before .before .before .before .views .a) + 10) + q))
+bad-view : (c : tie.After-block Inv-loop2 μ-loop2 Inv-loop μ-loop Inv-views μ-views) (e q : ℕ) → q ≤ 8 * length (blk c) → skeleton (c .before .before .before .before .before .before .before .before .before .before .args .w) .dec (bitsOf (blk c)) ≡ refused e (8 * length (blk c) - q) → Reads (viewsDec (c .before .before .before .before .before .before .before .before .before .before .args .w) (c .before .before .before .before .before .before .before .before .before .before .args .count)) (c .before .before .before .before .before .before .before .before .before .before .args .bytes .now) 192 (fault e (8 * ((c .before .before .before .before .before .before .before .before .views .a) + 10) + q))
 bad-view c e q l z =
     let z1 = ap (λ (x : List ℕ). skeleton (c .before .before .before .before .before .before .before .before .before .before .args .w) .dec (bitsOf x)) (sym (same c)) ∙ z ∙ ap (λ (x : ℕ). refused e (8 * x - q)) (long c) in
-    views-stop (c .before .before .before .before .before .before .before .before .before .before .args .w) (c .before .before .before .before .before .before .before .before .before .before .args .count) (c .before .before .before .before .before .before .before .before .before .before .args .s .now) (c .before .before .before .before .before .before .before .before .views .v) (c .before .before .before .before .before .before .before .before .views .size) (c .before .before .before .before .before .before .before .before .views .inv .4 .0) (c .before .before .before .before .before .before .before .before .views .a) (c .before .before .before .before .before .before .before .before .views .inv .4 .1 .2) (omega (arith, c .before .before .before .before .before .before .before .views-test .taken)) (skeleton-bad (c .before .before .before .before .before .before .before .before .before .before .args .w) (c .before .before .before .before .before .before .before .before .views .inv .4 .0) (c .before .before .before .before .before .before .before .before .before .before .args .s .now) (c .before .before .before .before .before .before .before .before .views .a) (c .before .before .before .h .given .0 .0) (c .before .before .before .h .given .0 .1 .0) (head (c .before .before .before)) (fits c) (omega (arith, long c)) z1)
+    views-stop (c .before .before .before .before .before .before .before .before .before .before .args .w) (c .before .before .before .before .before .before .before .before .before .before .args .count) (c .before .before .before .before .before .before .before .before .before .before .args .bytes .now) (c .before .before .before .before .before .before .before .before .views .v) (c .before .before .before .before .before .before .before .before .views .size) (c .before .before .before .before .before .before .before .before .views .inv .4 .0) (c .before .before .before .before .before .before .before .before .views .a) (c .before .before .before .before .before .before .before .before .views .inv .4 .1 .2) (omega (arith, c .before .before .before .before .before .before .before .views-test .taken)) (skeleton-bad (c .before .before .before .before .before .before .before .before .before .before .args .w) (c .before .before .before .before .before .before .before .before .views .inv .4 .0) (c .before .before .before .before .before .before .before .before .before .before .args .bytes .now) (c .before .before .before .before .before .before .before .before .views .a) (c .before .before .before .h .given .0 .0) (c .before .before .before .h .given .0 .1 .0) (head (c .before .before .before)) (fits c) (omega (arith, long c)) z1)
 
 -- a line that does not fit is the answer
-bad-line : (c : tie.Else3 Inv-loop2 μ-loop2 Inv-loop μ-loop Inv-views μ-views) → Reads (line (c .before .before .before .before .before .before .before .before .before .before .before .before .before .before .before .before .args .w) .dec) (blk (c .before .before .before .before .before .before)) (c .before .before .before .before .loop .p .at) (fault 8 (c .before .before .before .before .loop .p .at)) → Reads (viewsDec (c .before .before .before .before .before .before .before .before .before .before .before .before .before .before .before .before .args .w) (c .before .before .before .before .before .before .before .before .before .before .before .before .before .before .before .before .args .count)) (c .before .before .before .before .before .before .before .before .before .before .before .before .before .before .before .before .args .s .now) 192 (fault 8 (8 * ((c .before .before .before .before .before .before .before .before .before .before .before .before .before .before .views .a) + 10) + c .before .before .before .before .loop .p .at))
+bad-line : (c : tie.Else3 Inv-loop2 μ-loop2 Inv-loop μ-loop Inv-views μ-views) → Reads (line (c .before .before .before .before .before .before .before .before .before .before .before .before .before .before .before .before .args .w) .dec) (blk (c .before .before .before .before .before .before)) (c .before .before .before .before .loop .p .at) (fault 8 (c .before .before .before .before .loop .p .at)) → Reads (viewsDec (c .before .before .before .before .before .before .before .before .before .before .before .before .before .before .before .before .args .w) (c .before .before .before .before .before .before .before .before .before .before .before .before .before .before .before .before .args .count)) (c .before .before .before .before .before .before .before .before .before .before .before .before .before .before .before .before .args .bytes .now) 192 (fault 8 (8 * ((c .before .before .before .before .before .before .before .before .before .before .before .before .before .before .views .a) + 10) + c .before .before .before .before .loop .p .at))
 bad-line c r =
     bad-view (c .before .before .before .before .before .before) 8 (c .before .before .before .before .loop .p .at) (c .before .before .before .before .loop .inv .1)
     (lines-stop (c .before .before .before .before .before .before .before .before .before .before .before .before .before .before .before .before .args .w) (blk (c .before .before .before .before .before .before)) (c .before .before .before .before .loop .n) (c .before .before .before .before .loop .lines) (c .before .before .before .before .loop .p .at) (c .before .before .before .before .loop .inv .4) (omega (arith, c .before .before .before .before .loop .inv .0, c .if3 .left)) (omega (arith, c .before .before .if2 .taken)) r)
@@ -102,16 +102,16 @@ count-of : (c : tie.After-codes Inv-loop2 μ-loop2 Inv-loop μ-loop Inv-views μ
 count-of c = known (ap (taken badLine) (c .codes .given .1)) (c .before .before .field .ensures badLine)
 
 -- the lines are read
-lined : (c : tie.After-enum-told5 Inv-loop2 μ-loop2 Inv-loop μ-loop Inv-views μ-views) (P : Type 0) → ((ls : List Line) (u : Bits) → length ls ≡ c .before .before .before .before .before .loop .n → total lineSize ls ≡ c .before .before .before .before .before .loop .lines → skeleton (c .before .before .before .before .before .before .before .before .before .before .before .before .before .before .before .before .before .args .w) .dec (bitsOf (part (c .before .before .before .before .before .before .before .before .before .before .before .before .before .before .before .before .before .args .s .now) ((c .before .before .before .before .before .before .before .before .before .before .before .before .before .before .before .views .a) + 10) (c .before .before .before .before .before .before .before .before .before .before .h .given .0 .1 .0))) ≡ got ls u → P) → P
+lined : (c : tie.After-enum-told5 Inv-loop2 μ-loop2 Inv-loop μ-loop Inv-views μ-views) (P : Type 0) → ((ls : List Line) (u : Bits) → length ls ≡ c .before .before .before .before .before .loop .n → total lineSize ls ≡ c .before .before .before .before .before .loop .lines → skeleton (c .before .before .before .before .before .before .before .before .before .before .before .before .before .before .before .before .before .args .w) .dec (bitsOf (part (c .before .before .before .before .before .before .before .before .before .before .before .before .before .before .before .before .before .args .bytes .now) ((c .before .before .before .before .before .before .before .before .before .before .before .before .before .before .before .views .a) + 10) (c .before .before .before .before .before .before .before .before .before .before .h .given .0 .1 .0))) ≡ got ls u → P) → P
 lined c P f =
     lines-done (c .before .before .before .before .before .before .before .before .before .before .before .before .before .before .before .before .before .args .w) (blk (c .before .before .before .before .before .before .before)) (c .before .before .before .before .before .loop .n) (c .before .before .before .before .before .loop .lines) (c .before .before .before .before .before .loop .p .at) (c .before .before .before .before .before .loop .inv .4) (omega (arith, c .before .before .before .if2 .left))
     (known (ap (cleared badLine (blk (c .before .before .before .before .before .before .before))) (c .enum-told5 .given .1)) (c .before .before .zeros-at .ensures badLine))
     λ ls u l t z. f ls u l t (ap (λ (x : List ℕ). skeleton (c .before .before .before .before .before .before .before .before .before .before .before .before .before .before .before .before .before .args .w) .dec (bitsOf x)) (sym (same (c .before .before .before .before .before .before .before))) ∙ z)
 
-indexed : (c : tie.After-index Inv-loop2 μ-loop2 Inv-loop μ-loop Inv-views μ-views) → Reads (indexAtDec (c .before .before .before .before .before .before .before .before .loop .n)) (c .before .before .before .before .before .before .before .before .before .before .before .before .before .before .before .before .before .before .before .before .args .s .now) (8 * ((c .before .before .before .before .before .before .before .before .before .before .before .before .before .before .before .before .before .before .views .a) + 10 + (c .before .before .before .before .before .before .before .before .before .before .before .before .before .h .given .0 .1 .0))) (found (c .index .given .0 .1 .0) (8 * c .index .given .0 .0))
+indexed : (c : tie.After-index Inv-loop2 μ-loop2 Inv-loop μ-loop Inv-views μ-views) → Reads (indexAtDec (c .before .before .before .before .before .before .before .before .loop .n)) (c .before .before .before .before .before .before .before .before .before .before .before .before .before .before .before .before .before .before .before .before .args .bytes .now) (8 * ((c .before .before .before .before .before .before .before .before .before .before .before .before .before .before .before .before .before .before .views .a) + 10 + (c .before .before .before .before .before .before .before .before .before .before .before .before .before .h .given .0 .1 .0))) (found (c .index .given .0 .1 .0) (8 * c .index .given .0 .0))
 indexed c = known (ap reached (c .index .given .1)) (c .before .before .index-at .ensures)
 
-segmented : (c : tie.After-segments Inv-loop2 μ-loop2 Inv-loop μ-loop Inv-views μ-views) → Reads segmentsAtDec (c .before .before .before .before .before .before .before .before .before .before .before .before .before .before .before .before .before .before .before .before .before .before .before .before .args .s .now) (8 * c .before .before .before .before .index .given .0 .0) (found (c .segments .given .0 .1 .0) (8 * c .segments .given .0 .0))
+segmented : (c : tie.After-segments Inv-loop2 μ-loop2 Inv-loop μ-loop Inv-views μ-views) → Reads segmentsAtDec (c .before .before .before .before .before .before .before .before .before .before .before .before .before .before .before .before .before .before .before .before .before .before .before .before .args .bytes .now) (8 * c .before .before .before .before .index .given .0 .0) (found (c .segments .given .0 .1 .0) (8 * c .segments .given .0 .0))
 segmented c = known (ap reached (c .segments .given .1)) (c .before .before .segments-at .ensures)
 
 -- no sum of a view's bytes in the sheet wraps
@@ -122,21 +122,21 @@ payloads-few : (c : tie.After-segments Inv-loop2 μ-loop2 Inv-loop μ-loop Inv-v
 payloads-few c = omega (arith, segments-small (segmented c), c .before .before .before .before .before .before .before .before .before .before .before .before .before .before .before .before .before .before .before .before .before .before .before .before .pre)
 
 -- the ways out of the views, met
-left : (c : tie.Left-views Inv-loop2 μ-loop2 Inv-loop μ-loop Inv-views μ-views) → Reads (viewsDec (c .before .before .before .args .w) (c .before .before .before .args .count)) (c .before .before .before .args .s .now) 192 (exit (c .before .views .a) (c .before .views .size) (c .views-test .answer))
+left : (c : tie.Left-views Inv-loop2 μ-loop2 Inv-loop μ-loop Inv-views μ-views) → Reads (viewsDec (c .before .before .before .args .w) (c .before .before .before .args .count)) (c .before .before .before .args .bytes .now) 192 (exit (c .before .views .a) (c .before .views .size) (c .views-test .answer))
 left c =
     ⊎-elim
     (λ x.
     let k : tie.After-views Inv-loop2 μ-loop2 Inv-loop μ-loop Inv-views μ-views = record { before = c .before; views-test = x .0 } in
-    known (ap (exit (k .before .views .a) (k .before .views .size)) (sym (x .1 ∙ k .before .views .inv .2))) (views-done (k .before .before .before .args .w) (k .before .before .before .args .count) (k .before .before .before .args .s .now) (k .before .views .v) (k .before .views .size) (k .before .views .inv .4 .0) (k .before .views .a) (k .before .views .inv .4 .1 .2) (omega (arith, k .views-test .left)) (k .before .views .inv .1)))
+    known (ap (exit (k .before .views .a) (k .before .views .size)) (sym (x .1 ∙ k .before .views .inv .2))) (views-done (k .before .before .before .args .w) (k .before .before .before .args .count) (k .before .before .before .args .bytes .now) (k .before .views .v) (k .before .views .size) (k .before .views .inv .4 .0) (k .before .views .a) (k .before .views .inv .4 .1 .2) (omega (arith, k .views-test .left)) (k .before .views .inv .1)))
     (⊎-elim
     (λ x.
     let k : tie.After-known-told2 Inv-loop2 μ-loop2 Inv-loop μ-loop Inv-views μ-views = record { before = record { before = record { before = record { before = record { before = record { before = c .before; views-test = x .0 }; seen = x .1 }; head-at = x .2 }; match = x .3 }; e = x .4 }; known-told2 = x .5 } in
     known (ap (exit (k .before .before .before .before .before .before .views .a) (k .before .before .before .before .before .before .views .size)) (sym (x .6)))
-    (views-stop (k .before .before .before .before .before .before .before .before .args .w) (k .before .before .before .before .before .before .before .before .args .count) (k .before .before .before .before .before .before .before .before .args .s .now) (k .before .before .before .before .before .before .views .v) (k .before .before .before .before .before .before .views .size) (k .before .before .before .before .before .before .views .inv .4 .0) (k .before .before .before .before .before .before .views .a) (k .before .before .before .before .before .before .views .inv .4 .1 .2) (omega (arith, k .before .before .before .before .before .views-test .taken)) (no-head (k .before .before .before .before .before .before .before .before .args .w) (k .before .before .before .before .before .before .views .inv .4 .0) (k .before .before .before .before .before .before .before .before .args .s .now) (k .before .before .before .before .before .before .views .a) (head-seen _ _ _ (k .before .before .before .before .before .before .views .inv .4 .1 .1) (known (ap (headAt (k .before .before .before .before .before .before .views .a)) (k .before .e .given .1)) (k .before .before .before .head-at .ensures))))))
+    (views-stop (k .before .before .before .before .before .before .before .before .args .w) (k .before .before .before .before .before .before .before .before .args .count) (k .before .before .before .before .before .before .before .before .args .bytes .now) (k .before .before .before .before .before .before .views .v) (k .before .before .before .before .before .before .views .size) (k .before .before .before .before .before .before .views .inv .4 .0) (k .before .before .before .before .before .before .views .a) (k .before .before .before .before .before .before .views .inv .4 .1 .2) (omega (arith, k .before .before .before .before .before .views-test .taken)) (no-head (k .before .before .before .before .before .before .before .before .args .w) (k .before .before .before .before .before .before .views .inv .4 .0) (k .before .before .before .before .before .before .before .before .args .bytes .now) (k .before .before .before .before .before .before .views .a) (head-seen _ _ _ (k .before .before .before .before .before .before .views .inv .4 .1 .1) (known (ap (headAt (k .before .before .before .before .before .before .views .a)) (k .before .e .given .1)) (k .before .before .before .head-at .ensures))))))
     (⊎-elim
     (λ x.
     let k : tie.Then1 Inv-loop2 μ-loop2 Inv-loop μ-loop Inv-views μ-views = record { before = record { before = record { before = record { before = record { before = record { before = record { before = c .before; views-test = x .0 }; seen = x .1 }; head-at = x .2 }; match = x .3 }; h = x .4 }; known-told = x .5 }; if1 = x .6 } in
-    known (ap (exit (k .before .before .before .before .before .before .before .views .a) (k .before .before .before .before .before .before .before .views .size)) (sym (x .7))) (views-stop (k .before .before .before .before .before .before .before .before .before .args .w) (k .before .before .before .before .before .before .before .before .before .args .count) (k .before .before .before .before .before .before .before .before .before .args .s .now) (k .before .before .before .before .before .before .before .views .v) (k .before .before .before .before .before .before .before .views .size) (k .before .before .before .before .before .before .before .views .inv .4 .0) (k .before .before .before .before .before .before .before .views .a) (k .before .before .before .before .before .before .before .views .inv .4 .1 .2) (omega (arith, k .before .before .before .before .before .before .views-test .taken)) (skeleton-past (k .before .before .before .before .before .before .before .before .before .args .w) (k .before .before .before .before .before .before .before .views .inv .4 .0) (k .before .before .before .before .before .before .before .before .before .args .s .now) (k .before .before .before .before .before .before .before .views .a) (k .before .before .h .given .0 .0) (k .before .before .h .given .0 .1 .0) (head (k .before .before)) (omega (arith, head (k .before .before) .within)) (k .if1 .taken))))
+    known (ap (exit (k .before .before .before .before .before .before .before .views .a) (k .before .before .before .before .before .before .before .views .size)) (sym (x .7))) (views-stop (k .before .before .before .before .before .before .before .before .before .args .w) (k .before .before .before .before .before .before .before .before .before .args .count) (k .before .before .before .before .before .before .before .before .before .args .bytes .now) (k .before .before .before .before .before .before .before .views .v) (k .before .before .before .before .before .before .before .views .size) (k .before .before .before .before .before .before .before .views .inv .4 .0) (k .before .before .before .before .before .before .before .views .a) (k .before .before .before .before .before .before .before .views .inv .4 .1 .2) (omega (arith, k .before .before .before .before .before .before .views-test .taken)) (skeleton-past (k .before .before .before .before .before .before .before .before .before .args .w) (k .before .before .before .before .before .before .before .views .inv .4 .0) (k .before .before .before .before .before .before .before .before .before .args .bytes .now) (k .before .before .before .before .before .before .before .views .a) (k .before .before .h .given .0 .0) (k .before .before .h .given .0 .1 .0) (head (k .before .before)) (omega (arith, head (k .before .before) .within)) (k .if1 .taken))))
     (⊎-elim
     (λ x.
     let k : tie.Then3 Inv-loop2 μ-loop2 Inv-loop μ-loop Inv-views μ-views = record { before = record { before = record { before = record { before = record { before = record { before = record { before = record { before = record { before = record { before = record { before = record { before = record { before = record { before = c .before; views-test = x .0 }; seen = x .1 }; head-at = x .2 }; match = x .3 }; h = x .4 }; known-told = x .5 }; if1 = x .6 }; block = x .7 }; start = x .8 }; loop = x .9 }; struct-known = x .10 }; if2 = x .11 }; struct-known2 = x .12 }; if3 = x .13 } in
@@ -166,11 +166,11 @@ left c =
     (λ x.
     let k : tie.After-enum-told6 Inv-loop2 μ-loop2 Inv-loop μ-loop Inv-views μ-views = record { before = record { before = record { before = record { before = record { before = record { before = record { before = record { before = record { before = record { before = record { before = record { before = record { before = record { before = record { before = record { before = record { before = record { before = c .before; views-test = x .0 }; seen = x .1 }; head-at = x .2 }; match = x .3 }; h = x .4 }; known-told = x .5 }; if1 = x .6 }; block = x .7 }; start = x .8 }; loop = x .9 }; struct-known = x .10 }; if2 = x .11 }; zeros-at = x .12 }; match6 = x .13 }; enum-told5 = x .14 }; index-at = x .15 }; match7 = x .16 }; enum-told6 = x .17 } in
     known (ap (exit (k .before .before .before .before .before .before .before .before .before .before .before .before .before .before .before .before .before .before .views .a) (k .before .before .before .before .before .before .before .before .before .before .before .before .before .before .before .before .before .before .views .size)) (sym (x .18 ∙ k .enum-told6 .given .1)))
-    (lined (k .before .before .before) _ λ ls u l t z. views-stop (k .before .before .before .before .before .before .before .before .before .before .before .before .before .before .before .before .before .before .before .before .args .w) (k .before .before .before .before .before .before .before .before .before .before .before .before .before .before .before .before .before .before .before .before .args .count) (k .before .before .before .before .before .before .before .before .before .before .before .before .before .before .before .before .before .before .before .before .args .s .now) (k .before .before .before .before .before .before .before .before .before .before .before .before .before .before .before .before .before .before .views .v) (k .before .before .before .before .before .before .before .before .before .before .before .before .before .before .before .before .before .before .views .size) (k .before .before .before .before .before .before .before .before .before .before .before .before .before .before .before .before .before .before .views .inv .4 .0) (k .before .before .before .before .before .before .before .before .before .before .before .before .before .before .before .before .before .before .views .a) (k .before .before .before .before .before .before .before .before .before .before .before .before .before .before .before .before .before .before .views .inv .4 .1 .2) (omega (arith, k .before .before .before .before .before .before .before .before .before .before .before .before .before .before .before .before .before .views-test .taken)) (index-bad (k .before .before .before .before .before .before .before .before .before .before .before .before .before .before .before .before .before .before .before .before .args .w) (k .before .before .before .before .before .before .before .before .before .before .before .before .before .before .before .before .before .before .views .inv .4 .0) (k .before .before .before .before .before .before .before .before .before .before .before .before .before .before .before .before .before .before .before .before .args .s .now) (k .before .before .before .before .before .before .before .before .before .before .before .before .before .before .before .before .before .before .views .a) (k .before .before .before .before .before .before .before .before .before .before .before .before .before .h .given .0 .0) (k .before .before .before .before .before .before .before .before .before .before .before .before .before .h .given .0 .1 .0) (head (k .before .before .before .before .before .before .before .before .before .before .before .before .before)) (fits (k .before .before .before .before .before .before .before .before .before .before)) ls u (k .before .before .before .before .before .before .before .before .loop .n) l z (known (ap reached (k .enum-told6 .given .1)) (k .before .before .index-at .ensures)))))
+    (lined (k .before .before .before) _ λ ls u l t z. views-stop (k .before .before .before .before .before .before .before .before .before .before .before .before .before .before .before .before .before .before .before .before .args .w) (k .before .before .before .before .before .before .before .before .before .before .before .before .before .before .before .before .before .before .before .before .args .count) (k .before .before .before .before .before .before .before .before .before .before .before .before .before .before .before .before .before .before .before .before .args .bytes .now) (k .before .before .before .before .before .before .before .before .before .before .before .before .before .before .before .before .before .before .views .v) (k .before .before .before .before .before .before .before .before .before .before .before .before .before .before .before .before .before .before .views .size) (k .before .before .before .before .before .before .before .before .before .before .before .before .before .before .before .before .before .before .views .inv .4 .0) (k .before .before .before .before .before .before .before .before .before .before .before .before .before .before .before .before .before .before .views .a) (k .before .before .before .before .before .before .before .before .before .before .before .before .before .before .before .before .before .before .views .inv .4 .1 .2) (omega (arith, k .before .before .before .before .before .before .before .before .before .before .before .before .before .before .before .before .before .views-test .taken)) (index-bad (k .before .before .before .before .before .before .before .before .before .before .before .before .before .before .before .before .before .before .before .before .args .w) (k .before .before .before .before .before .before .before .before .before .before .before .before .before .before .before .before .before .before .views .inv .4 .0) (k .before .before .before .before .before .before .before .before .before .before .before .before .before .before .before .before .before .before .before .before .args .bytes .now) (k .before .before .before .before .before .before .before .before .before .before .before .before .before .before .before .before .before .before .views .a) (k .before .before .before .before .before .before .before .before .before .before .before .before .before .h .given .0 .0) (k .before .before .before .before .before .before .before .before .before .before .before .before .before .h .given .0 .1 .0) (head (k .before .before .before .before .before .before .before .before .before .before .before .before .before)) (fits (k .before .before .before .before .before .before .before .before .before .before)) ls u (k .before .before .before .before .before .before .before .before .loop .n) l z (known (ap reached (k .enum-told6 .given .1)) (k .before .before .index-at .ensures)))))
     (λ x.
     let k : tie.After-enum-told7 Inv-loop2 μ-loop2 Inv-loop μ-loop Inv-views μ-views = record { before = record { before = record { before = record { before = record { before = record { before = record { before = record { before = record { before = record { before = record { before = record { before = record { before = record { before = record { before = record { before = record { before = record { before = record { before = record { before = record { before = record { before = c .before; views-test = x .0 }; seen = x .1 }; head-at = x .2 }; match = x .3 }; h = x .4 }; known-told = x .5 }; if1 = x .6 }; block = x .7 }; start = x .8 }; loop = x .9 }; struct-known = x .10 }; if2 = x .11 }; zeros-at = x .12 }; match6 = x .13 }; enum-told5 = x .14 }; index-at = x .15 }; match7 = x .16 }; index = x .17 }; known-told8 = x .18 }; segments-at = x .19 }; match8 = x .20 }; enum-told7 = x .21 } in
     known (ap (exit (k .before .before .before .before .before .before .before .before .before .before .before .before .before .before .before .before .before .before .before .before .before .before .views .a) (k .before .before .before .before .before .before .before .before .before .before .before .before .before .before .before .before .before .before .before .before .before .before .views .size)) (sym (x .22 ∙ k .enum-told7 .given .1)))
-    (lined (k .before .before .before .before .before .before .before) _ λ ls u l t z. views-stop (k .before .before .before .before .before .before .before .before .before .before .before .before .before .before .before .before .before .before .before .before .before .before .before .before .args .w) (k .before .before .before .before .before .before .before .before .before .before .before .before .before .before .before .before .before .before .before .before .before .before .before .before .args .count) (k .before .before .before .before .before .before .before .before .before .before .before .before .before .before .before .before .before .before .before .before .before .before .before .before .args .s .now) (k .before .before .before .before .before .before .before .before .before .before .before .before .before .before .before .before .before .before .before .before .before .before .views .v) (k .before .before .before .before .before .before .before .before .before .before .before .before .before .before .before .before .before .before .before .before .before .before .views .size) (k .before .before .before .before .before .before .before .before .before .before .before .before .before .before .before .before .before .before .before .before .before .before .views .inv .4 .0) (k .before .before .before .before .before .before .before .before .before .before .before .before .before .before .before .before .before .before .before .before .before .before .views .a) (k .before .before .before .before .before .before .before .before .before .before .before .before .before .before .before .before .before .before .before .before .before .before .views .inv .4 .1 .2) (omega (arith, k .before .before .before .before .before .before .before .before .before .before .before .before .before .before .before .before .before .before .before .before .before .views-test .taken)) (segments-bad (k .before .before .before .before .before .before .before .before .before .before .before .before .before .before .before .before .before .before .before .before .before .before .before .before .args .w) (k .before .before .before .before .before .before .before .before .before .before .before .before .before .before .before .before .before .before .before .before .before .before .views .inv .4 .0) (k .before .before .before .before .before .before .before .before .before .before .before .before .before .before .before .before .before .before .before .before .before .before .before .before .args .s .now) (k .before .before .before .before .before .before .before .before .before .before .before .before .before .before .before .before .before .before .before .before .before .before .views .a) (k .before .before .before .before .before .before .before .before .before .before .before .before .before .before .before .before .before .h .given .0 .0) (k .before .before .before .before .before .before .before .before .before .before .before .before .before .before .before .before .before .h .given .0 .1 .0) (head (k .before .before .before .before .before .before .before .before .before .before .before .before .before .before .before .before .before)) (fits (k .before .before .before .before .before .before .before .before .before .before .before .before .before .before)) ls u (k .before .before .before .before .before .before .before .before .before .before .before .before .loop .n) l z (k .before .before .before .before .index .given .0 .0) (k .before .before .before .before .index .given .0 .1 .0) (indexed (k .before .before .before .before)) (known (ap reached (k .enum-told7 .given .1)) (k .before .before .segments-at .ensures))))))))))))))
+    (lined (k .before .before .before .before .before .before .before) _ λ ls u l t z. views-stop (k .before .before .before .before .before .before .before .before .before .before .before .before .before .before .before .before .before .before .before .before .before .before .before .before .args .w) (k .before .before .before .before .before .before .before .before .before .before .before .before .before .before .before .before .before .before .before .before .before .before .before .before .args .count) (k .before .before .before .before .before .before .before .before .before .before .before .before .before .before .before .before .before .before .before .before .before .before .before .before .args .bytes .now) (k .before .before .before .before .before .before .before .before .before .before .before .before .before .before .before .before .before .before .before .before .before .before .views .v) (k .before .before .before .before .before .before .before .before .before .before .before .before .before .before .before .before .before .before .before .before .before .before .views .size) (k .before .before .before .before .before .before .before .before .before .before .before .before .before .before .before .before .before .before .before .before .before .before .views .inv .4 .0) (k .before .before .before .before .before .before .before .before .before .before .before .before .before .before .before .before .before .before .before .before .before .before .views .a) (k .before .before .before .before .before .before .before .before .before .before .before .before .before .before .before .before .before .before .before .before .before .before .views .inv .4 .1 .2) (omega (arith, k .before .before .before .before .before .before .before .before .before .before .before .before .before .before .before .before .before .before .before .before .before .views-test .taken)) (segments-bad (k .before .before .before .before .before .before .before .before .before .before .before .before .before .before .before .before .before .before .before .before .before .before .before .before .args .w) (k .before .before .before .before .before .before .before .before .before .before .before .before .before .before .before .before .before .before .before .before .before .before .views .inv .4 .0) (k .before .before .before .before .before .before .before .before .before .before .before .before .before .before .before .before .before .before .before .before .before .before .before .before .args .bytes .now) (k .before .before .before .before .before .before .before .before .before .before .before .before .before .before .before .before .before .before .before .before .before .before .views .a) (k .before .before .before .before .before .before .before .before .before .before .before .before .before .before .before .before .before .h .given .0 .0) (k .before .before .before .before .before .before .before .before .before .before .before .before .before .before .before .before .before .h .given .0 .1 .0) (head (k .before .before .before .before .before .before .before .before .before .before .before .before .before .before .before .before .before)) (fits (k .before .before .before .before .before .before .before .before .before .before .before .before .before .before)) ls u (k .before .before .before .before .before .before .before .before .before .before .before .before .loop .n) l z (k .before .before .before .before .index .given .0 .0) (k .before .before .before .before .index .given .0 .1 .0) (indexed (k .before .before .before .before)) (known (ap reached (k .enum-told7 .given .1)) (k .before .before .segments-at .ensures))))))))))))))
     (c .views-test .came)
 
 views-holds : tie.Need-views-holds Inv-loop2 μ-loop2 Inv-loop μ-loop Inv-views μ-views
@@ -260,7 +260,7 @@ enum-told-2 c = search needs
 
 loop2-holds : tie.Need-loop2-holds Inv-loop2 μ-loop2 Inv-loop μ-loop Inv-views μ-views
 loop2-holds c =
-    (omega arith, count-of (c .before) .within, refl, ap (λ (m : ℕ). after (timesDec (field badLine ((c .before .before .before .before .before .before .before .before .before .before .before .before .before .before .before .before .before .before .before .before .before .before .before .before .args .w) .k)) m (drop (c .before .codes .given .0 .1 .0 .at) (bitsOf (blk (c .before .before .before .before .before .before .before .before .before .before .before .before .before .before)))))) (sub-zero (c .before .codes .given .0 .0)))
+    (omega arith, count-of (c .before) .within, refl, ap (λ (m : ℕ). passing (timesDec (field badLine ((c .before .before .before .before .before .before .before .before .before .before .before .before .before .before .before .before .before .before .before .before .before .before .before .before .args .w) .k)) m (drop (c .before .codes .given .0 .1 .0 .at) (bitsOf (blk (c .before .before .before .before .before .before .before .before .before .before .before .before .before .before)))))) (sub-zero (c .before .codes .given .0 .0)))
 
 field-requires-2 : tie.Need-field-requires-2 Inv-loop2 μ-loop2 Inv-loop μ-loop Inv-views μ-views
 field-requires-2 c κs =
@@ -399,7 +399,7 @@ views-again c =
     let g = segmented (c .before) in
     let d = c .before .segments .given .0 .0 in
     lined (c .before .before .before .before .before .before .before .before) _ λ ls u l t z.
-    view-is (c .before .before .before .before .before .before .before .before .before .before .before .before .before .before .before .before .before .before .before .before .before .before .before .before .before .args .w) (c .before .before .before .before .before .before .before .before .before .before .before .before .before .before .before .before .before .before .before .before .before .before .before .views .inv .4 .0) (c .before .before .before .before .before .before .before .before .before .before .before .before .before .before .before .before .before .before .before .before .before .before .before .before .before .args .s .now) (c .before .before .before .before .before .before .before .before .before .before .before .before .before .before .before .before .before .before .before .before .before .before .before .views .a) (c .before .before .before .before .before .before .before .before .before .before .before .before .before .before .before .before .before .before .h .given .0 .0) (c .before .before .before .before .before .before .before .before .before .before .before .before .before .before .before .before .before .before .h .given .0 .1 .0) (head (c .before .before .before .before .before .before .before .before .before .before .before .before .before .before .before .before .before .before)) (fits (c .before .before .before .before .before .before .before .before .before .before .before .before .before .before .before)) ls u (c .before .before .before .before .before .before .before .before .before .before .before .before .before .loop .n) l z (c .before .before .before .before .before .index .given .0 .0) (c .before .before .before .before .before .index .given .0 .1 .0) (indexed (c .before .before .before .before .before)) d (c .before .segments .given .0 .1 .0) g λ x e y r. (
+    view-is (c .before .before .before .before .before .before .before .before .before .before .before .before .before .before .before .before .before .before .before .before .before .before .before .before .before .args .w) (c .before .before .before .before .before .before .before .before .before .before .before .before .before .before .before .before .before .before .before .before .before .before .before .views .inv .4 .0) (c .before .before .before .before .before .before .before .before .before .before .before .before .before .before .before .before .before .before .before .before .before .before .before .before .before .args .bytes .now) (c .before .before .before .before .before .before .before .before .before .before .before .before .before .before .before .before .before .before .before .before .before .before .before .views .a) (c .before .before .before .before .before .before .before .before .before .before .before .before .before .before .before .before .before .before .h .given .0 .0) (c .before .before .before .before .before .before .before .before .before .before .before .before .before .before .before .before .before .before .h .given .0 .1 .0) (head (c .before .before .before .before .before .before .before .before .before .before .before .before .before .before .before .before .before .before)) (fits (c .before .before .before .before .before .before .before .before .before .before .before .before .before .before .before)) ls u (c .before .before .before .before .before .before .before .before .before .before .before .before .before .loop .n) l z (c .before .before .before .before .before .index .given .0 .0) (c .before .before .before .before .before .index .given .0 .1 .0) (indexed (c .before .before .before .before .before)) d (c .before .segments .given .0 .1 .0) g λ x e y r. (
       omega (arith, c .before .before .before .before .before .before .before .before .before .before .before .before .before .before .before .before .before .before .before .before .before .before .views-test .taken),
       omega (arith, g .within),
       c .before .before .before .before .before .before .before .before .before .before .before .before .before .loop .inv .2 ∙ c .before .before .before .before .before .before .before .before .before .before .before .before .before .before .before .before .before .before .before .before .before .before .before .views .inv .2,
@@ -409,7 +409,7 @@ views-again c =
         (
           ap suc (c .before .before .before .before .before .before .before .before .before .before .before .before .before .before .before .before .before .before .before .before .before .before .before .views .inv .4 .1 .0) ∙ sym (add-one _),
           seen-more (c .before .before .before .before .before .before .before .before .before .before .before .before .before .before .before .before .before .before .before .before .before .before .before .views .seen) (c .before .before .before .before .before .before .before .before .before .before .before .before .before .before .before .before .before .before .before .before .before .before .before .views .inv .4 .0) ((c .before .before .before .before .before .before .before .before .before .before .before .before .before .before .before .before .before .before .h .given .0 .0) .position) (position-le _ _ _ _ _ _ (head (c .before .before .before .before .before .before .before .before .before .before .before .before .before .before .before .before .before .before))) (c .before .before .before .before .before .before .before .before .before .before .before .before .before .before .before .before .before .before .before .before .before .before .before .views .inv .4 .1 .1),
-          subst (λ (y : ViewHeader). Views (c .before .before .before .before .before .before .before .before .before .before .before .before .before .before .before .before .before .before .before .before .before .before .before .before .before .args .w) (c .before .before .before .before .before .before .before .before .before .before .before .before .before .before .before .before .before .before .before .before .before .before .before .before .before .args .count) (c .before .before .before .before .before .before .before .before .before .before .before .before .before .before .before .before .before .before .before .before .before .before .before .before .before .args .s .now) (c .before .before .before .before .before .before .before .before .before .before .before .before .before .before .before .before .before .before .before .before .before .before .before .views .v + 1) (c .before .before .before .before .before .before .before .before .before .before .before .before .before .before .before .before .before .before .before .before .before .before .before .views .size + (11 + c .before .before .before .before .before .before .before .before .before .before .before .before .before .loop .lines + c .before .before .before .before .before .index .given .0 .1 .0 + c .before .segments .given .0 .1 .0)) (y .position ∷ (c .before .before .before .before .before .before .before .before .before .before .before .before .before .before .before .before .before .before .before .before .before .before .before .views .inv .4 .0)) d) e (views-turn (c .before .before .before .before .before .before .before .before .before .before .before .before .before .before .before .before .before .before .before .before .before .before .before .before .before .args .w) (c .before .before .before .before .before .before .before .before .before .before .before .before .before .before .before .before .before .before .before .before .before .before .before .before .before .args .count) (c .before .before .before .before .before .before .before .before .before .before .before .before .before .before .before .before .before .before .before .before .before .before .before .before .before .args .s .now) (c .before .before .before .before .before .before .before .before .before .before .before .before .before .before .before .before .before .before .before .before .before .before .before .views .v) (c .before .before .before .before .before .before .before .before .before .before .before .before .before .before .before .before .before .before .before .before .before .before .before .views .size) (c .before .before .before .before .before .before .before .before .before .before .before .before .before .before .before .before .before .before .before .before .before .before .before .views .inv .4 .0) (c .before .before .before .before .before .before .before .before .before .before .before .before .before .before .before .before .before .before .before .before .before .before .before .views .a) (c .before .before .before .before .before .before .before .before .before .before .before .before .before .before .before .before .before .before .before .before .before .before .before .views .inv .4 .1 .2) d (omega (arith, c .before .before .before .before .before .before .before .before .before .before .before .before .before .before .before .before .before .before .before .before .before .before .views-test .taken)) (y ∙ ap (λ (m : ℕ). 11 + m + c .before .before .before .before .before .index .given .0 .1 .0 + c .before .segments .given .0 .1 .0) t) r),
+          subst (λ (y : ViewHeader). Views (c .before .before .before .before .before .before .before .before .before .before .before .before .before .before .before .before .before .before .before .before .before .before .before .before .before .args .w) (c .before .before .before .before .before .before .before .before .before .before .before .before .before .before .before .before .before .before .before .before .before .before .before .before .before .args .count) (c .before .before .before .before .before .before .before .before .before .before .before .before .before .before .before .before .before .before .before .before .before .before .before .before .before .args .bytes .now) (c .before .before .before .before .before .before .before .before .before .before .before .before .before .before .before .before .before .before .before .before .before .before .before .views .v + 1) (c .before .before .before .before .before .before .before .before .before .before .before .before .before .before .before .before .before .before .before .before .before .before .before .views .size + (11 + c .before .before .before .before .before .before .before .before .before .before .before .before .before .loop .lines + c .before .before .before .before .before .index .given .0 .1 .0 + c .before .segments .given .0 .1 .0)) (y .position ∷ (c .before .before .before .before .before .before .before .before .before .before .before .before .before .before .before .before .before .before .before .before .before .before .before .views .inv .4 .0)) d) e (views-turn (c .before .before .before .before .before .before .before .before .before .before .before .before .before .before .before .before .before .before .before .before .before .before .before .before .before .args .w) (c .before .before .before .before .before .before .before .before .before .before .before .before .before .before .before .before .before .before .before .before .before .before .before .before .before .args .count) (c .before .before .before .before .before .before .before .before .before .before .before .before .before .before .before .before .before .before .before .before .before .before .before .before .before .args .bytes .now) (c .before .before .before .before .before .before .before .before .before .before .before .before .before .before .before .before .before .before .before .before .before .before .before .views .v) (c .before .before .before .before .before .before .before .before .before .before .before .before .before .before .before .before .before .before .before .before .before .before .before .views .size) (c .before .before .before .before .before .before .before .before .before .before .before .before .before .before .before .before .before .before .before .before .before .before .before .views .inv .4 .0) (c .before .before .before .before .before .before .before .before .before .before .before .before .before .before .before .before .before .before .before .before .before .before .before .views .a) (c .before .before .before .before .before .before .before .before .before .before .before .before .before .before .before .before .before .before .before .before .before .before .before .views .inv .4 .1 .2) d (omega (arith, c .before .before .before .before .before .before .before .before .before .before .before .before .before .before .before .before .before .before .before .before .before .before .views-test .taken)) (y ∙ ap (λ (m : ℕ). 11 + m + c .before .before .before .before .before .index .given .0 .1 .0 + c .before .segments .given .0 .1 .0) t) r),
         ),
       ),
     )

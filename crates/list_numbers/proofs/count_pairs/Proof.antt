@@ -21,15 +21,15 @@ abbrev μ-loop : tie.MeasureT-loop
 μ-loop s lines w at₀ pairs₀ l₀ at pairs l =
     lines - l
 
-full : (c : tie.Else1 Inv-loop μ-loop) → 0 < length (c .before .before .args .s .now)
+full : (c : tie.Else1 Inv-loop μ-loop) → 0 < length (c .before .before .args .block .now)
 full c = omega (arith, c .if1 .left)
 
-next : (c : tie.After-sure2 Inv-loop μ-loop) → Counted (c .before .before .before .before .before .before .before .args .lines) (c .before .before .before .before .before .before .before .args .s .now) (c .before .before .before .sure .result .value) (c .before .before .loop .l + 1) (c .before .before .loop .at + (c .before .before .before .sure .result .value + c .sure2 .result .value * c .before .before .before .sure .result .value)) (c .before .before .loop .pairs + c .sure2 .result .value)
-next c = counted-next (c .before .before .before .before .before .before .before .args .lines) (c .before .before .before .before .before .before .before .args .s .now) (c .before .before .loop .inv .1) (c .before .loop-test .taken) (c .sure2 .ensures .0 badIndex)
+next : (c : tie.After-sure2 Inv-loop μ-loop) → Counted (c .before .before .before .before .before .before .before .args .lines) (c .before .before .before .before .before .before .before .args .block .now) (c .before .before .before .sure .result .value) (c .before .before .loop .l + 1) (c .before .before .loop .at + (c .before .before .before .sure .result .value + c .sure2 .result .value * c .before .before .before .sure .result .value)) (c .before .before .loop .pairs + c .sure2 .result .value)
+next c = counted-next (c .before .before .before .before .before .before .before .args .lines) (c .before .before .before .before .before .before .before .args .block .now) (c .before .before .loop .inv .1) (c .before .loop-test .taken) (c .sure2 .ensures .0 badIndex)
 
 returns : tie.Need-returns Inv-loop μ-loop
 returns c =
-    record { is = λ o u h. sym (ap entries (no-index (c .before .before .args .lines) (c .before .before .args .s .now) (omega (arith, c .if1 .taken)) h)) }
+    record { is = λ o u h. sym (ap entries (no-index (c .before .before .args .lines) (c .before .before .args .block .now) (omega (arith, c .if1 .taken)) h)) }
 
 start-requires : tie.Need-start-requires Inv-loop μ-loop
 start-requires c κs = search needs
@@ -39,38 +39,38 @@ sure-requires c κs = search needs
 
 loop-holds : tie.Need-loop-holds Inv-loop μ-loop
 loop-holds c =
-    (omega arith, counted-none (c .before .before .before .before .args .lines) (c .before .before .before .before .args .s .now) (at-place (c .before .start .ensures) (c .sure .ensures .0 badIndex)))
+    (omega arith, counted-none (c .before .before .before .before .args .lines) (c .before .before .before .before .args .block .now) (at-place (c .before .start .ensures) (c .sure .ensures .0 badIndex)))
 
 sure-requires-2 : tie.Need-sure-requires-2 Inv-loop μ-loop
 sure-requires-2 c κs =
     let pre = c .before .before .before .before .before .before .pre in (
       pre .short,
-      omega (arith, counted-within (c .before .before .before .before .before .before .args .lines) (c .before .before .before .before .before .before .args .s .now) (full (c .before .before .before .before)) (pre .reads) (c .before .loop .inv .1) .2),
-      count-there (c .before .before .before .before .before .before .args .lines) (c .before .before .before .before .before .before .args .s .now) (full (c .before .before .before .before)) (pre .reads) (c .before .loop .inv .1) (c .loop-test .taken),
+      omega (arith, counted-within (c .before .before .before .before .before .before .args .lines) (c .before .before .before .before .before .before .args .block .now) (full (c .before .before .before .before)) (pre .reads) (c .before .loop .inv .1) .2),
+      count-there (c .before .before .before .before .before .before .args .lines) (c .before .before .before .before .before .before .args .block .now) (full (c .before .before .before .before)) (pre .reads) (c .before .loop .inv .1) (c .loop-test .taken),
     )
 
 add-pairs : tie.Need-add-pairs Inv-loop μ-loop
 add-pairs c =
     let pre = c .before .before .before .before .before .before .before .before .pre in
-    let (small, within, _) = counted-within (c .before .before .before .before .before .before .before .before .args .lines) (c .before .before .before .before .before .before .before .before .args .s .now) (full (c .before .before .before .before .before .before)) (pre .reads) (next (c .before)) in
+    let (small, within, _) = counted-within (c .before .before .before .before .before .before .before .before .args .lines) (c .before .before .before .before .before .before .before .before .args .block .now) (full (c .before .before .before .before .before .before)) (pre .reads) (next (c .before)) in
     omega (arith, pre .short, small, within)
 
 mul-at : tie.Need-mul-at Inv-loop μ-loop
 mul-at c =
     let pre = c .before .before .before .before .before .before .before .before .before .pre in
-    let (small, within, _) = counted-within (c .before .before .before .before .before .before .before .before .before .args .lines) (c .before .before .before .before .before .before .before .before .before .args .s .now) (full (c .before .before .before .before .before .before .before)) (pre .reads) (next (c .before .before)) in
+    let (small, within, _) = counted-within (c .before .before .before .before .before .before .before .before .before .args .lines) (c .before .before .before .before .before .before .before .before .before .args .block .now) (full (c .before .before .before .before .before .before .before)) (pre .reads) (next (c .before .before)) in
     omega (arith, pre .short, small, within)
 
 add-at : tie.Need-add-at Inv-loop μ-loop
 add-at c =
     let pre = c .before .before .before .before .before .before .before .before .before .pre in
-    let (small, within, _) = counted-within (c .before .before .before .before .before .before .before .before .before .args .lines) (c .before .before .before .before .before .before .before .before .before .args .s .now) (full (c .before .before .before .before .before .before .before)) (pre .reads) (next (c .before .before)) in
+    let (small, within, _) = counted-within (c .before .before .before .before .before .before .before .before .before .args .lines) (c .before .before .before .before .before .before .before .before .before .args .block .now) (full (c .before .before .before .before .before .before .before)) (pre .reads) (next (c .before .before)) in
     omega (arith, pre .short, small, within)
 
 add-at-2 : tie.Need-add-at-2 Inv-loop μ-loop
 add-at-2 c =
     let pre = c .before .before .before .before .before .before .before .before .before .pre in
-    let (small, within, _) = counted-within (c .before .before .before .before .before .before .before .before .before .args .lines) (c .before .before .before .before .before .before .before .before .before .args .s .now) (full (c .before .before .before .before .before .before .before)) (pre .reads) (next (c .before .before)) in
+    let (small, within, _) = counted-within (c .before .before .before .before .before .before .before .before .before .args .lines) (c .before .before .before .before .before .before .before .before .before .args .block .now) (full (c .before .before .before .before .before .before .before)) (pre .reads) (next (c .before .before)) in
     omega (arith, pre .short, small, within)
 
 add-l : tie.Need-add-l Inv-loop μ-loop
@@ -85,7 +85,7 @@ loop-again c =
 
 returns-2 : tie.Need-returns-2 Inv-loop μ-loop
 returns-2 c =
-    record { is = λ o u h. counted-all (c .before .before .before .before .before .before .args .lines) (c .before .before .before .before .before .before .args .s .now) (full (c .before .before .before .before)) h (c .before .loop .inv .1) (omega (arith, c .loop-test .left)) }
+    record { is = λ o u h. counted-all (c .before .before .before .before .before .before .args .lines) (c .before .before .before .before .before .before .args .block .now) (full (c .before .before .before .before)) h (c .before .loop .inv .1) (omega (arith, c .loop-test .left)) }
 
 pub count-pairs-spec : {M : Type 1} → statement M
 count-pairs-spec =

@@ -10,8 +10,8 @@ use Rattle.list_numbers.proofs.Laws.Listing.{head-there, lines-at, inde
 use Rattle.list_numbers.proofs.listed_at.Statement.{statement}
 use Rattle.list_numbers.proofs.listed_at.Tie as tie
 
-bytes : (c : tie.After-shared-slice-known) → All Byte (c .before .args .s .now)
-bytes c = all-bytes (c .before .args .s .now) (λ i. c .shared-slice-known .given i .fits)
+bytes : (c : tie.After-shared-slice-known) → All Byte (c .before .args .bytes .now)
+bytes c = all-bytes (c .before .args .bytes .now) (λ i. c .shared-slice-known .given i .fits)
 
 mul-pass-lines : tie.Need-mul-pass-lines
 mul-pass-lines c =

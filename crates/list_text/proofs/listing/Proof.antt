@@ -10,8 +10,8 @@ use borrow.Author.Needs.{needs}
 use Rattle.list_text.proofs.listing.Statement.{statement}
 use Rattle.list_text.proofs.listing.Tie as tie
 
-accepted : (c : tie.After-header) → Judges (c .before .before .before .before .args .s .now) (Accepted (c .header .given .0 .0) (c .header .given .0 .1 .0) (c .header .given .0 .1 .1 .0))
-accepted c = subst (λ (r : Verdict). Judges (c .before .before .before .before .args .s .now) r) (c .header .given .1) (c .before .before .judge .ensures)
+accepted : (c : tie.After-header) → Judges (c .before .before .before .before .args .bytes .now) (Accepted (c .header .given .0 .0) (c .header .given .0 .1 .0) (c .header .given .0 .1 .1 .0))
+accepted c = subst (λ (r : Verdict). Judges (c .before .before .before .before .args .bytes .now) r) (c .header .given .1) (c .before .before .judge .ensures)
 
 judge-requires : tie.Need-judge-requires
 judge-requires c κs = search needs

@@ -28,22 +28,22 @@ below : (c : tie.In-loop Inv-loop μ-loop) → c .before .loop .i < length (c .b
 below c = omega (arith, c .loop-test .taken, c .before .loop .inv .0 .views)
 
 loop-holds : tie.Need-loop-holds Inv-loop μ-loop
-loop-holds c = let there = c .before .pre in (there, sought-first (c .before .args .s .now) (there .reads))
+loop-holds c = let there = c .before .pre in (there, sought-first (c .before .args .bytes .now) (there .reads))
 
 listed-at-requires : tie.Need-listed-at-requires Inv-loop μ-loop
 listed-at-requires c κs =
     let (there, sought) = c .before .loop .inv in
-    let r = record-apart (c .before .before .before .args .s .now) (there .reads) in
+    let r = record-apart (c .before .before .before .args .bytes .now) (there .reads) in
     record {
       narrow = rw (there .widths) (narrow (r .fits));
       short = r .short;
       value = viewAt (there .value) (c .before .loop .i);
-      at = subst (λ (w : Widths). ViewAt w (c .before .before .before .args .s .now) (c .before .loop .a) (viewAt (there .value) (c .before .loop .i))) (sym (there .widths)) (view-in sought (below c) .at);
+      at = subst (λ (w : Widths). ViewAt w (c .before .before .before .args .bytes .now) (c .before .loop .a) (viewAt (there .value) (c .before .loop .i))) (sym (there .widths)) (view-in sought (below c) .at);
     }
 
 -- the numbers are the view's
-listed : (c : tie.After-listed-at Inv-loop μ-loop) → ListedAt (c .before .before .loop .inv .0 .value .head .scale .widths) (c .before .before .before .before .args .s .now) (c .before .before .loop .a) (c .listed-at .result)
-listed c = subst (λ (w : Widths). ListedAt w (c .before .before .before .before .args .s .now) (c .before .before .loop .a) (c .listed-at .result)) (c .before .before .loop .inv .0 .widths) (c .listed-at .ensures)
+listed : (c : tie.After-listed-at Inv-loop μ-loop) → ListedAt (c .before .before .loop .inv .0 .value .head .scale .widths) (c .before .before .before .before .args .bytes .now) (c .before .before .loop .a) (c .listed-at .result)
+listed c = subst (λ (w : Widths). ListedAt w (c .before .before .before .before .args .bytes .now) (c .before .before .loop .a) (c .listed-at .result)) (c .before .before .loop .inv .0 .widths) (c .listed-at .ensures)
 
 view-line-requires : tie.Need-view-line-requires Inv-loop μ-loop
 view-line-requires c κs =

@@ -6,7 +6,7 @@ use mathlib.Core.List.{List}
 use lib.ListN.{length, take, drop, length-take}
 use lib.Dec.{leb}
 use lib.Seq.{drop-drop, length-take-le, take-add}
-use Rattle.bits.specs.Bits.{Bits, numberOf, bitsOfNumber}
+use Rattle.bits.specs.Bits.{Bits, numberOfBits, bitsOfNumber}
 use Rattle.bits.specs.BitsLaws.{number-lt, bits-number}
 use Rattle.bits.specs.Bytes.{bitsOf}
 use Rattle.bits.specs.Codec.{fieldDec}
@@ -25,8 +25,8 @@ module _ (e n : ℕ) {s : List ℕ} {p v q : ℕ} (h : Reads (fieldDec e n) s p 
   long : length those ≡ n
   long = length-take-le n (drop p (bitsOf s)) (omega (arith, length-rest s p))
 
-  value-is : numberOf those ≡ v
-  value-is = pick-got (leb n (length (drop p (bitsOf s)))) (numberOf those) (drop n (drop p (bitsOf s))) e _ (h .is) .1
+  value-is : numberOfBits those ≡ v
+  value-is = pick-got (leb n (length (drop p (bitsOf s)))) (numberOfBits those) (drop n (drop p (bitsOf s))) e _ (h .is) .1
 
   pub value-small : v < 2 ^ n
   value-small = rw (long, value-is) at (number-lt those)

@@ -21,7 +21,7 @@ use Rattle.format.specs.View.{View}
 use Rattle.format.specs.Places.{noLine}
 use Rattle.order_removal.proofs.Laws.Kept.{kept-survivors}
 use Rattle.order_removal.proofs.Laws.Going.{Going, Turn, turn, gone-on, stays-on, all-gone-over}
-use Rattle.orders.specs.Listed.{listed}
+use Rattle.orders.specs.Listed.{removalLines}
 use Rattle.put_bits.proofs.Bytes.{filled-length}
 use Rattle.find_parts.proofs.Laws.Blocks.{skeleton-is}
 use Rattle.order_lines.specs.Lines.{keptFrom, keptBlock, LinesAt, LinesSized}
@@ -77,9 +77,9 @@ module _ {w : Widths} {s rs : List ℕ} {count : ℕ} {u : Bits} {Rest : List Li
 -- ---- sizing
 
 -- the block's bytes
-pub block-bytes : (w : Widths) (removal : List ℕ) (ls : List Line) → length (keptBlock w removal ls) ≡ (length (encAll (line w) (keptFrom (listed removal) 0 ls)) + 7) / 8
+pub block-bytes : (w : Widths) (removal : List ℕ) (ls : List Line) → length (keptBlock w removal ls) ≡ (length (encAll (line w) (keptFrom (removalLines removal) 0 ls)) + 7) / 8
 block-bytes w removal ls =
-    let ks : List Line = keptFrom (listed removal) 0 ls in
+    let ks : List Line = keptFrom (removalLines removal) 0 ls in
     ap (λ (b : Bits). length (inBytes b)) (skeleton-is w ks) ∙ filled-length (encAll (line w) ks)
 
 -- of all that stay, those before have so many bits, and ys are still to come
@@ -90,20 +90,20 @@ pub record Sized (w : Widths) (all : List Line) (bits : ℕ) (ys : List Line) : 
 abbrev pub SizingAll : (w : Widths) (s removal : List ℕ) (count l p bits : ℕ) → Type 0
 SizingAll w s removal count l p bits =
     (ls : List Line) (u : Bits) → LinesAt w s 0 ls u → length ls ≡ count
-    → Going same (listed removal) count (Stand w s u) (Sized w (keptFrom (listed removal) 0 ls) bits) l p
+    → Going same (removalLines removal) count (Stand w s u) (Sized w (keptFrom (removalLines removal) 0 ls) bits) l p
 
 module _ (w : Widths) (s removal : List ℕ) (count : ℕ) where
   pub sizing-first : SizingAll w s removal count 0 0 0
   sizing-first ls u a c = record { more = ls; at = a; left = omega arith; rest = record { sums = omega arith } }
 
   module _ {l p bits q : ℕ} (G : SizingAll w s removal count l p bits) (k : l < count) (E : LineEnd w s p q) where
-    pub sizing-gone : elem l (listed removal) ≡ true → SizingAll w s removal count (l + 1) q bits
+    pub sizing-gone : elem l (removalLines removal) ≡ true → SizingAll w s removal count (l + 1) q bits
     sizing-gone e ls u a c = let t = turn (G ls u a c) k in gone-on t e (next-at t E)
 
-    pub sizing-stays : elem l (listed removal) ≡ false → SizingAll w s removal count (l + 1) q (bits + (q - p))
+    pub sizing-stays : elem l (removalLines removal) ≡ false → SizingAll w s removal count (l + 1) q (bits + (q - p))
     sizing-stays e ls u a c =
         let t = turn (G ls u a c) k in
-        let n = length-append (line w .enc (t .value)) (encAll (line w) (keptFrom (listed removal) (l + 1) (t .others))) in
+        let n = length-append (line w .enc (t .value)) (encAll (line w) (keptFrom (removalLines removal) (l + 1) (t .others))) in
         stays-on t (next-at t E) (record { sums = omega (arith, next-end t E, t .stays e .sums, n) })
 
   pub sized : {l p bits : ℕ} → SizingAll w s removal count l p bits → count ≤ l → LinesSized w s count removal ((bits + 7) / 8)

@@ -22,7 +22,7 @@ within c = (omega (arith, c .smaller .ensures, c .before .loop-test .taken), ome
 
 loop-holds : tie.Need-loop-holds Inv-loop μ-loop
 loop-holds c =
-    (c .before .before .pre .order, refl, copying-none (c .before .before .args .s .now) (c .before .before .args .p) (c .before .before .args .out .now) (c .before .before .args .at))
+    (c .before .before .pre .order, refl, copying-none (c .before .before .args .block .now) (c .before .before .args .p) (c .before .before .args .out .now) (c .before .before .args .at))
 
 sub-smaller : tie.Need-sub-smaller Inv-loop μ-loop
 sub-smaller c = search needs

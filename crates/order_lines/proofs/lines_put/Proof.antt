@@ -4,7 +4,7 @@ use native.Mathlib.Omega.{arith}
 use mathlib.Core.Path.{_≡_, refl, sym, _∙_}
 use Prim.Native.Nat.{_+_, _-_, _*_, _≤_}
 use lib.ListN.{length}
-use Rattle.orders.specs.Listed.{listed}
+use Rattle.orders.specs.Listed.{removalLines}
 use Rattle.format.specs.Line.{line}
 use Rattle.order_lines.specs.Lines.{keptFrom}
 use Rattle.bits.specs.CodecLaws.{encAll}
@@ -25,10 +25,10 @@ abbrev μ-loop : tie.MeasureT-loop
 μ-loop out₀ s w count removal q₀ p₀ l₀ out q p l =
     count - l
 
-next : (c : tie.In-loop Inv-loop μ-loop) → Turn same (listed (c .before .before .before .before .before .args .removal .now)) (c .before .before .before .before .before .args .count) (Stand (c .before .before .before .before .before .args .w) (c .before .before .before .before .before .args .s .now) (c .before .before .before .before .before .pre .there .behind)) (ToPut (c .before .before .before .before .before .args .w) (keptFrom (listed (c .before .before .before .before .before .args .removal .now)) 0 (c .before .before .before .before .before .pre .there .value)) (c .before .before .before .before .before .args .out .now) (c .before .loop .out) (c .before .loop .q)) (c .before .loop .l) (c .before .loop .p)
+next : (c : tie.In-loop Inv-loop μ-loop) → Turn same (removalLines (c .before .before .before .before .before .args .removal .now)) (c .before .before .before .before .before .args .count) (Stand (c .before .before .before .before .before .args .w) (c .before .before .before .before .before .args .block .now) (c .before .before .before .before .before .pre .there .behind)) (ToPut (c .before .before .before .before .before .args .w) (keptFrom (removalLines (c .before .before .before .before .before .args .removal .now)) 0 (c .before .before .before .before .before .pre .there .value)) (c .before .before .before .before .before .args .out .now) (c .before .loop .out) (c .before .loop .q)) (c .before .loop .l) (c .before .loop .p)
 next c = let p = c .before .before .before .before .before .pre .there in turn (c .before .loop .inv .3 (p .value) (p .behind) (p .at) (p .counts)) (c .loop-test .taken)
 
-ends : (c : tie.After-line-end Inv-loop μ-loop) → (c .line-end .result ≡ c .before .before .loop .p + length (line (c .before .before .before .before .before .before .args .w) .enc (next (c .before) .value))) × (c .line-end .result ≤ 8 * length (c .before .before .before .before .before .before .args .s .now))
+ends : (c : tie.After-line-end Inv-loop μ-loop) → (c .line-end .result ≡ c .before .before .loop .p + length (line (c .before .before .before .before .before .before .args .w) .enc (next (c .before) .value))) × (c .line-end .result ≤ 8 * length (c .before .before .before .before .before .before .args .block .now))
 ends c =
     let x = next (c .before) in
     let z = next-end x (c .line-end .ensures) in
@@ -36,7 +36,7 @@ ends c =
 
 loop-holds : tie.Need-loop-holds Inv-loop μ-loop
 loop-holds c =
-    (refl, omega arith, omega arith, put-first (c .before .before .before .args .w) (c .before .before .before .args .s .now) (c .before .before .before .args .removal .now) (c .before .before .before .args .count) (c .before .before .before .args .out .now))
+    (refl, omega arith, omega arith, put-first (c .before .before .before .args .w) (c .before .before .before .args .block .now) (c .before .before .before .args .removal .now) (c .before .before .before .args .count) (c .before .before .before .args .out .now))
 
 line-end-requires : tie.Need-line-end-requires Inv-loop μ-loop
 line-end-requires c κs =
@@ -58,14 +58,14 @@ loop-less c =
 
 loop-again : tie.Need-loop-again Inv-loop μ-loop
 loop-again c =
-    (c .before .before .before .before .loop .inv .0, omega (arith, c .before .before .before .before .loop .inv .1, ends (c .before .before) .0), ends (c .before .before) .1, put-gone (c .before .before .before .before .before .before .before .before .args .w) (c .before .before .before .before .before .before .before .before .args .s .now) (c .before .before .before .before .before .before .before .before .args .removal .now) (c .before .before .before .before .before .before .before .before .args .count) (c .before .before .before .before .loop .inv .3) (c .before .before .before .loop-test .taken) (c .before .before .line-end .ensures) (sym (c .before .rank-of .ensures .gone) ∙ c .if1 .taken))
+    (c .before .before .before .before .loop .inv .0, omega (arith, c .before .before .before .before .loop .inv .1, ends (c .before .before) .0), ends (c .before .before) .1, put-gone (c .before .before .before .before .before .before .before .before .args .w) (c .before .before .before .before .before .before .before .before .args .block .now) (c .before .before .before .before .before .before .before .before .args .removal .now) (c .before .before .before .before .before .before .before .before .args .count) (c .before .before .before .before .loop .inv .3) (c .before .before .before .loop-test .taken) (c .before .before .line-end .ensures) (sym (c .before .rank-of .ensures .gone) ∙ c .if1 .taken))
 
 copy-bits-requires : tie.Need-copy-bits-requires Inv-loop μ-loop
 copy-bits-requires c κs =
     let p = c .before .before .before .before .before .before .before .before .before .pre in
     let x = next (c .before .before .before .before) in
     let e = ends (c .before .before .before) in
-    let f = putting-within (line (c .before .before .before .before .before .before .before .before .before .args .w) .enc (x .value)) (encAll (line (c .before .before .before .before .before .before .before .before .before .args .w)) (keptFrom (listed (c .before .before .before .before .before .before .before .before .before .args .removal .now)) (c .before .before .before .before .before .loop .l + 1) (x .others))) (x .stays (sym (c .before .before .rank-of .ensures .gone) ∙ c .before .if1 .left)) in
+    let f = putting-within (line (c .before .before .before .before .before .before .before .before .before .args .w) .enc (x .value)) (encAll (line (c .before .before .before .before .before .before .before .before .before .args .w)) (keptFrom (removalLines (c .before .before .before .before .before .before .before .before .before .args .removal .now)) (c .before .before .before .before .before .loop .l + 1) (x .others))) (x .stays (sym (c .before .before .rank-of .ensures .gone) ∙ c .before .if1 .left)) in
     let r = block-room (c .before .before .before .before .before .before .before .before .before .args .w) (c .before .before .before .before .before .before .before .before .before .args .removal .now) (p .there .value) (p .room) in
     record {
       short = p .there .short;
@@ -80,7 +80,7 @@ loop-less-2 c =
 
 loop-again-2 : tie.Need-loop-again-2 Inv-loop μ-loop
 loop-again-2 c =
-    (search needs, omega (arith, copied-few (c .before .before .before .before .before .before .before .before .before .before .before .before .args .s .now) (c .before .before .before .before .before .before .before .before .loop .p) (c .before .before .before .before .before .before .line-end .result) (c .before .before .copy-bits .ensures), c .before .before .before .before .before .before .before .before .loop .inv .1, ends (c .before .before .before .before .before .before) .0), ends (c .before .before .before .before .before .before) .1, put-stays (c .before .before .before .before .before .before .before .before .before .before .before .before .args .w) (c .before .before .before .before .before .before .before .before .before .before .before .before .args .s .now) (c .before .before .before .before .before .before .before .before .before .before .before .before .args .removal .now) (c .before .before .before .before .before .before .before .before .before .before .before .before .args .count) (c .before .before .before .before .before .before .before .before .loop .inv .3) (c .before .before .before .before .before .before .before .loop-test .taken) (c .before .before .before .before .before .before .line-end .ensures) (sym (c .before .before .before .before .before .rank-of .ensures .gone) ∙ c .before .before .before .before .if1 .left) (c .before .before .copy-bits .ensures))
+    (search needs, omega (arith, copied-few (c .before .before .before .before .before .before .before .before .before .before .before .before .args .block .now) (c .before .before .before .before .before .before .before .before .loop .p) (c .before .before .before .before .before .before .line-end .result) (c .before .before .copy-bits .ensures), c .before .before .before .before .before .before .before .before .loop .inv .1, ends (c .before .before .before .before .before .before) .0), ends (c .before .before .before .before .before .before) .1, put-stays (c .before .before .before .before .before .before .before .before .before .before .before .before .args .w) (c .before .before .before .before .before .before .before .before .before .before .before .before .args .block .now) (c .before .before .before .before .before .before .before .before .before .before .before .before .args .removal .now) (c .before .before .before .before .before .before .before .before .before .before .before .before .args .count) (c .before .before .before .before .before .before .before .before .loop .inv .3) (c .before .before .before .before .before .before .before .loop-test .taken) (c .before .before .before .before .before .before .line-end .ensures) (sym (c .before .before .before .before .before .rank-of .ensures .gone) ∙ c .before .before .before .before .if1 .left) (c .before .before .copy-bits .ensures))
 
 add-result : tie.Need-add-result Inv-loop μ-loop
 add-result c =
@@ -91,7 +91,7 @@ same-length c = search needs
 
 returns : tie.Need-returns Inv-loop μ-loop
 returns c =
-    put-done (c .before .before .before .before .before .args .w) (c .before .before .before .before .before .args .s .now) (c .before .before .before .before .before .args .removal .now) (c .before .before .before .before .before .args .count) (c .before .loop .inv .3) (omega (arith, c .loop-test .left)) refl
+    put-done (c .before .before .before .before .before .args .w) (c .before .before .before .before .before .args .block .now) (c .before .before .before .before .before .args .removal .now) (c .before .before .before .before .before .args .count) (c .before .loop .inv .3) (omega (arith, c .loop-test .left)) refl
 
 pub lines-put-spec : {M : Type 1} → statement M
 lines-put-spec =

@@ -4,7 +4,7 @@ use native.Mathlib.Omega.{arith}
 use mathlib.Core.Path.{sym, _∙_}
 use Prim.Native.Nat.{_+_, _-_, _*_, _≤_}
 use lib.ListN.{length}
-use Rattle.orders.specs.Listed.{listed}
+use Rattle.orders.specs.Listed.{removalLines}
 use Rattle.format.specs.Line.{line}
 use Rattle.order_lines.specs.Lines.{keptFrom}
 use Rattle.order_removal.proofs.Laws.Going.{Turn, turn}
@@ -20,10 +20,10 @@ abbrev μ-loop : tie.MeasureT-loop
 μ-loop s w count removal p₀ l₀ bits₀ p l bits =
     count - l
 
-next : (c : tie.In-loop Inv-loop μ-loop) → Turn same (listed (c .before .before .before .before .args .removal .now)) (c .before .before .before .before .args .count) (Stand (c .before .before .before .before .args .w) (c .before .before .before .before .args .s .now) (c .before .before .before .before .pre .behind)) (Sized (c .before .before .before .before .args .w) (keptFrom (listed (c .before .before .before .before .args .removal .now)) 0 (c .before .before .before .before .pre .value)) (c .before .loop .bits)) (c .before .loop .l) (c .before .loop .p)
+next : (c : tie.In-loop Inv-loop μ-loop) → Turn same (removalLines (c .before .before .before .before .args .removal .now)) (c .before .before .before .before .args .count) (Stand (c .before .before .before .before .args .w) (c .before .before .before .before .args .block .now) (c .before .before .before .before .pre .behind)) (Sized (c .before .before .before .before .args .w) (keptFrom (removalLines (c .before .before .before .before .args .removal .now)) 0 (c .before .before .before .before .pre .value)) (c .before .loop .bits)) (c .before .loop .l) (c .before .loop .p)
 next c = let p = c .before .before .before .before .pre in turn (c .before .loop .inv .2 (p .value) (p .behind) (p .at) (p .counts)) (c .loop-test .taken)
 
-ends : (c : tie.After-line-end Inv-loop μ-loop) → (c .before .before .loop .p ≤ c .line-end .result) × (c .line-end .result ≤ 8 * length (c .before .before .before .before .before .args .s .now))
+ends : (c : tie.After-line-end Inv-loop μ-loop) → (c .before .before .loop .p ≤ c .line-end .result) × (c .line-end .result ≤ 8 * length (c .before .before .before .before .before .args .block .now))
 ends c =
     let x = next (c .before) in
     let z = next-end x (c .line-end .ensures) in
@@ -31,7 +31,7 @@ ends c =
 
 loop-holds : tie.Need-loop-holds Inv-loop μ-loop
 loop-holds c =
-    (omega arith, omega arith, sizing-first (c .before .before .args .w) (c .before .before .args .s .now) (c .before .before .args .removal .now) (c .before .before .args .count))
+    (omega arith, omega arith, sizing-first (c .before .before .args .w) (c .before .before .args .block .now) (c .before .before .args .removal .now) (c .before .before .args .count))
 
 line-end-requires : tie.Need-line-end-requires Inv-loop μ-loop
 line-end-requires c κs =
@@ -53,7 +53,7 @@ loop-less c =
 
 loop-again : tie.Need-loop-again Inv-loop μ-loop
 loop-again c =
-    (omega (arith, c .before .before .before .before .loop .inv .0, ends (c .before .before) .0), ends (c .before .before) .1, sizing-gone (c .before .before .before .before .before .before .before .args .w) (c .before .before .before .before .before .before .before .args .s .now) (c .before .before .before .before .before .before .before .args .removal .now) (c .before .before .before .before .before .before .before .args .count) (c .before .before .before .before .loop .inv .2) (c .before .before .before .loop-test .taken) (c .before .before .line-end .ensures) (sym (c .before .rank-of .ensures .gone) ∙ c .if1 .taken))
+    (omega (arith, c .before .before .before .before .loop .inv .0, ends (c .before .before) .0), ends (c .before .before) .1, sizing-gone (c .before .before .before .before .before .before .before .args .w) (c .before .before .before .before .before .before .before .args .block .now) (c .before .before .before .before .before .before .before .args .removal .now) (c .before .before .before .before .before .before .before .args .count) (c .before .before .before .before .loop .inv .2) (c .before .before .before .loop-test .taken) (c .before .before .line-end .ensures) (sym (c .before .rank-of .ensures .gone) ∙ c .if1 .taken))
 
 sub-bits : tie.Need-sub-bits Inv-loop μ-loop
 sub-bits c =
@@ -69,7 +69,7 @@ loop-less-2 c =
 
 loop-again-2 : tie.Need-loop-again-2 Inv-loop μ-loop
 loop-again-2 c =
-    (omega (arith, c .before .before .before .before .loop .inv .0, ends (c .before .before) .0), ends (c .before .before) .1, sizing-stays (c .before .before .before .before .before .before .before .args .w) (c .before .before .before .before .before .before .before .args .s .now) (c .before .before .before .before .before .before .before .args .removal .now) (c .before .before .before .before .before .before .before .args .count) (c .before .before .before .before .loop .inv .2) (c .before .before .before .loop-test .taken) (c .before .before .line-end .ensures) (sym (c .before .rank-of .ensures .gone) ∙ c .if1 .left))
+    (omega (arith, c .before .before .before .before .loop .inv .0, ends (c .before .before) .0), ends (c .before .before) .1, sizing-stays (c .before .before .before .before .before .before .before .args .w) (c .before .before .before .before .before .before .before .args .block .now) (c .before .before .before .before .before .before .before .args .removal .now) (c .before .before .before .before .before .before .before .args .count) (c .before .before .before .before .loop .inv .2) (c .before .before .before .loop-test .taken) (c .before .before .line-end .ensures) (sym (c .before .rank-of .ensures .gone) ∙ c .if1 .left))
 
 add-result : tie.Need-add-result Inv-loop μ-loop
 add-result c =
@@ -77,7 +77,7 @@ add-result c =
 
 returns : tie.Need-returns Inv-loop μ-loop
 returns c =
-    sized (c .before .before .before .before .args .w) (c .before .before .before .before .args .s .now) (c .before .before .before .before .args .removal .now) (c .before .before .before .before .args .count) (c .before .loop .inv .2) (omega (arith, c .loop-test .left))
+    sized (c .before .before .before .before .args .w) (c .before .before .before .before .args .block .now) (c .before .before .before .before .args .removal .now) (c .before .before .before .before .args .count) (c .before .loop .inv .2) (omega (arith, c .loop-test .left))
 
 pub lines-size-spec : {M : Type 1} → statement M
 lines-size-spec =

@@ -20,7 +20,7 @@ use Rattle.format.specs.Index.{FitsList}
 use Rattle.find_parts.proofs.Laws.Line.{codes-long}
 use Rattle.find_parts.proofs.Laws.Lists.{list-is}
 use Rattle.orders.specs.Least.{maxOf}
-use Rattle.orders.specs.Listed.{listed}
+use Rattle.orders.specs.Listed.{removalLines}
 use Rattle.order_removal.specs.Rank.{below}
 use Rattle.order_lists.specs.Walk.{putIn, gone, stayed, WalkAt, StepTo, Steps}
 use Rattle.order_lists.specs.List.{become, Numbered, ListPut}
@@ -30,17 +30,17 @@ use Rattle.order_lists.specs.declared.list.OldList.{OldList}
 
 -- what the lines ms become that are still to come of the list x, at the walk k
 abbrev pub toCome : OldList → ListWalk → List ℕ → List ℕ → List ℕ
-toCome x k removal ms = stayed (listed removal) (x .drop) (putIn (k .waiting) (x .low) ms)
+toCome x k removal ms = stayed (removalLines removal) (x .drop) (putIn (k .waiting) (x .low) ms)
 
 -- ---- one step: the line goes or stays
 
 module _ {w : ℕ} {s : List ℕ} (x : OldList) {k : ListWalk} (removal : List ℕ) {ns : List ℕ} {u : Bits} {r : Step} (t : StepTo w s k (x .low) ns u r) where
-  one-gone : T (gone (listed removal) (x .drop) (r .line)) → toCome x k removal ns ≡ toCome x (r .next) removal (t .more)
-  one-gone g = ap (stayed (listed removal) (x .drop)) (t .is) ∙ pick-yes (gone (listed removal) (x .drop) (r .line)) _ _ g
+  one-gone : T (gone (removalLines removal) (x .drop) (r .line)) → toCome x k removal ns ≡ toCome x (r .next) removal (t .more)
+  one-gone g = ap (stayed (removalLines removal) (x .drop)) (t .is) ∙ pick-yes (gone (removalLines removal) (x .drop) (r .line)) _ _ g
 
-  one-stays : T (not (gone (listed removal) (x .drop) (r .line)))
-      → toCome x k removal ns ≡ (r .line - below (listed removal) (r .line)) ∷ toCome x (r .next) removal (t .more)
-  one-stays g = ap (stayed (listed removal) (x .drop)) (t .is) ∙ pick-no (gone (listed removal) (x .drop) (r .line)) _ _ g
+  one-stays : T (not (gone (removalLines removal) (x .drop) (r .line)))
+      → toCome x k removal ns ≡ (r .line - below (removalLines removal) (r .line)) ∷ toCome x (r .next) removal (t .more)
+  one-stays g = ap (stayed (removalLines removal) (x .drop)) (t .is) ∙ pick-no (gone (removalLines removal) (x .drop) (r .line)) _ _ g
 
 -- ---- the end
 
@@ -70,19 +70,19 @@ module _ {w : ℕ} {s : List ℕ} {x : OldList} {removal : List ℕ} where
   measuring-first ns u h f = record { ms = ns; at = h; least = 0; falls = f; counts = omega arith; largest = omega arith }
 
   module _ {k : ListWalk} {before count most : ℕ} {r : Step} (M : MeasuringAll w s x removal k before count most) (S : Steps w s k (x .low) r) where
-    pub measuring-gone : T (gone (listed removal) (x .drop) (r .line)) → MeasuringAll w s x removal (r .next) before count most
+    pub measuring-gone : T (gone (removalLines removal) (x .drop) (r .line)) → MeasuringAll w s x removal (r .next) before count most
     measuring-gone g ns u h f =
         let m = M ns u h f in
         let t = S .is (m .ms) u (m .at) in
         let e = one-gone x removal t g in
         record { ms = t .more; at = t .at; least = m .least; falls = rw e at (m .falls); counts = rw e at (m .counts); largest = rw e at (m .largest) }
 
-    module _ (n : ℕ) (q : n ≡ r .line - below (listed removal) (r .line)) (g : T (not (gone (listed removal) (x .drop) (r .line)))) where
+    module _ (n : ℕ) (q : n ≡ r .line - below (removalLines removal) (r .line)) (g : T (not (gone (removalLines removal) (x .drop) (r .line)))) where
       pub next-falls : {new : List ℕ} {u : Bits} → (m : Measuring w s x removal new k u before count most) → n ≤ before
       next-falls {u = u} m =
           let t = S .is (m .ms) u (m .at) in
           let e = one-stays x removal t g in
-          let f : Falls (m .least) before ((r .line - below (listed removal) (r .line)) ∷ toCome x (r .next) removal (t .more)) = rw e at (m .falls) in
+          let f : Falls (m .least) before ((r .line - below (removalLines removal) (r .line)) ∷ toCome x (r .next) removal (t .more)) = rw e at (m .falls) in
           omega (arith, f .0)
 
       pub measuring-stays : {bigger : ℕ} → bigger ≡ max most (before - n) → MeasuringAll w s x removal (r .next) n (count + 1) bigger
@@ -134,7 +134,7 @@ module _ {w : ℕ} {s : List ℕ} {x : OldList} {removal : List ℕ} {width : �
   putting-first ns u h f = record { ms = ns; at = h; least = 0; falls = f .falls; small = f .diffs; counts = omega arith; bits = putting-none _ old q }
 
   module _ {k : ListWalk} {before count : ℕ} {now : List ℕ} {p : ℕ} {r : Step} (S : Steps w s k (x .low) r) where
-    pub putting-gone : PuttingAll w s x removal width k before count old q now p → T (gone (listed removal) (x .drop) (r .line))
+    pub putting-gone : PuttingAll w s x removal width k before count old q now p → T (gone (removalLines removal) (x .drop) (r .line))
         → PuttingAll w s x removal width (r .next) before count old q now p
     putting-gone M g ns u h f =
         let m = M ns u h f in
@@ -143,7 +143,7 @@ module _ {w : ℕ} {s : List ℕ} {x : OldList} {removal : List ℕ} {width : �
         record { ms = t .more; at = t .at; least = m .least; falls = rw e at (m .falls); small = rw e at (m .small); counts = rw e at (m .counts); bits = rw e at (m .bits) }
 
     -- the line that stays comes next
-    module _ (n : ℕ) (z : n ≡ r .line - below (listed removal) (r .line)) (g : T (not (gone (listed removal) (x .drop) (r .line)))) {new : List ℕ} {u : Bits}
+    module _ (n : ℕ) (z : n ≡ r .line - below (removalLines removal) (r .line)) (g : T (not (gone (removalLines removal) (x .drop) (r .line)))) {new : List ℕ} {u : Bits}
         (m : PuttingList w s x removal new width k u before count old q now p) where
       abbrev step : StepTo w s k (x .low) (m .ms) u r
       step = S .is (m .ms) u (m .at)
@@ -182,8 +182,8 @@ module _ {w : ℕ} {s : List ℕ} {x : OldList} {removal : List ℕ} {width : �
             bits = putting-more (bitsOfNumber width (before - n)) (diffBits width n more) next-bits (puts-one P);
           }
 
-    pub putting-stays : PuttingAll w s x removal width k before count old q now p → (n : ℕ) → n ≡ r .line - below (listed removal) (r .line)
-        → T (not (gone (listed removal) (x .drop) (r .line))) → {after : List ℕ} {a : ℕ} → PutMore now p (before - n) width after a
+    pub putting-stays : PuttingAll w s x removal width k before count old q now p → (n : ℕ) → n ≡ r .line - below (removalLines removal) (r .line)
+        → T (not (gone (removalLines removal) (x .drop) (r .line))) → {after : List ℕ} {a : ℕ} → PutMore now p (before - n) width after a
         → PuttingAll w s x removal width (r .next) n (count + 1) old q after a
     putting-stays M n z g P ns u h f = put-next n z g (M ns u h f) P
 

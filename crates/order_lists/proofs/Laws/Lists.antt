@@ -24,7 +24,7 @@ use Rattle.find_parts.proofs.Laws.Standing.{stands-behind, stands-within, numbe
 use Rattle.find_parts.proofs.Laws.Lists.{list-is, list-bits}
 use Rattle.orders.specs.Survive.{elem}
 use Rattle.orders.specs.Least.{maxOf, numbersFrom}
-use Rattle.orders.specs.Listed.{listed}
+use Rattle.orders.specs.Listed.{removalLines}
 use Rattle.order_removal.proofs.Laws.Going.{Going, Turn, turn, gone-on, stays-on, all-gone-over}
 use Rattle.order_lists.specs.Walk.{putIn, stayed, WalkAt}
 use Rattle.order_lists.specs.List.{become, Numbered}
@@ -116,8 +116,8 @@ under ch k drop own = record { walk = k; low = ch .low; drop = drop; own = own }
 
 -- what it becomes is the line's new list
 pub same-list : (removal : List ℕ) (ch : Change) (l : ℕ) (k : ListWalk) (own : ℕ) {drop : ℕ} (ns : List ℕ) → k .waiting ≡ waits ch l → drop ≡ leaves ch l
-    → become (under ch k drop own) removal ns ≡ newList (listed removal) ch l ns
-same-list removal ch l k own ns e f = ap₂ (λ (n m : ℕ). stayed (listed removal) m (putIn n (ch .low) ns)) e f
+    → become (under ch k drop own) removal ns ≡ newList (removalLines removal) ch l ns
+same-list removal ch l k own ns e f = ap₂ (λ (n m : ℕ). stayed (removalLines removal) m (putIn n (ch .low) ns)) e f
 
 -- ---- measuring: of all lists after the order, those before are measured, and ys are still to come
 
@@ -143,8 +143,8 @@ measured-more {lists = lists} {most = most} y ys h i j =
 -- line l's list comes next, at place p
 abbrev pub GoingAll : (w : ℕ) (s removal : List ℕ) (ch : Change) (lines l p lists entries most : ℕ) → Type 0
 GoingAll w s removal ch lines l p lists entries most =
-    (ls : List (List ℕ)) (u : Bits) → ListsAt w s 0 8 ls u → length ls ≡ lines → Along up (Falls 0) 0 (newFrom (listed removal) ch 0 ls)
-    → Going (newList (listed removal) ch) (listed removal) lines (Stand w s u) (Measured (newFrom (listed removal) ch 0 ls) lists entries most) l p
+    (ls : List (List ℕ)) (u : Bits) → ListsAt w s 0 8 ls u → length ls ≡ lines → Along up (Falls 0) 0 (newFrom (removalLines removal) ch 0 ls)
+    → Going (newList (removalLines removal) ch) (removalLines removal) lines (Stand w s u) (Measured (newFrom (removalLines removal) ch 0 ls) lists entries most) l p
 
 module _ (w : ℕ) (s removal : List ℕ) (ch : Change) (lines : ℕ) where
   pub going-first : GoingAll w s removal ch lines 0 8 0 0 0
@@ -152,16 +152,16 @@ module _ (w : ℕ) (s removal : List ℕ) (ch : Change) (lines : ℕ) where
       record { more = ls; at = a; left = omega arith; rest = record { falls = f; counts = omega arith; sums = omega arith; largest = omega arith } }
 
   module _ {l p lists entries most waiting : ℕ} {e : Entry} (G : GoingAll w s removal ch lines l p lists entries most) (k : l < lines) (E : EntryAt w s p l waiting e) where
-    pub going-gone : elem l (listed removal) ≡ true → GoingAll w s removal ch lines (l + 1) (e .next) lists entries most
+    pub going-gone : elem l (removalLines removal) ≡ true → GoingAll w s removal ch lines (l + 1) (e .next) lists entries most
     going-gone z ls u a c f = let t = turn (G ls u a c f) k in gone-on t z (next-at t E)
 
-    module _ {drop : ℕ} (n : elem l (listed removal) ≡ false) (b : waiting ≡ waits ch l) (d : drop ≡ leaves ch l) where
+    module _ {drop : ℕ} (n : elem l (removalLines removal) ≡ false) (b : waiting ≡ waits ch l) (d : drop ≡ leaves ch l) where
       -- the list that stays, as the code asks for it
-      pub list-falls : {all : List (List ℕ)} {u : Bits} → (t : Turn (newList (listed removal) ch) (listed removal) lines (Stand w s u) (Measured all lists entries most) l p)
+      pub list-falls : {all : List (List ℕ)} {u : Bits} → (t : Turn (newList (removalLines removal) ch) (removalLines removal) lines (Stand w s u) (Measured all lists entries most) l p)
           → Falls 0 lists (become (under ch (e .walk) drop lists) removal (t .value))
       list-falls t = rw (same-list removal ch l (e .walk) lists (t .value) (E .waits ∙ b) d) (t .stays n .falls .0)
 
-      pub count-few : {all : List (List ℕ)} {u : Bits} {r : Numbers} → (t : Turn (newList (listed removal) ch) (listed removal) lines (Stand w s u) (Measured all lists entries most) l p)
+      pub count-few : {all : List (List ℕ)} {u : Bits} {r : Numbers} → (t : Turn (newList (removalLines removal) ch) (removalLines removal) lines (Stand w s u) (Measured all lists entries most) l p)
           → Numbered w s (under ch (e .walk) drop lists) removal r → r .count ≤ lists + 1
       count-few t N =
           let f = list-falls t in
@@ -174,7 +174,7 @@ module _ (w : ℕ) (s removal : List ℕ) (ch : Change) (lines : ℕ) where
           let t = turn (G ls u a c f) k in
           let i = same-list removal ch l (e .walk) lists (t .value) (E .waits ∙ b) d in
           let (y, v) = N .is (t .value) (next-behind t) (next-walk t E) (list-falls t) in
-          stays-on t (next-at t E) (rw z (measured-more (newList (listed removal) ch l (t .value)) (newFrom (listed removal) ch (l + 1) (t .others)) (t .stays n) (rw i at y) (rw i at v)))
+          stays-on t (next-at t E) (rw z (measured-more (newList (removalLines removal) ch l (t .value)) (newFrom (removalLines removal) ch (l + 1) (t .others)) (t .stays n) (rw i at y) (rw i at v)))
 
   pub going-done : {l p lists entries most : ℕ} → GoingAll w s removal ch lines l p lists entries most → lines ≤ l
       → ListsNumbered w s lines ch removal (record { lists = lists; entries = entries; most = most })

@@ -16,16 +16,16 @@ use borrow.Author.Needs.{needs}
 use Rattle.order_near.proofs.are_near.Statement.{statement}
 use Rattle.order_near.proofs.are_near.Tie as tie
 
-read : (c : tie.After-sure) → Reads (fieldDec badIndex 8) (c .before .before .before .args .s .now) 0 (found (c .sure .result .value) (c .sure .result .next .at))
-read c = subst (λ (n : ℕ). Reads (fieldDec badIndex 8) (c .before .before .before .args .s .now) n (found (c .sure .result .value) (c .sure .result .next .at))) (c .before .start .ensures) (c .sure .ensures .0 badIndex)
+read : (c : tie.After-sure) → Reads (fieldDec badIndex 8) (c .before .before .before .args .block .now) 0 (found (c .sure .result .value) (c .sure .result .next .at))
+read c = subst (λ (n : ℕ). Reads (fieldDec badIndex 8) (c .before .before .before .args .block .now) n (found (c .sure .result .value) (c .sure .result .next .at))) (c .before .start .ensures) (c .sure .ensures .0 badIndex)
 
 width : (c : tie.After-sure) → c .sure .result .value ≡ c .before .before .before .pre .value .width
-width c = width-is (c .before .before .before .pre .lines) (c .before .before .before .args .s .now) (c .before .before .before .pre .reads) (read c)
+width c = width-is (c .before .before .before .pre .lines) (c .before .before .before .args .block .now) (c .before .before .before .pre .reads) (read c)
 
-there : (c : tie.After-sure) → FindThere (c .sure .result .value) (c .before .before .before .args .s .now) (c .before .before .before .args .high)
+there : (c : tie.After-sure) → FindThere (c .sure .result .value) (c .before .before .before .args .block .now) (c .before .before .before .args .high)
 there c =
     let p = c .before .before .before .pre in
-    let s = c .before .before .before .args .s .now in
+    let s = c .before .before .before .args .block .now in
     rw (width c) (record {
       narrow = width-narrow s (p .lines) (p .reads);
       short = p .short;
@@ -41,7 +41,7 @@ start-requires c κs = search needs
 
 sure-requires : tie.Need-sure-requires
 sure-requires c κs =
-    let p = c .before .before .pre in omega (arith, p .short, width-there (c .before .before .args .s .now) (p .lines) (p .reads))
+    let p = c .before .before .pre in omega (arith, p .short, width-there (c .before .before .args .block .now) (p .lines) (p .reads))
 
 list-of-requires : tie.Need-list-of-requires
 list-of-requires c κs =
@@ -56,7 +56,7 @@ list-has-requires c κs =
 
 returns : tie.Need-returns
 returns c =
-    near-is (c .before .before .before .before .before .args .s .now) (c .before .before .before .before .before .args .high) (c .before .before .before .before .before .args .low) (read (c .before .before)) (c .before .list-of .ensures) (c .list-has .ensures)
+    near-is (c .before .before .before .before .before .args .block .now) (c .before .before .before .before .before .args .high) (c .before .before .before .before .before .args .low) (read (c .before .before)) (c .before .list-of .ensures) (c .list-has .ensures)
 
 pub are-near-spec : {M : Type 1} → statement M
 are-near-spec =

@@ -16,7 +16,7 @@ abbrev μ-loop : tie.MeasureT-loop
 
 loop-holds : tie.Need-loop-holds Inv-loop μ-loop
 loop-holds c =
-    (c .before .pre .none, looking-first (c .before .args .w) (c .before .args .s .now) (c .before .args .low) (c .before .args .from))
+    (c .before .pre .none, looking-first (c .before .args .w) (c .before .args .block .now) (c .before .args .low) (c .before .args .from))
 
 step-on-requires : tie.Need-step-on-requires Inv-loop μ-loop
 step-on-requires c κs =
@@ -26,7 +26,7 @@ step-on-requires c κs =
 
 returns : tie.Need-returns Inv-loop μ-loop
 returns c =
-    looking-found (c .before .before .before .before .before .before .before .before .args .w) (c .before .before .before .before .before .before .before .before .args .s .now) (c .before .before .before .before .before .before .before .before .args .low) (c .before .before .before .before .before .before .loop .inv .1) (c .before .before .before .before .before .before .loop .inv .0) (c .before .before .before .step-on .ensures) (c .if2 .taken)
+    looking-found (c .before .before .before .before .before .before .before .before .args .w) (c .before .before .before .before .before .before .before .before .args .block .now) (c .before .before .before .before .before .before .before .before .args .low) (c .before .before .before .before .before .before .loop .inv .1) (c .before .before .before .before .before .before .loop .inv .0) (c .before .before .before .step-on .ensures) (c .if2 .taken)
 
 loop-less : tie.Need-loop-less Inv-loop μ-loop
 loop-less c =
@@ -34,11 +34,11 @@ loop-less c =
 
 loop-again : tie.Need-loop-again Inv-loop μ-loop
 loop-again c =
-    (omega (arith, c .before .before .before .step-on .ensures .waits, c .before .before .before .before .before .before .loop .inv .0), looking-next (c .before .before .before .before .before .before .before .before .args .w) (c .before .before .before .before .before .before .before .before .args .s .now) (c .before .before .before .before .before .before .before .before .args .low) (c .before .before .before .before .before .before .loop .inv .1) (c .before .before .before .before .before .before .loop .inv .0) (c .before .before .before .step-on .ensures) (c .if2 .left))
+    (omega (arith, c .before .before .before .step-on .ensures .waits, c .before .before .before .before .before .before .loop .inv .0), looking-next (c .before .before .before .before .before .before .before .before .args .w) (c .before .before .before .before .before .before .before .before .args .block .now) (c .before .before .before .before .before .before .before .before .args .low) (c .before .before .before .before .before .before .loop .inv .1) (c .before .before .before .before .before .before .loop .inv .0) (c .before .before .before .step-on .ensures) (c .if2 .left))
 
 returns-2 : tie.Need-returns-2 Inv-loop μ-loop
 returns-2 c =
-    looking-done (c .before .before .before .before .args .w) (c .before .before .before .before .args .s .now) (c .before .before .before .before .args .low) (c .before .before .loop .inv .1) (omega (arith, c .if1 .left))
+    looking-done (c .before .before .before .before .args .w) (c .before .before .before .before .args .block .now) (c .before .before .before .before .args .low) (c .before .before .loop .inv .1) (omega (arith, c .if1 .left))
 
 pub list-has-spec : {M : Type 1} → statement M
 list-has-spec =

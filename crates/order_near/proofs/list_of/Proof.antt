@@ -15,12 +15,12 @@ abbrev μ-loop : tie.MeasureT-loop
 μ-loop s w line p₀ l₀ p l =
     line - l
 
-next : (c : tie.At-loop Inv-loop μ-loop) → NextList (c .before .before .args .w) (c .before .before .args .s .now) (c .before .before .pre .value) (c .before .before .pre .behind) (c .loop .l) (c .loop .p)
+next : (c : tie.At-loop Inv-loop μ-loop) → NextList (c .before .before .args .w) (c .before .before .args .block .now) (c .before .before .pre .value) (c .before .before .pre .behind) (c .loop .l) (c .loop .p)
 next c = let p = c .before .before .pre in next-list (c .loop .inv .1 (p .value) (p .behind) (p .at) (p .there)) (omega (arith, c .loop .inv .0, p .there))
 
 loop-holds : tie.Need-loop-holds Inv-loop μ-loop
 loop-holds c =
-    (omega arith, passing-first (c .before .args .w) (c .before .args .s .now) (c .before .args .line))
+    (omega arith, passing-first (c .before .args .w) (c .before .args .block .now) (c .before .args .line))
 
 list-at-requires : tie.Need-list-at-requires Inv-loop μ-loop
 list-at-requires c κs =
@@ -38,7 +38,7 @@ loop-less c =
 
 loop-again : tie.Need-loop-again Inv-loop μ-loop
 loop-again c =
-    (omega (arith, c .before .loop-test .taken), passing-next (c .before .before .before .before .args .w) (c .before .before .before .before .args .s .now) (c .before .before .before .before .args .line) (c .before .before .loop .inv .1) (c .before .loop-test .taken) (c .list-at .ensures))
+    (omega (arith, c .before .loop-test .taken), passing-next (c .before .before .before .before .args .w) (c .before .before .before .before .args .block .now) (c .before .before .before .before .args .line) (c .before .before .loop .inv .1) (c .before .loop-test .taken) (c .list-at .ensures))
 
 list-at-requires-2 : tie.Need-list-at-requires-2 Inv-loop μ-loop
 list-at-requires-2 c κs =
@@ -50,7 +50,7 @@ list-at-requires-2 c κs =
 returns : tie.Need-returns Inv-loop μ-loop
 returns c =
     let z : c .before .before .before .loop .l ≡ c .before .before .before .before .before .args .line = omega (arith, c .before .before .before .loop .inv .0, c .before .before .loop-test .left) in
-    passing-done (c .before .before .before .before .before .args .w) (c .before .before .before .before .before .args .s .now) (c .before .before .before .before .before .args .line) (c .before .before .before .loop .inv .1) z (c .before .list-at2 .ensures)
+    passing-done (c .before .before .before .before .before .args .w) (c .before .before .before .before .before .args .block .now) (c .before .before .before .before .before .args .line) (c .before .before .before .loop .inv .1) z (c .before .list-at2 .ensures)
 
 pub list-of-spec : {M : Type 1} → statement M
 list-of-spec =

@@ -16,7 +16,7 @@ use Rattle.format.specs.View.{View}
 use Rattle.format.specs.Record.{Record}
 use Rattle.format.specs.Places.{lineAt, viewAt, count}
 use Rattle.orders.specs.Survive.{survivors}
-use Rattle.orders.specs.Listed.{listed}
+use Rattle.orders.specs.Listed.{removalLines}
 use Rattle.orders.specs.Least.{indexOf}
 use Rattle.orders.specs.Act.{Act, remove, join, part, lists, newLists, newLines, after}
 use Rattle.orders.specs.Order.{Order, edited, tests, Pass}
@@ -42,13 +42,13 @@ module _ (v : View) (r : Right v) (few : count v ≤ 1024) where
   as-many : {i : Index} → v .index ≡ some i → RightLists (length (i .lists)) (i .lists) × (length (i .lists) ≡ count v)
   as-many e = let h = with-lists e in (rw (h .count) h, h .count)
 
-  pub remove-means : (removal : List ℕ) (ch : Change) → Rising removal → count v ≤ ch .high → Means (remove (listed removal)) v removal ch
+  pub remove-means : (removal : List ℕ) (ch : Change) → Rising removal → count v ≤ ch .high → Means (remove (removalLines removal)) v removal ch
   remove-means removal ch h k =
       record {
-        lines = remove-lines (listed removal) v;
+        lines = remove-lines (removalLines removal) v;
         lists = λ i e.
             let (g, n) = as-many e in
-            remove-lists (listed removal) (h .rises) ch (i .lists) g (omega (arith, n)) (omega (arith, n)) ∙ ap (λ (m : ℕ). newLists (remove (listed removal)) m (i .lists)) n;
+            remove-lists (removalLines removal) (h .rises) ch (i .lists) g (omega (arith, n)) (omega (arith, n)) ∙ ap (λ (m : ℕ). newLists (remove (removalLines removal)) m (i .lists)) n;
       }
 
   pub join-means : (a b : ℕ) → Means (join a b) v [] (record { high = max a b; low = min a b; joins = true })

@@ -20,7 +20,7 @@ use Rattle.format.specs.Limits.{mostLines}
 use Rattle.format.specs.Line.{Line, line, skeleton}
 use Rattle.format.specs.declared.Widths.{Widths}
 use Rattle.orders.specs.Survive.{elem}
-use Rattle.orders.specs.Listed.{listed}
+use Rattle.orders.specs.Listed.{removalLines}
 use Rattle.order_removal.specs.Kept.{kept}
 use Rattle.find_parts.proofs.Laws.Standing.{stands-within}
 use Rattle.find_parts.proofs.Laws.Blocks.{whole-is}
@@ -43,7 +43,7 @@ module _ (w : Widths) (s : List ℕ) {ls : List Line} (e : skeleton w .dec (bits
   -- a pair order leaves the block as it is
   same-block : (removal : List ℕ) → All Byte s → length removal ≡ 0 → l.keptBlock w removal ls ≡ s
   same-block removal f h =
-      let k : l.keptFrom (listed removal) 0 ls ≡ ls = ap (λ (rs : List ℕ). l.keptFrom rs 0 ls) (none-listed removal h) ∙ kept-all 0 ls in
+      let k : l.keptFrom (removalLines removal) 0 ls ≡ ls = ap (λ (rs : List ℕ). l.keptFrom rs 0 ls) (none-listed removal h) ∙ kept-all 0 ls in
       ap (λ (xs : List Line). inBytes (skeleton w .enc xs)) k ∙ ap inBytes (sym (whole-is (skeleton w) s e .1)) ∙ in-bits s f
 
 -- lines that are left take no more bits
@@ -76,7 +76,7 @@ module _ {w : Widths} {s : List ℕ} {lines : ℕ} {removal : List ℕ} (t : Old
       omega (
         arith,
         M .is (t .value) (t .reads) ∙ block-bytes w removal (t .value),
-        fewer-bits (line w) (listed removal) 0 (t .value),
+        fewer-bits (line w) (removalLines removal) 0 (t .value),
         stands-within s 0 all (zeros (pad (length all))) (lines-at w s (t .reads) .bits) (omega arith),
         t .short,
       )

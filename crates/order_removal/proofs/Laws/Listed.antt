@@ -11,7 +11,7 @@ use mir.Facts.{yes-eqb, no-eqb, and-yes, leb-yes, ltb-yes, yes-leb, yes-ltb, no-
 use Rattle.bits.specs.ChoiceLaws.{pick-yes, pick-no, T-true, T-false, eq-split}
 use Rattle.bits.specs.Lists.{All, empty?}
 use Rattle.orders.specs.Survive.{at, RisesFrom}
-use Rattle.orders.specs.Listed.{numbersIn, listed}
+use Rattle.orders.specs.Listed.{numbersIn, removalLines}
 use Rattle.orders.specs.Order.{risesOk, linesOk}
 use Rattle.order_removal.specs.Rank.{Rising}
 
@@ -45,17 +45,17 @@ number-at (b ∷ c ∷ bs) (suc i) l =
     let f : suc (suc (2 * i)) + 1 ≡ suc (suc (2 * i + 1)) = omega arith in
     rw (e, f) (number-at bs i (omega arith))
 
-listed-even : (bs : List ℕ) → length bs % 2 ≡ 0 → listed bs ≡ numbersIn bs
+listed-even : (bs : List ℕ) → length bs % 2 ≡ 0 → removalLines bs ≡ numbersIn bs
 listed-even bs e = pick-yes (eqb (length bs % 2) 0) _ _ (yes-eqb e)
 
 -- ---- the test of a list
 
 module _ (n : ℕ) where
-  pub lines-none : (bs : List ℕ) → length bs ≡ 0 → linesOk n (listed bs) ≡ false
+  pub lines-none : (bs : List ℕ) → length bs ≡ 0 → linesOk n (removalLines bs) ≡ false
   lines-none [] e = refl
   lines-none (b ∷ bs) e = absurd (omega arith)
 
-  pub lines-odd : (bs : List ℕ) → length bs % 2 ≢ 0 → linesOk n (listed bs) ≡ false
+  pub lines-odd : (bs : List ℕ) → length bs % 2 ≢ 0 → linesOk n (removalLines bs) ≡ false
   lines-odd bs d = ap (linesOk n) (pick-no (eqb (length bs % 2) 0) (numbersIn bs) [] (no-eqb d))
 
   module _ (m x : ℕ) (rs : List ℕ) where
@@ -77,7 +77,7 @@ module _ (n : ℕ) where
     pub even : length bs % 2 ≡ 0
     pub whole : a % 2 ≡ 0
     pub within : a ≤ length bs
-    pub is : linesOk n (listed bs) ≡ risesOk m n (numbersIn (drop a bs))
+    pub is : linesOk n (removalLines bs) ≡ risesOk m n (numbersIn (drop a bs))
 
   pub testing-start : (bs : List ℕ) → length bs ≢ 0 → length bs % 2 ≡ 0 → Testing bs 0 0
   testing-start [] d e = absurd (d refl)
@@ -85,15 +85,15 @@ module _ (n : ℕ) where
   testing-start (b ∷ c ∷ bs) d e = record { even = e; whole = refl; within = omega arith; is = ap (linesOk n) (listed-even (b ∷ c ∷ bs) e) }
 
   module _ {bs : List ℕ} {m a x : ℕ} (t : Testing bs m a) (l : a < length bs) (e : x ≡ getD bs a 0 * 256 + getD bs (a + 1) 0) where
-    here : linesOk n (listed bs) ≡ risesOk m n (x ∷ numbersIn (drop (a + 2) bs))
+    here : linesOk n (removalLines bs) ≡ risesOk m n (x ∷ numbersIn (drop (a + 2) bs))
     here =
         let z : numbersIn (drop a bs) ≡ x ∷ numbersIn (drop (a + 2) bs) = rw e (numbers-from a bs (omega (arith, t .even, t .whole))) in
         t .is ∙ ap (risesOk m n) z
 
-    pub testing-low : x < m → linesOk n (listed bs) ≡ false
+    pub testing-low : x < m → linesOk n (removalLines bs) ≡ false
     testing-low k = here ∙ rise-low m x (numbersIn (drop (a + 2) bs)) k
 
-    pub testing-high : n ≤ x → linesOk n (listed bs) ≡ false
+    pub testing-high : n ≤ x → linesOk n (removalLines bs) ≡ false
     testing-high k = here ∙ rise-high m x (numbersIn (drop (a + 2) bs)) k
 
     pub testing-next : m ≤ x → x < n → Testing bs (x + 1) (a + 2)
@@ -106,7 +106,7 @@ module _ (n : ℕ) where
           is = rw z (here ∙ rise-next m x (numbersIn (drop (a + 2) bs)) k j);
         }
 
-  pub testing-done : {bs : List ℕ} {m a : ℕ} → Testing bs m a → length bs ≤ a → linesOk n (listed bs) ≡ true
+  pub testing-done : {bs : List ℕ} {m a : ℕ} → Testing bs m a → length bs ≤ a → linesOk n (removalLines bs) ≡ true
   testing-done {bs} {m} {a} t l = t .is ∙ ap (λ (ys : List ℕ). risesOk m n (numbersIn ys)) (drop-of-length-le bs l)
 
 -- ---- a list that is right
@@ -119,21 +119,21 @@ risesOk-rises m n (r ∷ rs) t =
     let (c, d) = risesOk-rises (suc r) n rs v in
     ((leb-yes a, c), (ltb-yes b, d))
 
-pub lines-rise : (n : ℕ) (bs : List ℕ) → linesOk n (listed bs) ≡ true → Rising bs × All (λ r. r < n) (listed bs)
+pub lines-rise : (n : ℕ) (bs : List ℕ) → linesOk n (removalLines bs) ≡ true → Rising bs × All (λ r. r < n) (removalLines bs)
 lines-rise n bs e =
     eq-split (length bs % 2) 0
-    (λ z. let t : T (linesOk n (listed bs)) = rw e tt in
-    let (a, b) = and-yes (not (empty? (listed bs))) (risesOk 0 n (listed bs)) t in
-    let (c, d) = risesOk-rises 0 n (listed bs) b in
+    (λ z. let t : T (linesOk n (removalLines bs)) = rw e tt in
+    let (a, b) = and-yes (not (empty? (removalLines bs))) (risesOk 0 n (removalLines bs)) t in
+    let (c, d) = risesOk-rises 0 n (removalLines bs) b in
     (record { even = rw (listed-even bs z) (omega (arith, length-numbers bs)); rises = c }, d))
-    (λ z. let t : T (linesOk n (listed bs)) = rw e tt in absurd (rw (lines-odd n bs z) at t))
+    (λ z. let t : T (linesOk n (removalLines bs)) = rw e tt in absurd (rw (lines-odd n bs z) at t))
 
-pub rising-at : (bs : List ℕ) → Rising bs → (i : ℕ) → i < length (listed bs) → getD bs (2 * i) 0 * 256 + getD bs (2 * i + 1) 0 ≡ at (listed bs) i
+pub rising-at : (bs : List ℕ) → Rising bs → (i : ℕ) → i < length (removalLines bs) → getD bs (2 * i) 0 * 256 + getD bs (2 * i + 1) 0 ≡ at (removalLines bs) i
 rising-at bs r i l =
     let e : length bs % 2 ≡ 0 = omega (arith, r .even) in
     rw (listed-even bs e) (sym (number-at bs i (omega (arith, r .even))))
 
 -- no bytes name no lines
-pub none-listed : (bs : List ℕ) → length bs ≡ 0 → listed bs ≡ []
+pub none-listed : (bs : List ℕ) → length bs ≡ 0 → removalLines bs ≡ []
 none-listed [] h = refl
 none-listed (b ∷ bs) h = absurd (omega arith)

@@ -5,7 +5,7 @@ use mathlib.Core.Path.{_≡_, _∙_}
 use native.Mathlib.Omega.{arith}
 use lib.ListN.{length}
 use Rattle.orders.specs.Survive.{at}
-use Rattle.orders.specs.Listed.{listed}
+use Rattle.orders.specs.Listed.{removalLines}
 use Rattle.order_removal.proofs.Laws.Listed.{rising-at}
 use Rattle.order_removal.proofs.Laws.Rank.{Halving, halving-start, halving-up, halving-down, not-there, maybe-there}
 use borrow.Author.Needs.{needs}
@@ -14,21 +14,21 @@ use Rattle.order_removal.proofs.rank_of.Tie as tie
 
 abbrev Inv-loop : tie.InvT-loop
 Inv-loop removal n count low₀ high₀ low high =
-    Halving (listed removal) n low high
+    Halving (removalLines removal) n low high
 
 abbrev μ-loop : tie.MeasureT-loop
 μ-loop removal n count low₀ high₀ low high =
     high - low
 
-inside : (c : tie.In-loop Inv-loop μ-loop) → c .before .loop .low + (c .before .loop .high - c .before .loop .low) / 2 < length (listed (c .before .before .before .args .removal .now))
+inside : (c : tie.In-loop Inv-loop μ-loop) → c .before .loop .low + (c .before .loop .high - c .before .loop .low) / 2 < length (removalLines (c .before .before .before .args .removal .now))
 inside c = omega (arith, c .before .loop .inv .within, c .loop-test .taken)
 
-found : (c : tie.After-two-at Inv-loop μ-loop) → c .two-at .result ≡ at (listed (c .before .before .before .before .args .removal .now)) (c .before .before .loop .low + (c .before .before .loop .high - c .before .before .loop .low) / 2)
+found : (c : tie.After-two-at Inv-loop μ-loop) → c .two-at .result ≡ at (removalLines (c .before .before .before .before .args .removal .now)) (c .before .before .loop .low + (c .before .before .loop .high - c .before .before .loop .low) / 2)
 found c = c .two-at .ensures ∙ rising-at (c .before .before .before .before .args .removal .now) (c .before .before .before .before .pre) (c .before .before .loop .low + (c .before .before .loop .high - c .before .before .loop .low) / 2) (inside (c .before))
 
 loop-holds : tie.Need-loop-holds Inv-loop μ-loop
 loop-holds c =
-    halving-start (listed (c .before .args .removal .now)) (c .before .args .n) _ (omega (arith, c .before .pre .even))
+    halving-start (removalLines (c .before .args .removal .now)) (c .before .args .n) _ (omega (arith, c .before .pre .even))
 
 sub-middle : tie.Need-sub-middle Inv-loop μ-loop
 sub-middle c = search needs

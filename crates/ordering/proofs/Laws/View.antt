@@ -14,7 +14,7 @@ use Rattle.format.specs.Segments.{Segment, segment, segment-length, segments}
 use Rattle.format.specs.View.{View}
 use Rattle.format.specs.Places.{viewAt, count}
 use Rattle.format.proofs.Laws.Record.{read-back}
-use Rattle.orders.specs.Listed.{listed}
+use Rattle.orders.specs.Listed.{removalLines}
 use Rattle.orders.specs.Act.{Act, remove}
 use Rattle.orders.specs.Order.{Order, linesOk, tests, order, Pass}
 use Rattle.orders.proofs.Laws.Refuse.{verdict-own, order-refused}
@@ -78,14 +78,14 @@ module _ {s : List ℕ} {view n : ℕ} {x : Site} (F : Named s view n x) where
 
   module _ (lines : List ℕ) where
     abbrev act : Act
-    act = remove (listed lines)
+    act = remove (removalLines lines)
 
-    pub bad-lines : linesOk n (listed lines) ≡ false → order (removal view n lines) s ≡ refused badLines 0
+    pub bad-lines : linesOk n (removalLines lines) ≡ false → order (removal view n lines) s ≡ refused badLines 0
     unfolding tests
-    bad-lines e = own-refused act [] (linesOk (count v) (listed lines)) badLines _ refl tt (rw (counted, e) tt) (omega arith)
+    bad-lines e = own-refused act [] (linesOk (count v) (removalLines lines)) badLines _ refl tt (rw (counted, e) tt) (omega arith)
 
-    module _ (e : linesOk n (listed lines) ≡ true) where
-      good : T (linesOk (count v) (listed lines))
+    module _ (e : linesOk n (removalLines lines) ≡ true) where
+      good : T (linesOk (count v) (removalLines lines))
       good = rw (counted, e) tt
 
       pub rises : Rising lines
@@ -93,7 +93,7 @@ module _ {s : List ℕ} {view n : ℕ} {x : Site} (F : Named s view n x) where
 
       pub has-segments : x .extended .from < x .extended .to → order (removal view n lines) s ≡ refused extended 0
       unfolding tests
-      has-segments l = own-refused act ((linesOk (count v) (listed lines), badLines) ∷ []) (empty? (v .segments)) extended [] refl (good, tt) (some-segments (v .segments) (F .at .segments) l) (omega arith)
+      has-segments l = own-refused act ((linesOk (count v) (removalLines lines), badLines) ∷ []) (empty? (v .segments)) extended [] refl (good, tt) (some-segments (v .segments) (F .at .segments) l) (omega arith)
 
       module _ (l : x .extended .to ≤ x .extended .from) where
         pub removal-passes : Pass (tests act v)

@@ -6,7 +6,7 @@ use Rattle.bits.specs.Lists.{All}
 use Rattle.bits.specs.Bytes.{Byte}
 use Rattle.bits.proofs.Laws.Place.{all-bytes}
 use Rattle.outcome.proofs.Laws.{answer-refused}
-use Rattle.orders.specs.Listed.{listed}
+use Rattle.orders.specs.Listed.{removalLines}
 use Rattle.orders.specs.Act.{remove}
 use Rattle.orders.specs.Order.{linesOk}
 use Rattle.order_view.specs.Named.{Named, ViewNamed}
@@ -23,7 +23,7 @@ bytes c = all-bytes (c .before .args .bytes .now) (λ i. c .shared-slice-known .
 found : (c : tie.After-site) → Named (c .before .before .before .before .before .before .args .bytes .now) (c .before .before .before .before .before .before .args .view) (c .before .before .before .before .before .before .args .count) (c .site .given .0 .0)
 found c = subst (λ (r : NamedView). ViewNamed (c .before .before .before .before .before .before .args .bytes .now) (c .before .before .before .before .before .before .args .view) (c .before .before .before .before .before .before .args .count) r) (c .site .given .1) (c .before .before .named-view .ensures)
 
-good : (c : tie.Then1) → linesOk (c .before .before .before .before .before .before .before .before .before .args .count) (listed (c .before .before .before .before .before .before .before .before .before .args .lines .now)) ≡ true
+good : (c : tie.Then1) → linesOk (c .before .before .before .before .before .before .before .before .before .args .count) (removalLines (c .before .before .before .before .before .before .before .before .before .args .lines .now)) ≡ true
 good c = sym (c .before .lines-right .ensures) ∙ c .if1 .taken
 
 named-view-requires : tie.Need-named-view-requires
@@ -56,7 +56,7 @@ refuse-requires-3 c κs = search needs
 
 returns : tie.Need-returns
 returns c =
-    rw (c .refuse .ensures) (answer-refused (λ xs. xs) _ (c .before .before .before .before .before .before .before .before .args .out .now) (subst (λ (r : NamedView). ViewNamed (c .before .before .before .before .before .before .before .before .args .bytes .now) (c .before .before .before .before .before .before .before .before .args .view) (c .before .before .before .before .before .before .before .before .args .count) r) (c .before .before .number .given .1) (c .before .before .before .before .named-view .ensures) (remove (listed (c .before .before .before .before .before .before .before .before .args .lines .now)))))
+    rw (c .refuse .ensures) (answer-refused (λ xs. xs) _ (c .before .before .before .before .before .before .before .before .args .out .now) (subst (λ (r : NamedView). ViewNamed (c .before .before .before .before .before .before .before .before .args .bytes .now) (c .before .before .before .before .before .before .before .before .args .view) (c .before .before .before .before .before .before .before .before .args .count) r) (c .before .before .number .given .1) (c .before .before .before .before .named-view .ensures) (remove (removalLines (c .before .before .before .before .before .before .before .before .args .lines .now)))))
 
 returns-2 : tie.Need-returns-2
 returns-2 c =
@@ -70,7 +70,7 @@ returns-3 c =
     let f = found (c .before .before .before .before .before .before .before .before .before) in
     let l = c .before .before .before .before .before .before .before .before .before .before .before .before .before .before .before .args .lines .now in
     let g = good (c .before .before .before .before .before .before) in
-    c .before .before .carry-out .ensures .is (removal (c .before .before .before .before .before .before .before .before .before .before .before .before .before .before .before .args .view) (c .before .before .before .before .before .before .before .before .before .before .before .before .before .before .before .args .count) l) (f .value) (f .reads) (f .at) (tested f (remove (listed l)) (removal-passes f l g (c .before .before .before .before .if2 .left))) (removal-means f l g (c .before .before .before .before .if2 .left) (bytes (c .before .before .before .before .before .before .before .before .before .before .before .before .before .before)))
+    c .before .before .carry-out .ensures .is (removal (c .before .before .before .before .before .before .before .before .before .before .before .before .before .before .before .args .view) (c .before .before .before .before .before .before .before .before .before .before .before .before .before .before .before .args .count) l) (f .value) (f .reads) (f .at) (tested f (remove (removalLines l)) (removal-passes f l g (c .before .before .before .before .if2 .left))) (removal-means f l g (c .before .before .before .before .if2 .left) (bytes (c .before .before .before .before .before .before .before .before .before .before .before .before .before .before)))
 
 returns-4 : tie.Need-returns-4
 returns-4 c =

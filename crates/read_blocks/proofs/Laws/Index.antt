@@ -20,8 +20,8 @@ use Rattle.bits.specs.Codec.{Read, got, Codec, fieldDec, thenDec, alongDec, via
 use Rattle.bits.specs.CodecLaws.{pick-got, next-got, field, field-there, along, along-back, ranged}
 use Rattle.bits.specs.Block.{few, endedDec, zerosDec}
 use Rattle.bits.specs.BlockLaws.{ended}
-use Rattle.bits.specs.Reads.{Reads, found, kept}
-use Rattle.bits.proofs.Laws.Reads.{length-rest, known, go-on, made, kept-got, unkept}
+use Rattle.bits.specs.Reads.{Reads, found, keeping}
+use Rattle.bits.proofs.Laws.Reads.{length-rest, known, go-on, made, keeping-got, unkept}
 use Rattle.bits.proofs.Laws.Parts.{maybe-more}
 use Rattle.outcome.specs.Refusals.{badIndex}
 use Rattle.format.specs.Differences.{undiffs, diff, tell}
@@ -70,7 +70,7 @@ pub number-at : (w n i m number : ℕ) (s : List ℕ) (p : ℕ) {rest : List ℕ
     → numbersDec w (n - i) m number (drop p (bitsOf s)) ≡ got rest left → NumberAt w n i number s p rest left
 unfolding onlyDec
 number-at w n i m number s p h k e =
-    kept-got (undiffs number) (alongDec (diff w) tell (n - i) (m, number) (drop p (bitsOf s))) e λ ds e1 e2.
+    keeping-got (undiffs number) (alongDec (diff w) tell (n - i) (m, number) (drop p (bitsOf s))) e λ ds e1 e2.
     along-next (diff w) tell n i (m, number) (drop p (bitsOf s)) h e1 λ d ds′ r e3 e4 e5.
     next-got (fieldDec badIndex w (drop p (bitsOf s))) _ e3 λ v q e6 e7.
     let (t, y, z) = pick-got (within m number v) v q badIndex _ e7 in
@@ -81,7 +81,7 @@ number-at w n i m number s p h k e =
       there = there;
       more = undiffs (number - d) ds′;
       is = sym e2 ∙ ap (undiffs number) e5;
-      next = ap (numbersDec w (n - (i + 1)) 1 (number - d)) (sym behind ∙ z) ∙ ap (kept (undiffs (number - d))) e4;
+      next = ap (numbersDec w (n - (i + 1)) 1 (number - d)) (sym behind ∙ z) ∙ ap (keeping (undiffs (number - d))) e4;
     }
 
 pub numbers-end : (w n i m number : ℕ) (s : Bits) → n ≤ i → numbersDec w (n - i) m number s ≡ got [] s
@@ -89,7 +89,7 @@ numbers-end w n i m number s h = let z : n - i ≡ 0 = omega arith in ap (λ (k 
 
 pub numbers-length : (w n m l : ℕ) (s : Bits) {ns : List ℕ} {u : Bits} → numbersDec w n m l s ≡ got ns u → length ns ≡ n
 numbers-length w n m l s e =
-    kept-got (undiffs l) (alongDec (diff w) tell n (m, l) s) e λ ds e1 e2.
+    keeping-got (undiffs l) (alongDec (diff w) tell n (m, l) s) e λ ds e1 e2.
     ap length (sym e2) ∙ length-undiffs l ds ∙ along-back (diff w) tell n (m, l) s ds _ e1 .0 .0
 
 pub twos : (ns : List ℕ) → total (λ n. 2) ns ≡ 2 * length ns

@@ -15,7 +15,7 @@ use borrow.Author.Needs.{needs}
 use Rattle.trailing.proofs.walk_at.Statement.{statement}
 use Rattle.trailing.proofs.walk_at.Tie as tie
 
-count-read : (c : tie.After-sure2) → Reads (fieldDec badLine 8) (c .before .before .before .before .before .before .args .s .now) (c .before .before .before .before .before .before .args .p + endBits (c .before .before .before .before .before .before .args .scale .widths)) (found (c .sure2 .result .value) (c .sure2 .result .next .at))
+count-read : (c : tie.After-sure2) → Reads (fieldDec badLine 8) (c .before .before .before .before .before .before .args .block .now) (c .before .before .before .before .before .before .args .p + endBits (c .before .before .before .before .before .before .args .scale .widths)) (found (c .sure2 .result .value) (c .sure2 .result .next .at))
 count-read c =
     let e : c .before .before .before .before .before .before .args .p + 2 + c .before .before .before .before .before .before .args .scale .widths .b + 2 * c .before .before .before .before .before .before .args .scale .widths .c ≡ c .before .before .before .before .before .before .args .p + endBits (c .before .before .before .before .before .before .args .scale .widths) = omega arith in
     at-place e (c .sure2 .ensures .0 badLine)

@@ -5,8 +5,8 @@ use mathlib.Core.Path.{subst}
 use Rattle.bits.specs.Lists.{All}
 use Rattle.bits.specs.Bytes.{Byte}
 use Rattle.bits.proofs.Laws.Place.{all-bytes}
-use Rattle.writing.specs.Judged.{SheetRight, SheetIs}
-use Rattle.writing.specs.declared.Judged.{Judged}
+use Rattle.writing.specs.JudgedSheet.{SheetRight, SheetIs}
+use Rattle.writing.specs.declared.JudgedSheet.{JudgedSheet}
 use Rattle.writing.proofs.Laws.{refuses, no-room, record-there, laid}
 use borrow.Author.Needs.{needs}
 use Rattle.writing.proofs.write.Statement.{statement}
@@ -16,7 +16,7 @@ sheet-bytes : (c : tie.After-shared-slice-known) → All Byte (c .before .args .
 sheet-bytes c = all-bytes (c .before .args .sheet .now) (λ i. c .shared-slice-known .given i .fits)
 
 right : (c : tie.After-views) → SheetRight (c .before .before .before .before .before .args .sheet .now) (c .views .given .0 .0) (c .views .given .0 .1 .0)
-right c = subst (λ (r : Judged). SheetIs (c .before .before .before .before .before .args .sheet .now) r) (c .views .given .1) (c .before .before .judge-sheet .ensures)
+right c = subst (λ (r : JudgedSheet). SheetIs (c .before .before .before .before .before .args .sheet .now) r) (c .views .given .1) (c .before .before .judge-sheet .ensures)
 
 judge-sheet-requires : tie.Need-judge-sheet-requires
 judge-sheet-requires c κs = search needs
@@ -42,7 +42,7 @@ accept-requires c κs = search needs
 
 returns : tie.Need-returns
 returns c =
-    rw (c .refuse .ensures) (refuses (c .before .before .before .before .before .before .before .args .sheet .now) (c .before .before .before .before .before .before .before .args .bytes .now) (subst (λ (r : Judged). SheetIs (c .before .before .before .before .before .before .before .args .sheet .now) r) (c .before .before .number .given .1) (c .before .before .before .before .judge-sheet .ensures)))
+    rw (c .refuse .ensures) (refuses (c .before .before .before .before .before .before .before .args .sheet .now) (c .before .before .before .before .before .before .before .args .bytes .now) (subst (λ (r : JudgedSheet). SheetIs (c .before .before .before .before .before .before .before .args .sheet .now) r) (c .before .before .number .given .1) (c .before .before .before .before .judge-sheet .ensures)))
 
 returns-2 : tie.Need-returns-2
 returns-2 c =

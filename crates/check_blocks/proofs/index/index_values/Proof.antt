@@ -21,14 +21,14 @@ use borrow.Author.Needs.{needs}
 use Rattle.check_blocks.proofs.index.index_values.Statement.{statement}
 use Rattle.check_blocks.proofs.index.index_values.Tie as tie
 
-parts : (c : tie.Else1) (fs : List Field) → IndexThere (c .before .before .before .args .s .now) (c .before .before .before .args .p) fs → IndexParts (c .before .before .before .args .s .now) (c .before .before .before .args .p) fs
+parts : (c : tie.Else1) (fs : List Field) → IndexThere (c .before .before .before .args .sheet .now) (c .before .before .before .args .p) fs → IndexParts (c .before .before .before .args .sheet .now) (c .before .before .before .args .p) fs
 parts c fs h = index-parts fs h (told (not-false _ (c .if1 .left)) (c .before .starts .ensures .is fs (h .stand)))
 
-width : (c : tie.After-w) → widthValue .dec (bitsOf (part (c .before .before .before .before .before .before .before .args .s .now) (c .before .before .before .before .before .before .before .args .p + 3) (c .before .before .before .before .before .before .before .args .p + 4 - (c .before .before .before .before .before .before .before .args .p + 3)))) ≡ got (c .w .given .0 .0) []
-width c = subst (λ (r : WidthWorth). Told widthValue (part (c .before .before .before .before .before .before .before .args .s .now) (c .before .before .before .before .before .before .before .args .p + 3) (c .before .before .before .before .before .before .before .args .p + 4 - (c .before .before .before .before .before .before .before .args .p + 3))) (widthIs r)) (c .w .given .1) (c .before .before .width-value .ensures)
+width : (c : tie.After-w) → widthValue .dec (bitsOf (part (c .before .before .before .before .before .before .before .args .sheet .now) (c .before .before .before .before .before .before .before .args .p + 3) (c .before .before .before .before .before .before .before .args .p + 4 - (c .before .before .before .before .before .before .before .args .p + 3)))) ≡ got (c .w .given .0 .0) []
+width c = subst (λ (r : WidthWorth). Told widthValue (part (c .before .before .before .before .before .before .before .args .sheet .now) (c .before .before .before .before .before .before .before .args .p + 3) (c .before .before .before .before .before .before .before .args .p + 4 - (c .before .before .before .before .before .before .before .args .p + 3))) (widthIs r)) (c .w .given .1) (c .before .before .width-value .ensures)
 
-lists : (c : tie.After-list-values) (r : Counted) → c .list-values .result ≡ r → ListsAre (c .before .before .w .given .0 .0) (c .before .before .before .before .before .before .before .before .before .args .s .now) (c .before .before .before .before .before .before .before .before .before .args .p + 4) r
-lists c r e = subst (λ (x : Counted). ListsAre (c .before .before .w .given .0 .0) (c .before .before .before .before .before .before .before .before .before .args .s .now) (c .before .before .before .before .before .before .before .before .before .args .p + 4) x) e (c .list-values .ensures)
+lists : (c : tie.After-list-values) (r : Counted) → c .list-values .result ≡ r → ListsAre (c .before .before .w .given .0 .0) (c .before .before .before .before .before .before .before .before .before .args .sheet .now) (c .before .before .before .before .before .before .before .before .before .args .p + 4) r
+lists c r e = subst (λ (x : Counted). ListsAre (c .before .before .w .given .0 .0) (c .before .before .before .before .before .before .before .before .before .args .sheet .now) (c .before .before .before .before .before .before .before .before .before .args .p + 4) x) e (c .list-values .ensures)
 
 starts-requires : tie.Need-starts-requires
 starts-requires c κs =
@@ -70,7 +70,7 @@ enum-told c = search needs
 
 returns-2 : tie.Need-returns-2
 returns-2 c =
-    λ fs h. width-wrong (parts (c .before .before .before .before) fs h) (subst (λ (r : WidthWorth). Told widthValue (part (c .before .before .before .before .before .before .before .args .s .now) (c .before .before .before .before .before .before .before .args .p + 3) (c .before .before .before .before .before .before .before .args .p + 4 - (c .before .before .before .before .before .before .before .args .p + 3))) (widthIs r)) (c .enum-told .given .1) (c .before .before .width-value .ensures))
+    λ fs h. width-wrong (parts (c .before .before .before .before) fs h) (subst (λ (r : WidthWorth). Told widthValue (part (c .before .before .before .before .before .before .before .args .sheet .now) (c .before .before .before .before .before .before .before .args .p + 3) (c .before .before .before .before .before .before .before .args .p + 4 - (c .before .before .before .before .before .before .before .args .p + 3))) (widthIs r)) (c .enum-told .given .1) (c .before .before .width-value .ensures))
 
 list-values-requires : tie.Need-list-values-requires
 list-values-requires c κs =

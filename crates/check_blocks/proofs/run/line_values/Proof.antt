@@ -19,12 +19,12 @@ abbrev μ-loop : tie.MeasureT-loop
 μ-loop s p w ends next₀ bits₀ next bits =
     length s - next
 
-there : (c : tie.Then1 Inv-loop μ-loop) → c .before .before .loop .next + 3 ≤ length (c .before .before .before .before .before .before .args .s .now)
+there : (c : tie.Then1 Inv-loop μ-loop) → c .before .before .loop .next + 3 ≤ length (c .before .before .before .before .before .before .args .sheet .now)
 there c =
     let g = c .before .before .loop .inv .is (c .before .before .before .before .before .before .pre .0 .value) (c .before .before .before .before .before .before .pre .0 .holds) in
     three 3 (g .stand) (told (c .if1 .taken) (c .before .starts .ensures .is (g .left) (g .stand)))
 
-here : (c : tie.After-two-at Inv-loop μ-loop) → LineNext (c .before .before .before .before .before .before .before .args .w) (c .before .before .before .before .before .before .before .args .s .now) (c .before .before .before .before .before .before .before .args .p) (c .before .before .before .loop .next) (c .before .before .before .loop .bits) (c .before .before .before .loop .inv) (c .two-at .result)
+here : (c : tie.After-two-at Inv-loop μ-loop) → LineNext (c .before .before .before .before .before .before .before .args .w) (c .before .before .before .before .before .before .before .args .sheet .now) (c .before .before .before .before .before .before .before .args .p) (c .before .before .before .loop .next) (c .before .before .before .loop .bits) (c .before .before .before .loop .inv) (c .two-at .result)
 here c =
     let l = c .before .before .before .loop .inv in
     line-next l (c .before .before .before .before .before .before .before .pre .0 .value) (c .before .before .before .before .before .before .before .pre .0 .holds)
@@ -48,7 +48,7 @@ mul-ends-2 c =
 
 loop-holds : tie.Need-loop-holds Inv-loop μ-loop
 loop-holds c =
-    lines-first (c .before .before .before .args .w) (c .before .before .before .args .s .now) (c .before .before .before .args .p)
+    lines-first (c .before .before .before .args .w) (c .before .before .before .args .sheet .now) (c .before .before .before .args .p)
 
 starts-requires : tie.Need-starts-requires Inv-loop μ-loop
 starts-requires c κs =

@@ -20,12 +20,12 @@ abbrev μ-loop : tie.MeasureT-loop
 μ-loop s p w next₀ bits₀ l₀ next bits l =
     length s - next
 
-there : (c : tie.Then1 Inv-loop μ-loop) → c .before .before .loop .next + 3 ≤ length (c .before .before .before .before .args .s .now)
+there : (c : tie.Then1 Inv-loop μ-loop) → c .before .before .loop .next + 3 ≤ length (c .before .before .before .before .args .sheet .now)
 there c =
     let g = c .before .before .loop .inv .is (c .before .before .before .before .pre .0 .value) (c .before .before .before .before .pre .0 .holds) in
     three 5 (g .stand) (told (c .if1 .taken) (c .before .starts .ensures .is (g .left) (g .stand)))
 
-here : (c : tie.After-two-at Inv-loop μ-loop) → ListNext (c .before .before .before .before .before .args .w) (c .before .before .before .before .before .args .s .now) (c .before .before .before .before .before .args .p) (c .before .before .before .loop .next) (c .before .before .before .loop .l) (c .before .before .before .loop .bits) (c .before .before .before .loop .inv) (c .two-at .result)
+here : (c : tie.After-two-at Inv-loop μ-loop) → ListNext (c .before .before .before .before .before .args .w) (c .before .before .before .before .before .args .sheet .now) (c .before .before .before .before .before .args .p) (c .before .before .before .loop .next) (c .before .before .before .loop .l) (c .before .before .before .loop .bits) (c .before .before .before .loop .inv) (c .two-at .result)
 here c =
     let l = c .before .before .before .loop .inv in
     list-next l (c .before .before .before .before .before .pre .0 .value) (c .before .before .before .before .before .pre .0 .holds)
@@ -33,7 +33,7 @@ here c =
 
 loop-holds : tie.Need-loop-holds Inv-loop μ-loop
 loop-holds c =
-    lists-first (c .before .args .w) (c .before .args .s .now) (c .before .args .p)
+    lists-first (c .before .args .w) (c .before .args .sheet .now) (c .before .args .p)
 
 starts-requires : tie.Need-starts-requires Inv-loop μ-loop
 starts-requires c κs =

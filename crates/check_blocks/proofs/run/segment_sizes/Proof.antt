@@ -21,13 +21,13 @@ abbrev μ-loop : tie.MeasureT-loop
 μ-loop s p end₀ bytes₀ end bytes =
     length s - end
 
-going : (c : tie.At-loop Inv-loop μ-loop) → SegmentsGoing (c .before .before .args .s .now) (c .before .before .pre .value) (c .loop .end) (c .loop .bytes)
+going : (c : tie.At-loop Inv-loop μ-loop) → SegmentsGoing (c .before .before .args .sheet .now) (c .before .before .pre .value) (c .loop .end) (c .loop .bytes)
 going c = c .loop .inv .1 (c .before .before .pre .value) (c .before .before .pre .holds)
 
-there : (c : tie.Then1 Inv-loop μ-loop) → c .before .before .loop .end + 3 ≤ length (c .before .before .before .before .args .s .now)
+there : (c : tie.Then1 Inv-loop μ-loop) → c .before .before .loop .end + 3 ≤ length (c .before .before .before .before .args .sheet .now)
 there c = let g = going (c .before .before) in three 6 (g .1 .stand) (told (c .if1 .taken) (c .before .starts .ensures .is (g .1 .left) (g .1 .stand)))
 
-here : (c : tie.After-two-at Inv-loop μ-loop) (fs : List Field) (h : Segments (c .before .before .before .before .before .args .s .now) (c .before .before .before .before .before .args .p) fs) → Next 6 (c .before .before .before .before .before .args .s .now) (c .before .before .before .loop .end) (c .two-at .result) (c .before .before .before .loop .inv .1 fs h .1 .left)
+here : (c : tie.After-two-at Inv-loop μ-loop) (fs : List Field) (h : Segments (c .before .before .before .before .before .args .sheet .now) (c .before .before .before .before .before .args .p) fs) → Next 6 (c .before .before .before .before .before .args .sheet .now) (c .before .before .before .loop .end) (c .two-at .result) (c .before .before .before .loop .inv .1 fs h .1 .left)
 here c fs h = let g = c .before .before .before .loop .inv .1 fs h in next-field 6 (g .1 .stand) (told (c .before .if1 .taken) (c .before .before .starts .ensures .is (g .1 .left) (g .1 .stand))) (c .two-at .ensures)
 
 loop-holds : tie.Need-loop-holds Inv-loop μ-loop

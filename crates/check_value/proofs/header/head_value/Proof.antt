@@ -14,7 +14,7 @@ use borrow.Author.Needs.{needs}
 use Rattle.check_value.proofs.header.head_value.Statement.{statement}
 use Rattle.check_value.proofs.header.head_value.Tie as tie
 
-read-fields : (c : tie.After-head) → Reads (headFields badValue (earlierOf (c .before .before .before .before .before .args .seen .now)) .dec) (c .before .before .before .before .before .args .s .now) 0 (found (c .head .given .0 .0) (c .head .given .0 .1 .0 .at))
+read-fields : (c : tie.After-head) → Reads (headFields badValue (earlierOf (c .before .before .before .before .before .args .seen .now)) .dec) (c .before .before .before .before .before .args .value .now) 0 (found (c .head .given .0 .0) (c .head .given .0 .1 .0 .at))
 read-fields c = at-place (c .before .before .before .start .ensures) (known (ap (fieldsAt badValue) (c .head .given .1)) (c .before .before .head-fields .ensures badValue))
 
 start-requires : tie.Need-start-requires

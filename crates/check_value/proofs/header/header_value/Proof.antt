@@ -15,10 +15,10 @@ use borrow.Author.Needs.{needs}
 use Rattle.check_value.proofs.header.header_value.Statement.{statement}
 use Rattle.check_value.proofs.header.header_value.Tie as tie
 
-device : (c : tie.After-sure) → Reads (fieldDec badValue 16) (c .before .before .before .args .s .now) 0 (found (c .sure .result .value) (c .sure .result .next .at))
+device : (c : tie.After-sure) → Reads (fieldDec badValue 16) (c .before .before .before .args .value .now) 0 (found (c .sure .result .value) (c .sure .result .next .at))
 device c = at-place (c .before .start .ensures) (c .sure .ensures .0 badValue)
 
-read-scale : (c : tie.After-scale) → Reads (scale badValue .dec) (c .before .before .before .before .before .before .args .s .now) (c .before .before .before .sure .result .next .at) (found (c .scale .given .0 .0) (c .scale .given .0 .1 .0 .at))
+read-scale : (c : tie.After-scale) → Reads (scale badValue .dec) (c .before .before .before .before .before .before .args .value .now) (c .before .before .before .sure .result .next .at) (found (c .scale .given .0 .0) (c .scale .given .0 .1 .0 .at))
 read-scale c = known (ap (scaleAt badValue) (c .scale .given .1)) (c .before .before .scale-at .ensures badValue)
 
 start-requires : tie.Need-start-requires

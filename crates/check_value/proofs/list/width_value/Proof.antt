@@ -15,7 +15,7 @@ use borrow.Author.Needs.{needs}
 use Rattle.check_value.proofs.list.width_value.Statement.{statement}
 use Rattle.check_value.proofs.list.width_value.Tie as tie
 
-read-w : (c : tie.After-w) → Reads (ranged badValue 8 1 16 .dec) (c .before .before .before .before .before .args .s .now) 0 (found (c .w .given .0 .0) (c .w .given .0 .1 .0 .at))
+read-w : (c : tie.After-w) → Reads (ranged badValue 8 1 16 .dec) (c .before .before .before .before .before .args .value .now) 0 (found (c .w .given .0 .0) (c .w .given .0 .1 .0 .at))
 read-w c = at-place (c .before .before .before .start .ensures) (known (ap (rangedAt badValue _) (c .w .given .1)) (c .before .before .ranged-at .ensures badValue))
 
 start-requires : tie.Need-start-requires

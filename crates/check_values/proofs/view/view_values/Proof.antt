@@ -24,26 +24,26 @@ use borrow.Author.Needs.{needs}
 use Rattle.check_values.proofs.view.view_values.Statement.{statement}
 use Rattle.check_values.proofs.view.view_values.Tie as tie
 
-parts : (c : tie.Start) → ViewParts (c .args .s .now) (c .args .p) (c .pre .0 .value)
+parts : (c : tie.Start) → ViewParts (c .args .sheet .now) (c .args .p) (c .pre .0 .value)
 parts c = view-parts (c .pre .0 .value) (c .pre .0 .holds)
 
-head : (c : tie.After-head-value) (r : HeadWorth) → c .head-value .result ≡ r → Told (viewHeadValue (earlierOf (c .before .before .before .args .seen .now))) (part (c .before .before .before .args .s .now) (c .before .before .before .args .p + 3) (c .before .before .before .args .p + 11 - (c .before .before .before .args .p + 3))) (headIs r)
-head c r e = subst (λ (x : HeadWorth). Told (viewHeadValue (earlierOf (c .before .before .before .args .seen .now))) (part (c .before .before .before .args .s .now) (c .before .before .before .args .p + 3) (c .before .before .before .args .p + 11 - (c .before .before .before .args .p + 3))) (headIs x)) e (c .head-value .ensures)
+head : (c : tie.After-head-value) (r : HeadWorth) → c .head-value .result ≡ r → Told (viewHeadValue (earlierOf (c .before .before .before .args .seen .now))) (part (c .before .before .before .args .sheet .now) (c .before .before .before .args .p + 3) (c .before .before .before .args .p + 11 - (c .before .before .before .args .p + 3))) (headIs r)
+head c r e = subst (λ (x : HeadWorth). Told (viewHeadValue (earlierOf (c .before .before .before .args .seen .now))) (part (c .before .before .before .args .sheet .now) (c .before .before .before .args .p + 3) (c .before .before .before .args .p + 11 - (c .before .before .before .args .p + 3))) (headIs x)) e (c .head-value .ensures)
 
-head-is : (c : tie.After-h) → viewHeadValue (earlierOf (c .before .before .before .before .before .args .seen .now)) .dec (bitsOf (part (c .before .before .before .before .before .args .s .now) (c .before .before .before .before .before .args .p + 3) (c .before .before .before .before .before .args .p + 11 - (c .before .before .before .before .before .args .p + 3)))) ≡ got (c .h .given .0 .0) []
+head-is : (c : tie.After-h) → viewHeadValue (earlierOf (c .before .before .before .before .before .args .seen .now)) .dec (bitsOf (part (c .before .before .before .before .before .args .sheet .now) (c .before .before .before .before .before .args .p + 3) (c .before .before .before .before .before .args .p + 11 - (c .before .before .before .before .before .args .p + 3)))) ≡ got (c .h .given .0 .0) []
 head-is c = head (c .before .before) _ (c .h .given .1)
 
-head-reads : (c : tie.After-h) (ps : List ℕ) → Seen (c .before .before .before .before .before .args .seen .now) ps → viewHeadValue (λ q. occurs q ps) .dec (bitsOf (part (c .before .before .before .before .before .args .s .now) (c .before .before .before .before .before .args .p + 3) (c .before .before .before .before .before .args .p + 11 - (c .before .before .before .before .before .args .p + 3)))) ≡ got (c .h .given .0 .0) []
+head-reads : (c : tie.After-h) (ps : List ℕ) → Seen (c .before .before .before .before .before .args .seen .now) ps → viewHeadValue (λ q. occurs q ps) .dec (bitsOf (part (c .before .before .before .before .before .args .sheet .now) (c .before .before .before .before .before .args .p + 3) (c .before .before .before .before .before .args .p + 11 - (c .before .before .before .before .before .args .p + 3)))) ≡ got (c .h .given .0 .0) []
 head-reads c ps k = head-seen _ _ k (head-is c)
 
-lines : (c : tie.After-line-values) (r : Counted) → c .line-values .result ≡ r → LinesAre (c .before .before .before .before .before .before .before .args .w) (c .before .before .before .before .before .before .before .args .s .now) (c .before .before .before .before .before .before .before .args .p + 11) r
-lines c r e = subst (λ (x : Counted). LinesAre (c .before .before .before .before .before .before .before .args .w) (c .before .before .before .before .before .before .before .args .s .now) (c .before .before .before .before .before .before .before .args .p + 11) x) e (c .line-values .ensures)
+lines : (c : tie.After-line-values) (r : Counted) → c .line-values .result ≡ r → LinesAre (c .before .before .before .before .before .before .before .args .w) (c .before .before .before .before .before .before .before .args .sheet .now) (c .before .before .before .before .before .before .before .args .p + 11) r
+lines c r e = subst (λ (x : Counted). LinesAre (c .before .before .before .before .before .before .before .args .w) (c .before .before .before .before .before .before .before .args .sheet .now) (c .before .before .before .before .before .before .before .args .p + 11) x) e (c .line-values .ensures)
 
-indexed : (c : tie.After-index-values) (r : Counted) → c .index-values .result ≡ r → IndexIs (c .before .before .before .before .before .before .before .before .before .before .before .args .s .now) (c .before .before .index .given .0 .0) r
-indexed c r e = subst (λ (x : Counted). IndexIs (c .before .before .before .before .before .before .before .before .before .before .before .args .s .now) (c .before .before .index .given .0 .0) x) e (c .index-values .ensures)
+indexed : (c : tie.After-index-values) (r : Counted) → c .index-values .result ≡ r → IndexIs (c .before .before .before .before .before .before .before .before .before .before .before .args .sheet .now) (c .before .before .index .given .0 .0) r
+indexed c r e = subst (λ (x : Counted). IndexIs (c .before .before .before .before .before .before .before .before .before .before .before .args .sheet .now) (c .before .before .index .given .0 .0) x) e (c .index-values .ensures)
 
 -- the segments end within the sheet
-ends : (c : tie.After-segment-sizes) → c .segment-sizes .result .end ≤ length (c .before .before .before .before .before .before .before .before .before .before .before .before .before .before .before .args .s .now)
+ends : (c : tie.After-segment-sizes) → c .segment-sizes .result .end ≤ length (c .before .before .before .before .before .before .before .before .before .before .before .before .before .before .before .args .sheet .now)
 ends c =
     let D = parts (c .before .before .before .before .before .before .before .before .before .before .before .before .before .before .before) in
     let L = lines (c .before .before .before .before .before .before .before .before) _ (c .before .before .before .before .before .before .index .given .1) .is (D .others) (D .lines) in

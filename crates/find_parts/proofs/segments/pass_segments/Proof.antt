@@ -22,14 +22,14 @@ abbrev μ-loop : tie.MeasureT-loop
 μ-loop s most next₀ count₀ next count =
     most - count
 
-bytes : (c : tie.At-loop Inv-loop μ-loop) → All Byte (c .before .before .args .s .now)
-bytes c = all-bytes (c .before .before .args .s .now) (λ i. c .before .shared-slice-known .given i .fits)
+bytes : (c : tie.At-loop Inv-loop μ-loop) → All Byte (c .before .before .args .block .now)
+bytes c = all-bytes (c .before .before .args .block .now) (λ i. c .before .shared-slice-known .given i .fits)
 
-further : (c : tie.Then1 Inv-loop μ-loop) → c .before .before .loop .next < length (c .before .before .before .before .args .s .now)
+further : (c : tie.Then1 Inv-loop μ-loop) → c .before .before .loop .next < length (c .before .before .before .before .args .block .now)
 further c = ltb-true _ _ (c .if1 .taken)
 
 -- the segment that starts there
-here : (c : tie.Then1 Inv-loop μ-loop) → SegmentAt (c .before .before .before .before .args .s .now) (c .before .before .loop .next)
+here : (c : tie.Then1 Inv-loop μ-loop) → SegmentAt (c .before .before .before .before .args .block .now) (c .before .before .loop .next)
     (drop (c .before .before .loop .count) (c .before .before .before .before .pre .value)) (c .before .before .before .before .pre .left)
 here c =
     let pre = c .before .before .before .before .pre in
@@ -37,7 +37,7 @@ here c =
 
 loop-holds : tie.Need-loop-holds Inv-loop μ-loop
 loop-holds c =
-    (omega arith, past-none (c .before .args .s .now))
+    (omega arith, past-none (c .before .args .block .now))
 
 mul-t9 : tie.Need-mul-t9 Inv-loop μ-loop
 mul-t9 c =

@@ -29,7 +29,7 @@ below {s} {i} h r e =
     rw (← v) (h .below)
 
 loop-holds : tie.Need-loop-holds Inv-loop μ-loop
-loop-holds c = (omega arith, λ r e. sought-first (c .before .args .s .now) e)
+loop-holds c = (omega arith, λ r e. sought-first (c .before .args .bytes .now) e)
 
 add-blocks-at : tie.Need-add-blocks-at Inv-loop μ-loop
 add-blocks-at c =

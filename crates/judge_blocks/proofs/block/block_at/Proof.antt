@@ -12,7 +12,7 @@ use borrow.Author.Needs.{needs}
 use Rattle.judge_blocks.proofs.block.block_at.Statement.{statement}
 use Rattle.judge_blocks.proofs.block.block_at.Tie as tie
 
-counted : (c : tie.After-sure) → Reads (fieldDec past 16) (c .before .before .before .args .s .now) (8 * c .before .before .before .args .a) (found (c .sure .result .value) (8 * (c .before .before .before .args .a + 2)))
+counted : (c : tie.After-sure) → Reads (fieldDec past 16) (c .before .before .before .args .bytes .now) (8 * c .before .before .before .args .a) (found (c .sure .result .value) (8 * (c .before .before .before .args .a + 2)))
 counted c =
     let e : c .sure .result .next .at ≡ 8 * (c .before .before .before .args .a + 2) = omega (arith, c .sure .ensures .1) in
     up-to e (c .sure .ensures .0 past)

@@ -41,35 +41,35 @@ abbrev μ-loop : tie.MeasureT-loop
     lines - l
 
 -- the first byte is the width
-width : (c : tie.After-w Inv-loop2 μ-loop2 Inv-loop μ-loop) → Reads (ranged badIndex 8 1 16 .dec) (c .before .before .before .before .before .before .args .s .now) 0 (found (c .w .given .0 .0) (c .w .given .0 .1 .0 .at))
+width : (c : tie.After-w Inv-loop2 μ-loop2 Inv-loop μ-loop) → Reads (ranged badIndex 8 1 16 .dec) (c .before .before .before .before .before .before .args .block .now) 0 (found (c .w .given .0 .0) (c .w .given .0 .1 .0 .at))
 width c = at-place (c .before .before .before .start .ensures) (known (ap (rangedAt badIndex _) (c .w .given .1)) (c .before .before .ranged-at .ensures badIndex))
 
 -- a list at fault is the index at fault
-list-bad : (c : tie.In-loop Inv-loop2 μ-loop2 Inv-loop μ-loop) {x : ℕ} → Reads (neighbours (c .before .before .before .w .given .0 .0) (c .before .loop .l) .dec) (c .before .before .before .before .before .before .before .before .before .args .s .now) (c .before .loop .p .at) (fault badIndex x) → Reads (indexDec (c .before .before .before .before .before .before .before .before .before .args .lines)) (c .before .before .before .before .before .before .before .before .before .args .s .now) 0 (fault badIndex x)
+list-bad : (c : tie.In-loop Inv-loop2 μ-loop2 Inv-loop μ-loop) {x : ℕ} → Reads (neighbours (c .before .before .before .w .given .0 .0) (c .before .loop .l) .dec) (c .before .before .before .before .before .before .before .before .before .args .block .now) (c .before .loop .p .at) (fault badIndex x) → Reads (indexDec (c .before .before .before .before .before .before .before .before .before .args .lines)) (c .before .before .before .before .before .before .before .before .before .args .block .now) 0 (fault badIndex x)
 list-bad c h =
     let a = c .before .before .before .before .before .before .before .before .before .args in
     let l = c .before .loop in
     lists-stop (a .lines) (a .s .now) (omega arith) (width (c .before .before .before)) (l .size) (omega (arith, c .loop-test .taken)) (l .inv .3) h
 
 -- a list's count
-counted : (c : tie.After-count Inv-loop2 μ-loop2 Inv-loop μ-loop) → Reads (fieldDec badIndex (c .before .before .before .before .before .before .w .given .0 .0)) (c .before .before .before .before .before .before .before .before .before .before .before .before .args .s .now) (c .before .before .before .before .loop .p .at) (found (c .count .given .0 .0) (c .count .given .0 .1 .0 .at))
+counted : (c : tie.After-count Inv-loop2 μ-loop2 Inv-loop μ-loop) → Reads (fieldDec badIndex (c .before .before .before .before .before .before .w .given .0 .0)) (c .before .before .before .before .before .before .before .before .before .before .before .before .args .block .now) (c .before .before .before .before .loop .p .at) (found (c .count .given .0 .0) (c .count .given .0 .1 .0 .at))
 counted c = known (ap (taken badIndex) (c .count .given .1)) (c .before .before .field .ensures badIndex)
 
 small : (c : tie.After-count Inv-loop2 μ-loop2 Inv-loop μ-loop) → c .count .given .0 .0 ≤ 65535
 small c = count-small (width-most (width (c .before .before .before .before .before .before))) (counted c)
 
 -- a difference at fault is the list at fault
-diff-bad : (c : tie.In-loop2 Inv-loop2 μ-loop2 Inv-loop μ-loop) {x : ℕ} → Reads (diff (c .before .before .before .before .before .before .before .before .before .w .given .0 .0) (c .before .loop2 .least, c .before .loop2 .most) .dec) (c .before .before .before .before .before .before .before .before .before .before .before .before .before .before .before .args .s .now) (c .before .loop2 .p .at) (fault badIndex x) → Reads (indexDec (c .before .before .before .before .before .before .before .before .before .before .before .before .before .before .before .args .lines)) (c .before .before .before .before .before .before .before .before .before .before .before .before .before .before .before .args .s .now) 0 (fault badIndex x)
+diff-bad : (c : tie.In-loop2 Inv-loop2 μ-loop2 Inv-loop μ-loop) {x : ℕ} → Reads (diff (c .before .before .before .before .before .before .before .before .before .w .given .0 .0) (c .before .loop2 .least, c .before .loop2 .most) .dec) (c .before .before .before .before .before .before .before .before .before .before .before .before .before .before .before .args .block .now) (c .before .loop2 .p .at) (fault badIndex x) → Reads (indexDec (c .before .before .before .before .before .before .before .before .before .before .before .before .before .before .before .args .lines)) (c .before .before .before .before .before .before .before .before .before .before .before .before .before .before .before .args .block .now) 0 (fault badIndex x)
 diff-bad c h =
     let m = c .before .loop2 in
     list-bad (c .before .before .before .before .before .before) (diffs-stop _ (c .before .before .before .before .before .before .before .loop .l) (counted (c .before .before .before)) (m .least, m .most) (omega (arith, c .loop2-test .taken)) (m .inv .2) h)
 
 -- a difference
-differs : (c : tie.After-d Inv-loop2 μ-loop2 Inv-loop μ-loop) → Reads (fieldDec badIndex (c .before .before .before .before .before .before .before .before .before .before .before .before .w .given .0 .0)) (c .before .before .before .before .before .before .before .before .before .before .before .before .before .before .before .before .before .before .args .s .now) (c .before .before .before .before .loop2 .p .at) (found (c .d .given .0 .0) (c .d .given .0 .1 .0 .at))
+differs : (c : tie.After-d Inv-loop2 μ-loop2 Inv-loop μ-loop) → Reads (fieldDec badIndex (c .before .before .before .before .before .before .before .before .before .before .before .before .w .given .0 .0)) (c .before .before .before .before .before .before .before .before .before .before .before .before .before .before .before .before .before .before .args .block .now) (c .before .before .before .before .loop2 .p .at) (found (c .d .given .0 .0) (c .d .given .0 .1 .0 .at))
 differs c = known (ap (taken badIndex) (c .d .given .1)) (c .before .before .field2 .ensures badIndex)
 
 -- all lists are read
-all-lists : (c : tie.After-loop Inv-loop2 μ-loop2 Inv-loop μ-loop) {P : Type 0} → ((i : Index) → 4 + total listSize (i .lists) ≡ c .before .loop .size → Reads (index (c .before .before .before .before .before .before .before .before .before .args .lines) .dec) (c .before .before .before .before .before .before .before .before .before .args .s .now) 0 (found i (c .before .loop .p .at)) → P) → P
+all-lists : (c : tie.After-loop Inv-loop2 μ-loop2 Inv-loop μ-loop) {P : Type 0} → ((i : Index) → 4 + total listSize (i .lists) ≡ c .before .loop .size → Reads (index (c .before .before .before .before .before .before .before .before .before .args .lines) .dec) (c .before .before .before .before .before .before .before .before .before .args .block .now) 0 (found i (c .before .loop .p .at)) → P) → P
 all-lists c g =
     let a = c .before .before .before .before .before .before .before .before .before .args in
     let l = c .before .loop in
@@ -99,7 +99,7 @@ returns-2 c =
 
 loop-holds : tie.Need-loop-holds Inv-loop2 μ-loop2 Inv-loop μ-loop
 loop-holds c =
-    (omega arith, width (c .before) .within, omega arith, lists-start (c .before .w .given .0 .0) (c .before .before .before .before .before .before .before .args .s .now) 4 (c .before .before .before .before .before .before .before .args .lines) (c .before .w .given .0 .1 .0 .at))
+    (omega arith, width (c .before) .within, omega arith, lists-start (c .before .w .given .0 .0) (c .before .before .before .before .before .before .before .args .block .now) 4 (c .before .before .before .before .before .before .before .args .lines) (c .before .w .given .0 .1 .0 .at))
 
 field-requires : tie.Need-field-requires Inv-loop2 μ-loop2 Inv-loop μ-loop
 field-requires c κs =
@@ -117,7 +117,7 @@ returns-3 c =
 
 loop2-holds : tie.Need-loop2-holds Inv-loop2 μ-loop2 Inv-loop μ-loop
 loop2-holds c =
-    (omega arith, counted (c .before) .within, diffs-start (c .before .before .before .before .before .before .before .w .given .0 .0) (c .before .before .before .before .before .before .before .before .before .before .before .before .before .args .s .now) (c .before .count .given .0 .0) (0, c .before .before .before .before .before .loop .l) (c .before .count .given .0 .1 .0 .at))
+    (omega arith, counted (c .before) .within, diffs-start (c .before .before .before .before .before .before .before .w .given .0 .0) (c .before .before .before .before .before .before .before .before .before .before .before .before .before .args .block .now) (c .before .count .given .0 .0) (0, c .before .before .before .before .before .loop .l) (c .before .count .given .0 .1 .0 .at))
 
 field-requires-2 : tie.Need-field-requires-2 Inv-loop2 μ-loop2 Inv-loop μ-loop
 field-requires-2 c κs =

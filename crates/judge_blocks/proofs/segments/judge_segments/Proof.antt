@@ -26,7 +26,7 @@ abbrev μ-loop : tie.MeasureT-loop
 
 -- the block, and the place of the segment
 abbrev block : tie.At-loop Inv-loop μ-loop → List ℕ
-block c = c .before .before .before .args .s .now
+block c = c .before .before .before .args .block .now
 
 abbrev place : tie.At-loop Inv-loop μ-loop → ℕ
 place c = c .loop .p .at
@@ -65,7 +65,7 @@ start-requires c κs = search needs
 
 loop-holds : tie.Need-loop-holds Inv-loop μ-loop
 loop-holds c =
-    (omega (arith, c .start .ensures), omega arith, (0, (omega arith, rw (c .start .ensures) (fill-start (c .before .before .args .s .now)))))
+    (omega (arith, c .start .ensures), omega arith, (0, (omega arith, rw (c .start .ensures) (fill-start (c .before .before .args .block .now)))))
 
 sub-if2 : tie.Need-sub-if2 Inv-loop μ-loop
 sub-if2 c = search needs

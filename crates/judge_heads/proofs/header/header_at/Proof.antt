@@ -17,7 +17,7 @@ use Rattle.judge_heads.proofs.header.header_at.Statement.{statement}
 use Rattle.judge_heads.proofs.header.header_at.Tie as tie
 
 abbrev lent : tie.Start → List ℕ
-lent c = c .args .s .now
+lent c = c .args .bytes .now
 
 identifier : (c : tie.After-sure) → FieldAt (lent (c .before .before .before)) 0 32 (c .sure .result .value) (c .sure .result .next .at)
 identifier c = field-from (c .before .start .ensures) (c .sure .ensures)

@@ -13,25 +13,25 @@ use borrow.Author.Needs.{needs}
 use Rattle.judge_heads.proofs.header.scale_at.Statement.{statement}
 use Rattle.judge_heads.proofs.header.scale_at.Tie as tie
 
-read-points : (c : tie.After-points) (e : ℕ) → Reads (ranged e 8 1 255 .dec) (c .before .before .before .before .args .s .now) (c .before .before .before .before .args .p .at) (found (c .points .given .0 .0) (c .points .given .0 .1 .0 .at))
+read-points : (c : tie.After-points) (e : ℕ) → Reads (ranged e 8 1 255 .dec) (c .before .before .before .before .args .bytes .now) (c .before .before .before .before .args .p .at) (found (c .points .given .0 .0) (c .points .given .0 .1 .0 .at))
 read-points c e = known (ap (rangedAt e _) (c .points .given .1)) (c .before .before .ranged-at .ensures e)
 
-read-c : (c : tie.After-c) (e : ℕ) → Reads (ranged e 8 1 16 .dec) (c .before .before .before .before .before .before .before .before .args .s .now) (c .before .before .before .before .points .given .0 .1 .0 .at) (found (c .c .given .0 .0) (c .c .given .0 .1 .0 .at))
+read-c : (c : tie.After-c) (e : ℕ) → Reads (ranged e 8 1 16 .dec) (c .before .before .before .before .before .before .before .before .args .bytes .now) (c .before .before .before .before .points .given .0 .1 .0 .at) (found (c .c .given .0 .0) (c .c .given .0 .1 .0 .at))
 read-c c e = known (ap (rangedAt e _) (c .c .given .1)) (c .before .before .ranged-at2 .ensures e)
 
-read-b : (c : tie.After-b) (e : ℕ) → Reads (ranged e 8 4 8 .dec) (c .before .before .before .before .before .before .before .before .before .before .before .before .args .s .now) (c .before .before .before .before .c .given .0 .1 .0 .at) (found (c .b .given .0 .0) (c .b .given .0 .1 .0 .at))
+read-b : (c : tie.After-b) (e : ℕ) → Reads (ranged e 8 4 8 .dec) (c .before .before .before .before .before .before .before .before .before .before .before .before .args .bytes .now) (c .before .before .before .before .c .given .0 .1 .0 .at) (found (c .b .given .0 .0) (c .b .given .0 .1 .0 .at))
 read-b c e = known (ap (rangedAt e _) (c .b .given .1)) (c .before .before .ranged-at3 .ensures e)
 
-read-k : (c : tie.After-k) (e : ℕ) → Reads (ranged e 8 2 8 .dec) (c .before .before .before .before .before .before .before .before .before .before .before .before .before .before .before .before .args .s .now) (c .before .before .before .before .b .given .0 .1 .0 .at) (found (c .k .given .0 .0) (c .k .given .0 .1 .0 .at))
+read-k : (c : tie.After-k) (e : ℕ) → Reads (ranged e 8 2 8 .dec) (c .before .before .before .before .before .before .before .before .before .before .before .before .before .before .before .before .args .bytes .now) (c .before .before .before .before .b .given .0 .1 .0 .at) (found (c .k .given .0 .0) (c .k .given .0 .1 .0 .at))
 read-k c e = known (ap (rangedAt e _) (c .k .given .1)) (c .before .before .ranged-at4 .ensures e)
 
-read-step : (c : tie.After-step) (e : ℕ) → Reads (ranged e 8 1 255 .dec) (c .before .before .before .before .before .before .before .before .before .before .before .before .before .before .before .before .before .before .before .before .args .s .now) (c .before .before .before .before .k .given .0 .1 .0 .at) (found (c .step .given .0 .0) (c .step .given .0 .1 .0 .at))
+read-step : (c : tie.After-step) (e : ℕ) → Reads (ranged e 8 1 255 .dec) (c .before .before .before .before .before .before .before .before .before .before .before .before .before .before .before .before .before .before .before .before .args .bytes .now) (c .before .before .before .before .k .given .0 .1 .0 .at) (found (c .step .given .0 .0) (c .step .given .0 .1 .0 .at))
 read-step c e = known (ap (rangedAt e _) (c .step .given .1)) (c .before .before .ranged-at5 .ensures e)
 
-read-ratio : (c : tie.After-ratio) (e : ℕ) → Reads (fieldDec e 8) (c .before .before .before .before .before .before .before .before .before .before .before .before .before .before .before .before .before .before .before .before .before .before .before .before .args .s .now) (c .before .before .before .before .step .given .0 .1 .0 .at) (found (c .ratio .given .0 .0) (c .ratio .given .0 .1 .0 .at))
+read-ratio : (c : tie.After-ratio) (e : ℕ) → Reads (fieldDec e 8) (c .before .before .before .before .before .before .before .before .before .before .before .before .before .before .before .before .before .before .before .before .before .before .before .before .args .bytes .now) (c .before .before .before .before .step .given .0 .1 .0 .at) (found (c .ratio .given .0 .0) (c .ratio .given .0 .1 .0 .at))
 read-ratio c e = known (ap (taken e) (c .ratio .given .1)) (c .before .before .field .ensures e)
 
-read-half : (c : tie.After-half) (e : ℕ) → Reads (ranged e 8 1 255 .dec) (c .before .before .before .before .before .before .before .before .before .before .before .before .before .before .before .before .before .before .before .before .before .before .before .before .before .before .before .before .args .s .now) (c .before .before .before .before .ratio .given .0 .1 .0 .at) (found (c .half .given .0 .0) (c .half .given .0 .1 .0 .at))
+read-half : (c : tie.After-half) (e : ℕ) → Reads (ranged e 8 1 255 .dec) (c .before .before .before .before .before .before .before .before .before .before .before .before .before .before .before .before .before .before .before .before .before .before .before .before .before .before .before .before .args .bytes .now) (c .before .before .before .before .ratio .given .0 .1 .0 .at) (found (c .half .given .0 .0) (c .half .given .0 .1 .0 .at))
 read-half c e = known (ap (rangedAt e _) (c .half .given .1)) (c .before .before .ranged-at6 .ensures e)
 
 ranged-at-requires : tie.Need-ranged-at-requires

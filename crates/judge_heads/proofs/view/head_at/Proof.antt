@@ -14,10 +14,10 @@ use borrow.Author.Needs.{needs}
 use Rattle.judge_heads.proofs.view.head_at.Statement.{statement}
 use Rattle.judge_heads.proofs.view.head_at.Tie as tie
 
-read-fields : (c : tie.After-head) → Reads (headFields 7 (earlierOf (c .before .before .before .before .before .args .seen .now)) .dec) (c .before .before .before .before .before .args .s .now) (8 * c .before .before .before .before .before .args .a) (found (c .head .given .0 .0) (c .head .given .0 .1 .0 .at))
+read-fields : (c : tie.After-head) → Reads (headFields 7 (earlierOf (c .before .before .before .before .before .args .seen .now)) .dec) (c .before .before .before .before .before .args .bytes .now) (8 * c .before .before .before .before .before .args .a) (found (c .head .given .0 .0) (c .head .given .0 .1 .0 .at))
 read-fields c = known (ap (fieldsAt 7) (c .head .given .1)) (c .before .before .head-fields .ensures 7)
 
-room : (c : tie.Else1) → 8 * c .before .before .args .a + 80 ≤ 8 * length (c .before .before .args .s .now)
+room : (c : tie.Else1) → 8 * c .before .before .args .a + 80 ≤ 8 * length (c .before .before .args .bytes .now)
 room c = omega (arith, c .if1 .left, c .before .before .pre)
 
 behind-fields : (c : tie.After-head) → c .head .given .0 .1 .0 .at ≡ 8 * c .before .before .before .before .before .args .a + 64

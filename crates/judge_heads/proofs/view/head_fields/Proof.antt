@@ -20,7 +20,7 @@ use Rattle.judge_heads.proofs.view.head_fields.Tie as tie
 
 -- the bytes, the place and the counts lent
 abbrev lent : tie.After-sure4 → List ℕ
-lent c = c .before .before .before .before .before .args .s .now
+lent c = c .before .before .before .before .before .args .bytes .now
 
 abbrev place : tie.After-sure4 → ℕ
 place c = c .before .before .before .before .before .args .p .at

@@ -19,18 +19,18 @@ use Rattle.order_lists.proofs.index.index_put.Tie as tie
 fits : (c : tie.Start) → FitsIndex (length (left (c .args .removal .now) (c .args .change) (c .pre .there .value))) (indexOf (left (c .args .removal .now) (c .args .change) (c .pre .there .value)))
 fits c = least-right (left (c .args .removal .now) (c .args .change) (c .pre .there .value)) (c .pre .there .falls) (c .pre .there .kept)
 
-read : (c : tie.After-sure) → Reads (fieldDec badIndex 8) (c .before .before .before .before .before .args .s .now) 0 (found (c .sure .result .value) (c .sure .result .next .at))
-read c = subst (λ (n : ℕ). Reads (fieldDec badIndex 8) (c .before .before .before .before .before .args .s .now) n (found (c .sure .result .value) (c .sure .result .next .at))) (c .before .start .ensures) (c .sure .ensures .0 badIndex)
+read : (c : tie.After-sure) → Reads (fieldDec badIndex 8) (c .before .before .before .before .before .args .block .now) 0 (found (c .sure .result .value) (c .sure .result .next .at))
+read c = subst (λ (n : ℕ). Reads (fieldDec badIndex 8) (c .before .before .before .before .before .args .block .now) n (found (c .sure .result .value) (c .sure .result .next .at))) (c .before .start .ensures) (c .sure .ensures .0 badIndex)
 
 width-of : (c : tie.After-sure) → c .sure .result .value ≡ c .before .before .before .before .before .pre .there .value .width
-width-of c = width-is (c .before .before .before .before .before .args .lines) (c .before .before .before .before .before .args .s .now) (c .before .before .before .before .before .pre .there .reads) (read c)
+width-of c = width-is (c .before .before .before .before .before .args .lines) (c .before .before .before .before .before .args .block .now) (c .before .before .before .before .before .pre .there .reads) (read c)
 
 start-requires : tie.Need-start-requires
 start-requires c κs = search needs
 
 sure-requires : tie.Need-sure-requires
 sure-requires c κs =
-    let p = c .before .before .before .before .pre .there in omega (arith, p .short, width-there (c .before .before .before .before .args .s .now) (c .before .before .before .before .args .lines) (p .reads))
+    let p = c .before .before .before .before .pre .there in omega (arith, p .short, width-there (c .before .before .before .before .args .block .now) (c .before .before .before .before .args .lines) (p .reads))
 
 put-bits-requires : tie.Need-put-bits-requires
 put-bits-requires c κs =
@@ -41,7 +41,7 @@ put-bits-requires c κs =
 lists-put-requires : tie.Need-lists-put-requires
 lists-put-requires c κs =
     let p = c .before .before .before .before .before .before .before .before .before .before .pre in
-    let s = c .before .before .before .before .before .before .before .before .before .before .args .s .now in
+    let s = c .before .before .before .before .before .before .before .before .before .before .args .block .now in
     let n = c .before .before .before .before .before .before .before .before .before .before .args .lines in
     let r = block-room (left (c .before .before .before .before .before .before .before .before .before .before .args .removal .now) (c .before .before .before .before .before .before .before .before .before .before .args .change) (p .there .value)) {out = c .before .before .before .before .before .before .before .before .before .before .args .out .now} (p .small) (p .room) in
     let m = c .before .before .before .put-bits .ensures in
@@ -66,7 +66,7 @@ add-result : tie.Need-add-result
 add-result c =
     let p = c .before .before .before .before .before .before .before .before .before .before .before .before .before .pre in
     let r = block-room (left (c .before .before .before .before .before .before .before .before .before .before .before .before .before .args .removal .now) (c .before .before .before .before .before .before .before .before .before .before .before .before .before .args .change) (p .there .value)) {out = c .before .before .before .before .before .before .before .before .before .before .before .before .before .args .out .now} (p .small) (p .room) in
-    omega (arith, put-end (c .before .before .before .before .before .before .before .before .before .before .before .before .before .args .s .now) (c .before .before .before .before .before .before .before .before .before .before .before .before .before .args .lines) (c .before .before .before .before .before .before .before .before .before .before .before .before .before .args .change) (c .before .before .before .before .before .before .before .before .before .before .before .before .before .args .removal .now) (read (c .before .before .before .before .before .before .before .before)) (p .there .reads) (p .least) (p .there .falls) (p .there .kept) (c .before .before .lists-put .ensures), r .near)
+    omega (arith, put-end (c .before .before .before .before .before .before .before .before .before .before .before .before .before .args .block .now) (c .before .before .before .before .before .before .before .before .before .before .before .before .before .args .lines) (c .before .before .before .before .before .before .before .before .before .before .before .before .before .args .change) (c .before .before .before .before .before .before .before .before .before .before .before .before .before .args .removal .now) (read (c .before .before .before .before .before .before .before .before)) (p .there .reads) (p .least) (p .there .falls) (p .there .kept) (c .before .before .lists-put .ensures), r .near)
 
 same-length : tie.Need-same-length
 same-length c = search needs
@@ -74,7 +74,7 @@ same-length c = search needs
 returns : tie.Need-returns
 returns c =
     let p = c .before .before .before .before .before .before .before .before .before .before .before .before .before .pre in
-    put-index (c .before .before .before .before .before .before .before .before .before .before .before .before .before .args .s .now) (c .before .before .before .before .before .before .before .before .before .before .before .before .before .args .lines) (c .before .before .before .before .before .before .before .before .before .before .before .before .before .args .change) (c .before .before .before .before .before .before .before .before .before .before .before .before .before .args .removal .now) (read (c .before .before .before .before .before .before .before .before)) (p .there .reads) (p .least) (c .before .before .before .before .before .before .put-bits .ensures) (c .before .before .lists-put .ensures) refl
+    put-index (c .before .before .before .before .before .before .before .before .before .before .before .before .before .args .block .now) (c .before .before .before .before .before .before .before .before .before .before .before .before .before .args .lines) (c .before .before .before .before .before .before .before .before .before .before .before .before .before .args .change) (c .before .before .before .before .before .before .before .before .before .before .before .before .before .args .removal .now) (read (c .before .before .before .before .before .before .before .before)) (p .there .reads) (p .least) (c .before .before .before .before .before .before .put-bits .ensures) (c .before .before .lists-put .ensures) refl
 
 pub index-put-spec : {M : Type 1} → statement M
 index-put-spec =

@@ -5,7 +5,7 @@ use mathlib.Core.Path.{_≡_, subst}
 use Prim.Native.Nat.{_+_, _-_, _≤_}
 use mathlib.Core.Bool.{not}
 use lib.Dec.{T}
-use Rattle.orders.specs.Listed.{listed}
+use Rattle.orders.specs.Listed.{removalLines}
 use Rattle.order_removal.specs.Rank.{below}
 use Rattle.order_lists.specs.Walk.{gone, Fares}
 use Rattle.order_lists.specs.List.{become}
@@ -23,13 +23,13 @@ abbrev μ-loop : tie.MeasureT-loop
 μ-loop s w list removal k₀ before₀ count₀ most₀ k before count most =
     k .left + k .waiting
 
-going : (c : tie.At-loop Inv-loop μ-loop) → Measuring (c .before .before .before .before .args .w) (c .before .before .before .before .args .s .now) (c .before .before .before .before .args .list) (c .before .before .before .before .args .removal .now) (become (c .before .before .before .before .args .list) (c .before .before .before .before .args .removal .now) (c .before .before .before .before .pre .value)) (c .loop .k) (c .before .before .before .before .pre .behind) (c .loop .before) (c .loop .count) (c .loop .most)
+going : (c : tie.At-loop Inv-loop μ-loop) → Measuring (c .before .before .before .before .args .w) (c .before .before .before .before .args .block .now) (c .before .before .before .before .args .list) (c .before .before .before .before .args .removal .now) (become (c .before .before .before .before .args .list) (c .before .before .before .before .args .removal .now) (c .before .before .before .before .pre .value)) (c .loop .k) (c .before .before .before .before .pre .behind) (c .loop .before) (c .loop .count) (c .loop .most)
 going c = let p = c .before .before .before .before .pre in c .loop .inv .1 (p .value) (p .behind) (p .at) (p .falls)
 
-fares : (c : tie.After-fate-of Inv-loop μ-loop) (r : Fate) → c .fate-of .result ≡ r → Fares (listed (c .before .before .before .before .before .before .before .before .before .args .removal .now)) (c .before .before .before .before .before .before .before .before .before .args .list .drop) (c .before .before .step-on .result .line) r
-fares c r e = subst (λ (x : Fate). Fares (listed (c .before .before .before .before .before .before .before .before .before .args .removal .now)) (c .before .before .before .before .before .before .before .before .before .args .list .drop) (c .before .before .step-on .result .line) x) e (c .fate-of .ensures)
+fares : (c : tie.After-fate-of Inv-loop μ-loop) (r : Fate) → c .fate-of .result ≡ r → Fares (removalLines (c .before .before .before .before .before .before .before .before .before .args .removal .now)) (c .before .before .before .before .before .before .before .before .before .args .list .drop) (c .before .before .step-on .result .line) r
+fares c r e = subst (λ (x : Fate). Fares (removalLines (c .before .before .before .before .before .before .before .before .before .args .removal .now)) (c .before .before .before .before .before .before .before .before .before .args .list .drop) (c .before .before .step-on .result .line) x) e (c .fate-of .ensures)
 
-stays : (c : tie.After-line Inv-loop μ-loop) → T (not (gone (listed (c .before .before .before .before .before .before .before .before .before .before .before .args .removal .now)) (c .before .before .before .before .before .before .before .before .before .before .before .args .list .drop) (c .before .before .before .before .step-on .result .line))) × (c .line .given .0 .0 ≡ c .before .before .before .before .step-on .result .line - below (listed (c .before .before .before .before .before .before .before .before .before .before .before .args .removal .now)) (c .before .before .before .before .step-on .result .line))
+stays : (c : tie.After-line Inv-loop μ-loop) → T (not (gone (removalLines (c .before .before .before .before .before .before .before .before .before .before .before .args .removal .now)) (c .before .before .before .before .before .before .before .before .before .before .before .args .list .drop) (c .before .before .before .before .step-on .result .line))) × (c .line .given .0 .0 ≡ c .before .before .before .before .step-on .result .line - below (removalLines (c .before .before .before .before .before .before .before .before .before .before .before .args .removal .now)) (c .before .before .before .before .step-on .result .line))
 stays c = fares (c .before .before) _ (c .line .given .1)
 
 loop-holds : tie.Need-loop-holds Inv-loop μ-loop

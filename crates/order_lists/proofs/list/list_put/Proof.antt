@@ -10,7 +10,7 @@ use lib.ListN.{length}
 use lib.Dec.{T}
 use lib.Pow.{pow-pos}
 use Rattle.find_parts.proofs.Laws.Lists.{list-bits}
-use Rattle.orders.specs.Listed.{listed}
+use Rattle.orders.specs.Listed.{removalLines}
 use Rattle.order_removal.specs.Rank.{below}
 use Rattle.order_lists.specs.Walk.{gone, Fares}
 use Rattle.order_lists.specs.List.{become}
@@ -31,13 +31,13 @@ abbrev μ-loop : tie.MeasureT-loop
 abbrev new : (c : tie.Start Inv-loop μ-loop) → List ℕ
 new c = become (c .args .list) (c .args .removal .now) (c .pre .there .value)
 
-going : (c : tie.At-loop Inv-loop μ-loop) → PuttingList (c .before .before .before .before .before .before .before .before .before .args .w) (c .before .before .before .before .before .before .before .before .before .args .s .now) (c .before .before .before .before .before .before .before .before .before .args .list) (c .before .before .before .before .before .before .before .before .before .args .removal .now) (new (c .before .before .before .before .before .before .before .before .before)) (c .before .before .before .before .before .before .before .before .before .args .width) (c .loop .k) (c .before .before .before .before .before .before .before .before .before .pre .there .behind) (c .loop .before) (c .loop .count) (c .before .before .before .before .put-bits .last .0) (c .before .before .before .before .put-bits .result) (c .loop .out) (c .loop .p)
+going : (c : tie.At-loop Inv-loop μ-loop) → PuttingList (c .before .before .before .before .before .before .before .before .before .args .w) (c .before .before .before .before .before .before .before .before .before .args .block .now) (c .before .before .before .before .before .before .before .before .before .args .list) (c .before .before .before .before .before .before .before .before .before .args .removal .now) (new (c .before .before .before .before .before .before .before .before .before)) (c .before .before .before .before .before .before .before .before .before .args .width) (c .loop .k) (c .before .before .before .before .before .before .before .before .before .pre .there .behind) (c .loop .before) (c .loop .count) (c .before .before .before .before .put-bits .last .0) (c .before .before .before .before .put-bits .result) (c .loop .out) (c .loop .p)
 going c = let p = c .before .before .before .before .before .before .before .before .before .pre in c .loop .inv .2 (p .there .value) (p .there .behind) (p .there .at) (p .fits)
 
-fares : (c : tie.After-fate-of Inv-loop μ-loop) (r : Fate) → c .fate-of .result ≡ r → Fares (listed (c .before .before .before .before .before .before .before .before .before .before .before .before .before .before .args .removal .now)) (c .before .before .before .before .before .before .before .before .before .before .before .before .before .before .args .list .drop) (c .before .before .step-on .result .line) r
-fares c r e = subst (λ (x : Fate). Fares (listed (c .before .before .before .before .before .before .before .before .before .before .before .before .before .before .args .removal .now)) (c .before .before .before .before .before .before .before .before .before .before .before .before .before .before .args .list .drop) (c .before .before .step-on .result .line) x) e (c .fate-of .ensures)
+fares : (c : tie.After-fate-of Inv-loop μ-loop) (r : Fate) → c .fate-of .result ≡ r → Fares (removalLines (c .before .before .before .before .before .before .before .before .before .before .before .before .before .before .args .removal .now)) (c .before .before .before .before .before .before .before .before .before .before .before .before .before .before .args .list .drop) (c .before .before .step-on .result .line) r
+fares c r e = subst (λ (x : Fate). Fares (removalLines (c .before .before .before .before .before .before .before .before .before .before .before .before .before .before .args .removal .now)) (c .before .before .before .before .before .before .before .before .before .before .before .before .before .before .args .list .drop) (c .before .before .step-on .result .line) x) e (c .fate-of .ensures)
 
-stays : (c : tie.After-line Inv-loop μ-loop) → T (not (gone (listed (c .before .before .before .before .before .before .before .before .before .before .before .before .before .before .before .before .args .removal .now)) (c .before .before .before .before .before .before .before .before .before .before .before .before .before .before .before .before .args .list .drop) (c .before .before .before .before .step-on .result .line))) × (c .line .given .0 .0 ≡ c .before .before .before .before .step-on .result .line - below (listed (c .before .before .before .before .before .before .before .before .before .before .before .before .before .before .before .before .args .removal .now)) (c .before .before .before .before .step-on .result .line))
+stays : (c : tie.After-line Inv-loop μ-loop) → T (not (gone (removalLines (c .before .before .before .before .before .before .before .before .before .before .before .before .before .before .before .before .args .removal .now)) (c .before .before .before .before .before .before .before .before .before .before .before .before .before .before .before .before .args .list .drop) (c .before .before .before .before .step-on .result .line))) × (c .line .given .0 .0 ≡ c .before .before .before .before .step-on .result .line - below (removalLines (c .before .before .before .before .before .before .before .before .before .before .before .before .before .before .before .before .args .removal .now)) (c .before .before .before .before .step-on .result .line))
 stays c = fares (c .before .before) _ (c .line .given .1)
 
 put-bits-requires : tie.Need-put-bits-requires Inv-loop μ-loop

@@ -11,7 +11,7 @@ use Rattle.order_lists.proofs.lists.list_at.Statement.{statement}
 use Rattle.order_lists.proofs.lists.list_at.Tie as tie
 
 counted : (c : tie.After-sure) → c .sure .result .value ≡ length (c .before .before .pre .value)
-counted c = count-is (c .before .before .args .w) (c .before .before .args .s .now) (c .before .before .args .p) (c .before .before .args .l) (c .before .before .pre .value) (c .before .before .pre .here) (c .sure .ensures .0 badIndex)
+counted c = count-is (c .before .before .args .w) (c .before .before .args .block .now) (c .before .before .args .p) (c .before .before .args .l) (c .before .before .pre .value) (c .before .before .pre .here) (c .sure .ensures .0 badIndex)
 
 sure-requires : tie.Need-sure-requires
 sure-requires c κs =

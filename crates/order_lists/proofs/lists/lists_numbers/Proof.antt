@@ -5,7 +5,7 @@ use mathlib.Core.Path.{_≡_, sym, ap, _∙_}
 use Prim.Native.Nat.{_+_, _-_, _*_, _≤_, max}
 use mathlib.Core.Bool.{false}
 use Rattle.orders.specs.Survive.{elem}
-use Rattle.orders.specs.Listed.{listed}
+use Rattle.orders.specs.Listed.{removalLines}
 use Rattle.order_removal.proofs.Laws.Going.{Turn, turn}
 use Rattle.order_lists.specs.Lists.{newList, newFrom}
 use Rattle.order_lists.proofs.Laws.Lists.{Stand, next-behind, next-here, next-walk, Measured, GoingAll, waits-le, going-first, going-gone, list-falls, count-few, going-stays, going-done}
@@ -21,18 +21,18 @@ abbrev μ-loop : tie.MeasureT-loop
 μ-loop s w lines change removal p₀ l₀ lists₀ entries₀ most₀ p l lists entries most =
     lines - l
 
-next : (c : tie.In-loop Inv-loop μ-loop) → Turn (newList (listed (c .before .before .before .before .args .removal .now)) (c .before .before .before .before .args .change)) (listed (c .before .before .before .before .args .removal .now)) (c .before .before .before .before .args .lines) (Stand (c .before .before .before .before .args .w) (c .before .before .before .before .args .s .now) (c .before .before .before .before .pre .behind)) (Measured (newFrom (listed (c .before .before .before .before .args .removal .now)) (c .before .before .before .before .args .change) 0 (c .before .before .before .before .pre .value)) (c .before .loop .lists) (c .before .loop .entries) (c .before .loop .most)) (c .before .loop .l) (c .before .loop .p)
+next : (c : tie.In-loop Inv-loop μ-loop) → Turn (newList (removalLines (c .before .before .before .before .args .removal .now)) (c .before .before .before .before .args .change)) (removalLines (c .before .before .before .before .args .removal .now)) (c .before .before .before .before .args .lines) (Stand (c .before .before .before .before .args .w) (c .before .before .before .before .args .block .now) (c .before .before .before .before .pre .behind)) (Measured (newFrom (removalLines (c .before .before .before .before .args .removal .now)) (c .before .before .before .before .args .change) 0 (c .before .before .before .before .pre .value)) (c .before .loop .lists) (c .before .loop .entries) (c .before .loop .most)) (c .before .loop .l) (c .before .loop .p)
 next c = let p = c .before .before .before .before .pre in turn (c .before .loop .inv .2 (p .value) (p .behind) (p .at) (p .count) (p .falls)) (c .loop-test .taken)
 
-kept : (c : tie.Else1 Inv-loop μ-loop) → elem (c .before .before .before .before .before .before .loop .l) (listed (c .before .before .before .before .before .before .before .before .before .args .removal .now)) ≡ false
+kept : (c : tie.Else1 Inv-loop μ-loop) → elem (c .before .before .before .before .before .before .loop .l) (removalLines (c .before .before .before .before .before .before .before .before .before .args .removal .now)) ≡ false
 kept c = sym (c .before .rank-of .ensures .gone) ∙ c .if1 .left
 
 few : (c : tie.After-list-numbers Inv-loop μ-loop) → c .list-numbers .result .count ≤ c .before .before .before .before .before .before .before .before .loop .lists + 1
-few c = count-few (c .before .before .before .before .before .before .before .before .before .before .before .args .w) (c .before .before .before .before .before .before .before .before .before .before .before .args .s .now) (c .before .before .before .before .before .before .before .before .before .before .before .args .removal .now) (c .before .before .before .before .before .before .before .before .before .before .before .args .change) (c .before .before .before .before .before .before .before .before .before .before .before .args .lines) (c .before .before .before .before .before .before .before .before .loop .inv .2) (c .before .before .before .before .before .before .before .loop-test .taken) (c .before .before .before .before .list-at .ensures) (kept (c .before .before)) (c .before .before .before .before .before .before .waiting-at .ensures) (c .before .before .before .before .before .left-out-at .ensures) (next (c .before .before .before .before .before .before .before)) (c .list-numbers .ensures)
+few c = count-few (c .before .before .before .before .before .before .before .before .before .before .before .args .w) (c .before .before .before .before .before .before .before .before .before .before .before .args .block .now) (c .before .before .before .before .before .before .before .before .before .before .before .args .removal .now) (c .before .before .before .before .before .before .before .before .before .before .before .args .change) (c .before .before .before .before .before .before .before .before .before .before .before .args .lines) (c .before .before .before .before .before .before .before .before .loop .inv .2) (c .before .before .before .before .before .before .before .loop-test .taken) (c .before .before .before .before .list-at .ensures) (kept (c .before .before)) (c .before .before .before .before .before .before .waiting-at .ensures) (c .before .before .before .before .before .left-out-at .ensures) (next (c .before .before .before .before .before .before .before)) (c .list-numbers .ensures)
 
 loop-holds : tie.Need-loop-holds Inv-loop μ-loop
 loop-holds c =
-    (omega arith, omega arith, going-first (c .before .before .args .w) (c .before .before .args .s .now) (c .before .before .args .removal .now) (c .before .before .args .change) (c .before .before .args .lines))
+    (omega arith, omega arith, going-first (c .before .before .args .w) (c .before .before .args .block .now) (c .before .before .args .removal .now) (c .before .before .args .change) (c .before .before .args .lines))
 
 waiting-at-requires : tie.Need-waiting-at-requires Inv-loop μ-loop
 waiting-at-requires c κs = search needs
@@ -60,7 +60,7 @@ loop-less c =
 
 loop-again : tie.Need-loop-again Inv-loop μ-loop
 loop-again c =
-    (omega (arith, c .before .before .before .before .before .before .loop .inv .0), c .before .before .before .before .before .before .loop .inv .1, going-gone (c .before .before .before .before .before .before .before .before .before .args .w) (c .before .before .before .before .before .before .before .before .before .args .s .now) (c .before .before .before .before .before .before .before .before .before .args .removal .now) (c .before .before .before .before .before .before .before .before .before .args .change) (c .before .before .before .before .before .before .before .before .before .args .lines) (c .before .before .before .before .before .before .loop .inv .2) (c .before .before .before .before .before .loop-test .taken) (c .before .before .list-at .ensures) (sym (c .before .rank-of .ensures .gone) ∙ c .if1 .taken))
+    (omega (arith, c .before .before .before .before .before .before .loop .inv .0), c .before .before .before .before .before .before .loop .inv .1, going-gone (c .before .before .before .before .before .before .before .before .before .args .w) (c .before .before .before .before .before .before .before .before .before .args .block .now) (c .before .before .before .before .before .before .before .before .before .args .removal .now) (c .before .before .before .before .before .before .before .before .before .args .change) (c .before .before .before .before .before .before .before .before .before .args .lines) (c .before .before .before .before .before .before .loop .inv .2) (c .before .before .before .before .before .loop-test .taken) (c .before .before .list-at .ensures) (sym (c .before .rank-of .ensures .gone) ∙ c .if1 .taken))
 
 list-numbers-requires : tie.Need-list-numbers-requires Inv-loop μ-loop
 list-numbers-requires c κs =
@@ -75,7 +75,7 @@ list-numbers-requires c κs =
       value = x .value;
       behind = next-behind x;
       at = next-walk x E;
-      falls = list-falls (c .before .before .before .before .before .before .before .before .before .before .args .w) (c .before .before .before .before .before .before .before .before .before .before .args .s .now) (c .before .before .before .before .before .before .before .before .before .before .args .removal .now) (c .before .before .before .before .before .before .before .before .before .before .args .change) (c .before .before .before .before .before .before .before .before .before .before .args .lines) (c .before .before .before .before .before .before .before .loop .inv .2) (c .before .before .before .before .before .before .loop-test .taken) E (kept (c .before)) (c .before .before .before .before .before .waiting-at .ensures) (c .before .before .before .before .left-out-at .ensures) x;
+      falls = list-falls (c .before .before .before .before .before .before .before .before .before .before .args .w) (c .before .before .before .before .before .before .before .before .before .before .args .block .now) (c .before .before .before .before .before .before .before .before .before .before .args .removal .now) (c .before .before .before .before .before .before .before .before .before .before .args .change) (c .before .before .before .before .before .before .before .before .before .before .args .lines) (c .before .before .before .before .before .before .before .loop .inv .2) (c .before .before .before .before .before .before .loop-test .taken) E (kept (c .before)) (c .before .before .before .before .before .waiting-at .ensures) (c .before .before .before .before .left-out-at .ensures) x;
     }
 
 add-entries : tie.Need-add-entries Inv-loop μ-loop
@@ -100,12 +100,12 @@ loop-again-2 : tie.Need-loop-again-2 Inv-loop μ-loop
 loop-again-2 c = (
   omega (arith, c .before .before .before .before .before .before .before .before .before .before .before .loop .inv .0),
   omega (arith, few (c .before .before .before), c .before .before .before .before .before .before .before .before .before .before .before .loop .inv .0, c .before .before .before .before .before .before .before .before .before .before .before .loop .inv .1, c .before .before .before .before .before .before .before .before .before .before .before .before .before .before .pre .few, c .before .before .before .before .before .before .before .before .before .before .loop-test .taken),
-  going-stays (c .before .before .before .before .before .before .before .before .before .before .before .before .before .before .args .w) (c .before .before .before .before .before .before .before .before .before .before .before .before .before .before .args .s .now) (c .before .before .before .before .before .before .before .before .before .before .before .before .before .before .args .removal .now) (c .before .before .before .before .before .before .before .before .before .before .before .before .before .before .args .change) (c .before .before .before .before .before .before .before .before .before .before .before .before .before .before .args .lines) (c .before .before .before .before .before .before .before .before .before .before .before .loop .inv .2) (c .before .before .before .before .before .before .before .before .before .before .loop-test .taken) (c .before .before .before .before .before .before .before .list-at .ensures) (kept (c .before .before .before .before .before)) (c .before .before .before .before .before .before .before .before .before .waiting-at .ensures) (c .before .before .before .before .before .before .before .before .left-out-at .ensures) (c .before .before .before .list-numbers .ensures) (c .larger2 .ensures ∙ ap (max (c .before .before .before .before .before .before .before .before .before .before .before .loop .most)) (c .before .larger .ensures)),
+  going-stays (c .before .before .before .before .before .before .before .before .before .before .before .before .before .before .args .w) (c .before .before .before .before .before .before .before .before .before .before .before .before .before .before .args .block .now) (c .before .before .before .before .before .before .before .before .before .before .before .before .before .before .args .removal .now) (c .before .before .before .before .before .before .before .before .before .before .before .before .before .before .args .change) (c .before .before .before .before .before .before .before .before .before .before .before .before .before .before .args .lines) (c .before .before .before .before .before .before .before .before .before .before .before .loop .inv .2) (c .before .before .before .before .before .before .before .before .before .before .loop-test .taken) (c .before .before .before .before .before .before .before .list-at .ensures) (kept (c .before .before .before .before .before)) (c .before .before .before .before .before .before .before .before .before .waiting-at .ensures) (c .before .before .before .before .before .before .before .before .left-out-at .ensures) (c .before .before .before .list-numbers .ensures) (c .larger2 .ensures ∙ ap (max (c .before .before .before .before .before .before .before .before .before .before .before .loop .most)) (c .before .larger .ensures)),
 )
 
 returns : tie.Need-returns Inv-loop μ-loop
 returns c =
-    going-done (c .before .before .before .before .args .w) (c .before .before .before .before .args .s .now) (c .before .before .before .before .args .removal .now) (c .before .before .before .before .args .change) (c .before .before .before .before .args .lines) (c .before .loop .inv .2) (omega (arith, c .loop-test .left))
+    going-done (c .before .before .before .before .args .w) (c .before .before .before .before .args .block .now) (c .before .before .before .before .args .removal .now) (c .before .before .before .before .args .change) (c .before .before .before .before .args .lines) (c .before .loop .inv .2) (omega (arith, c .loop-test .left))
 
 pub lists-numbers-spec : {M : Type 1} → statement M
 lists-numbers-spec =

@@ -9,15 +9,15 @@ use borrow.Author.Needs.{needs}
 use Rattle.order_lists.proofs.walk.step_on.Statement.{statement}
 use Rattle.order_lists.proofs.walk.step_on.Tie as tie
 
-here : (c : tie.Else1) → Next (c .before .before .args .w) (c .before .before .args .s .now) (c .before .before .args .k) (c .before .before .pre .value) (c .before .before .pre .behind)
-here c = next-in (c .before .before .args .w) (c .before .before .args .s .now) (c .before .before .args .k) (c .before .before .pre .value) (c .before .before .pre .at) (c .if1 .left)
+here : (c : tie.Else1) → Next (c .before .before .args .w) (c .before .before .args .block .now) (c .before .before .args .k) (c .before .before .pre .value) (c .before .before .pre .behind)
+here c = next-in (c .before .before .args .w) (c .before .before .args .block .now) (c .before .before .args .k) (c .before .before .pre .value) (c .before .before .pre .at) (c .if1 .left)
 
 is-line : (c : tie.After-sure) (x : ℕ) → x ≤ c .before .before .before .args .k .base → c .sure .result .value ≡ c .before .before .before .args .k .base - x → c .before .before .before .args .k .base - c .sure .result .value ≡ x
 is-line c x l e = omega arith
 
 returns : tie.Need-returns
 returns c =
-    record { is = λ ns u h. step-last (c .before .before .args .w) (c .before .before .args .s .now) (c .before .before .args .k) (c .before .before .args .low) ns h (c .if1 .taken) (c .before .before .pre .more); waits = omega arith; less = omega (arith, c .if1 .taken, c .before .before .pre .more) }
+    record { is = λ ns u h. step-last (c .before .before .args .w) (c .before .before .args .block .now) (c .before .before .args .k) (c .before .before .args .low) ns h (c .if1 .taken) (c .before .before .pre .more); waits = omega arith; less = omega (arith, c .if1 .taken, c .before .before .pre .more) }
 
 sure-requires : tie.Need-sure-requires
 sure-requires c κs =

@@ -10,8 +10,8 @@ use Rattle.order_record.proofs.Laws.Sizes.{skeleton-small, measured}
 use Rattle.order_record.proofs.measure.measure.Statement.{statement}
 use Rattle.order_record.proofs.measure.measure.Tie as tie
 
-bytes : (c : tie.After-shared-slice-known) → All Byte (c .before .args .s .now)
-bytes c = all-bytes (c .before .args .s .now) (λ i. c .shared-slice-known .given i .fits)
+bytes : (c : tie.After-shared-slice-known) → All Byte (c .before .args .old .now)
+bytes c = all-bytes (c .before .args .old .now) (λ i. c .shared-slice-known .given i .fits)
 
 sub-skeleton-size : tie.Need-sub-skeleton-size
 sub-skeleton-size c =

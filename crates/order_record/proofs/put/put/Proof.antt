@@ -9,8 +9,8 @@ use Rattle.order_record.proofs.Laws.Put.{in-all, front, places, head-en
 use Rattle.order_record.proofs.put.put.Statement.{statement}
 use Rattle.order_record.proofs.put.put.Tie as tie
 
-bytes : (c : tie.After-shared-slice-known) → All Byte (c .before .before .args .s .now)
-bytes c = all-bytes (c .before .before .args .s .now) (λ i. c .shared-slice-known .given i .fits)
+bytes : (c : tie.After-shared-slice-known) → All Byte (c .before .before .args .old .now)
+bytes c = all-bytes (c .before .before .args .old .now) (λ i. c .shared-slice-known .given i .fits)
 
 sub-head-put : tie.Need-sub-head-put
 sub-head-put c =

@@ -23,9 +23,9 @@ use Rattle.read_blocks.proofs.index.index_out.Statement.{statement}
 use Rattle.read_blocks.proofs.index.index_out.Tie as tie
 
 -- the index that is there
-here : (c : tie.Else1) → IndexParts (c .before .before .before .args .lines) (c .before .before .before .args .s .now) (c .before .before .before .pre .value)
+here : (c : tie.Else1) → IndexParts (c .before .before .before .args .lines) (c .before .before .before .args .block .now) (c .before .before .before .pre .value)
 here c =
-    let s = c .before .before .before .args .s .now in
+    let s = c .before .before .before .args .block .now in
     index-parts (c .before .before .before .args .lines) s (all-bytes s (λ i. c .before .shared-slice-known .given i .fits)) (omega arith) (c .before .before .before .pre .reads)
 
 -- there is room for it
@@ -36,7 +36,7 @@ width : (c : tie.After-sure) → c .sure .result .value ≡ here (c .before .bef
 width c = one-value (here (c .before .before) .there .is) (at-place (c .before .start .ensures) (c .sure .ensures .0 badIndex)) .0
 
 lists : (c : tie.After-sure)
-    → alongDec (neighbours (c .sure .result .value)) up (c .before .before .before .before .before .args .lines) 0 (drop (c .sure .result .next .at) (bitsOf (c .before .before .before .before .before .args .s .now)))
+    → alongDec (neighbours (c .sure .result .value)) up (c .before .before .before .before .before .args .lines) 0 (drop (c .sure .result .next .at) (bitsOf (c .before .before .before .before .before .args .block .now)))
     ≡ got (here (c .before .before) .value .lists) (here (c .before .before) .left)
 lists c =
     let e : c .sure .result .next .at ≡ 8 = omega (arith, c .sure .ensures .1, c .before .start .ensures) in
@@ -52,7 +52,7 @@ laid-here c = one-value (lists (c .before .before .before .before .before .befor
 
 returns : tie.Need-returns
 returns c =
-    record { is = λ o u e. rw (no-index (c .before .before .before .args .lines) (c .before .before .before .args .s .now) (c .if1 .taken) e) (laid-none _) }
+    record { is = λ o u e. rw (no-index (c .before .before .before .args .lines) (c .before .before .before .args .block .now) (c .if1 .taken) e) (laid-none _) }
 
 start-requires : tie.Need-start-requires
 start-requires c κs = search needs

@@ -15,8 +15,8 @@ use Rattle.read_blocks.proofs.index.list_out.Statement.{statement}
 use Rattle.read_blocks.proofs.index.list_out.Tie as tie
 
 -- the list that is there
-there : (c : tie.Start) → ListParts (c .args .w) (c .args .l) (c .args .s .now) (c .args .p .at) (c .pre .2 .value) (c .pre .2 .left)
-there c = list-parts (c .args .w) (c .args .l) (c .args .s .now) (c .args .p .at) (c .pre .2 .place) (c .pre .2 .reads)
+there : (c : tie.Start) → ListParts (c .args .w) (c .args .l) (c .args .block .now) (c .args .p .at) (c .pre .2 .value) (c .pre .2 .left)
+there c = list-parts (c .args .w) (c .args .l) (c .args .block .now) (c .args .p .at) (c .pre .2 .place) (c .pre .2 .reads)
 
 counted : (c : tie.After-sure) → c .sure .result .value ≡ there (c .before .before .before) .count
 counted c = one-value (there (c .before .before .before) .there .is) (c .sure .ensures .0 badIndex) .0
@@ -25,7 +25,7 @@ few : (c : tie.After-sure) → c .sure .result .value ≤ 1024
 few c = omega (arith, counted c, there (c .before .before .before) .few)
 
 numbers : (c : tie.After-sure)
-    → numbersDec (c .before .before .before .args .w) (c .sure .result .value) 0 (c .before .before .before .args .l) (drop (c .sure .result .next .at) (bitsOf (c .before .before .before .args .s .now)))
+    → numbersDec (c .before .before .before .args .w) (c .sure .result .value) 0 (c .before .before .before .args .l) (drop (c .sure .result .next .at) (bitsOf (c .before .before .before .args .block .now)))
     ≡ got (c .before .before .before .pre .2 .value) (c .before .before .before .pre .2 .left)
 numbers c = rw (← counted c, ← c .sure .ensures .1) at (there (c .before .before .before) .numbers)
 

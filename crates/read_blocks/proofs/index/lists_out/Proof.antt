@@ -32,7 +32,7 @@ abbrev μ-loop : tie.MeasureT-loop
 
 -- the list of line l
 here : (c : tie.In-loop Inv-loop μ-loop)
-    → ListAt (c .before .before .before .before .args .w) (c .before .before .before .before .args .lines) (c .before .loop .l) (c .before .before .before .before .args .s .now) (c .before .loop .q .at) (c .before .loop .inv .3 .rest) (c .before .loop .inv .3 .left)
+    → ListAt (c .before .before .before .before .args .w) (c .before .before .before .before .args .lines) (c .before .loop .l) (c .before .before .before .before .args .block .now) (c .before .loop .q .at) (c .before .loop .inv .3 .rest) (c .before .loop .inv .3 .left)
 here c =
     let a = c .before .before .before .before .args in
     let l = c .before .loop in

@@ -29,7 +29,7 @@ abbrev μ-loop : tie.MeasureT-loop
 
 -- the difference at the cursor
 here : (c : tie.In-loop Inv-loop μ-loop)
-    → NumberAt (c .before .before .before .before .args .w) (c .before .before .before .before .args .n) (c .before .loop .i) (c .before .loop .number) (c .before .before .before .before .args .s .now) (c .before .loop .q .at) (c .before .loop .inv .4 .1 .rest) (c .before .loop .inv .4 .1 .left)
+    → NumberAt (c .before .before .before .before .args .w) (c .before .before .before .before .args .n) (c .before .loop .i) (c .before .loop .number) (c .before .before .before .before .args .block .now) (c .before .loop .q .at) (c .before .loop .inv .4 .1 .rest) (c .before .loop .inv .4 .1 .left)
 here c =
     let a = c .before .before .before .before .args in
     let l = c .before .loop in

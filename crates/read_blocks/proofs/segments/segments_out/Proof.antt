@@ -33,9 +33,9 @@ abbrev μ-loop : tie.MeasureT-loop
     length s - a
 
 -- the segment that starts at a
-here : (c : tie.In-loop Inv-loop μ-loop) → SegmentAt (c .before .before .before .before .args .s .now) (c .before .loop .a) (c .before .loop .inv .2 .1 .rest) (c .before .loop .inv .2 .1 .left)
+here : (c : tie.In-loop Inv-loop μ-loop) → SegmentAt (c .before .before .before .before .args .block .now) (c .before .loop .a) (c .before .loop .inv .2 .1 .rest) (c .before .loop .inv .2 .1 .left)
 here c =
-    let s = c .before .before .before .before .args .s .now in
+    let s = c .before .before .before .before .args .block .now in
     let (k, U) = c .before .loop .inv .2 in
     segment-at s (c .before .loop .a) k (all-bytes s (λ i. c .before .before .shared-slice-known .given i .fits)) (omega arith) (U .next)
 
@@ -52,7 +52,7 @@ laid-here c = rw (its-field (here (c .before .before .before)) _ (length-here (c
 loop-holds : tie.Need-loop-holds Inv-loop μ-loop
 unfolding segments
 loop-holds c =
-    let s = c .before .before .args .s .now in
+    let s = c .before .before .args .block .now in
     let there = c .before .before .pre in
     (omega arith, refl, (length (bitsOf s), at-first segmentBytes segmentSize (there .reads) (there .room)))
 
@@ -107,7 +107,7 @@ returns : tie.Need-returns Inv-loop μ-loop
 returns c =
     let l = c .before .loop in
     let (k, U) = l .inv .2 in
-    let end = drop-end (c .before .before .before .before .args .s .now) (8 * l .a) (omega arith) in
+    let end = drop-end (c .before .before .before .before .args .block .now) (8 * l .a) (omega arith) in
     let done = at-last segmentBytes segmentSize U (fill-done segment badSegment k _ end) in
     record { is = λ gs u e. let d : gs ≡ U .all = cc (e, done .0) in rw d (done .1) }
 

@@ -45,7 +45,7 @@ same-length c = search needs
 
 returns : tie.Need-returns
 returns c =
-    let bytes = all-bytes (c .before .before .before .before .before .before .before .before .before .before .args .s .now) (λ i. c .before .before .before .before .before .before .before .before .shared-slice-known .given i .fits) in
+    let bytes = all-bytes (c .before .before .before .before .before .before .before .before .before .before .args .bytes .now) (λ i. c .before .before .before .before .before .before .before .before .shared-slice-known .given i .fits) in
     sheet-laid bytes (c .before .before .before .before .before .before .header-out .ensures) (c .before .before .views-out .ensures)
 
 pub sheet-out-spec : {M : Type 1} → statement M

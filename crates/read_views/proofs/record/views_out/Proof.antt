@@ -46,7 +46,7 @@ part-view-out-end c =
 view-out-requires : tie.Need-view-out-requires Inv-loop μ-loop
 view-out-requires c κs =
     let s = c .before .before .before .before .before in
-    let record-at = record-apart (s .args .s .now) (s .pre .reads) in
+    let record-at = record-apart (s .args .bytes .now) (s .pre .reads) in
     let done = c .before .before .loop .inv .1 in
     let next = view-next (done .left) (c .before .loop-test .taken) in
     record {

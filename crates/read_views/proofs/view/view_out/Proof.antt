@@ -80,7 +80,7 @@ same-length c = search needs
 returns : tie.Need-returns
 returns c =
     let s = c .before .before .before .before .before .before .before .before .before .before .before .before .before .before .before .before in
-    let bytes = all-bytes (s .args .s .now) (λ i. c .before .before .before .before .before .before .before .before .before .before .before .before .before .before .shared-slice-known .given i .fits) in
+    let bytes = all-bytes (s .args .bytes .now) (λ i. c .before .before .before .before .before .before .before .before .before .before .before .before .before .before .shared-slice-known .given i .fits) in
     record { is = view-laid (s .args .a) bytes (c .before .before .before .before .before .before .before .before .before .before .before .before .put-three .ensures) (c .before .before .before .before .before .before .before .copy .ensures) (c .before .before .before .blocks-out .ensures) }
 
 pub view-out-spec : {M : Type 1} → statement M

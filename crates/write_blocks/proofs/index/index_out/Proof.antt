@@ -7,7 +7,7 @@ use borrow.Author.Needs.{needs}
 use Rattle.write_blocks.proofs.index.index_out.Statement.{statement}
 use Rattle.write_blocks.proofs.index.index_out.Tie as tie
 
-here : (c : tie.Else2) → IndexHere (c .before .before .before .before .before .before .args .lines) (c .before .before .before .before .before .before .args .s .now) (c .before .before .before .before .before .before .args .a) (c .before .before .before .before .before .before .args .out .now)
+here : (c : tie.Else2) → IndexHere (c .before .before .before .before .before .before .args .lines) (c .before .before .before .before .before .before .args .sheet .now) (c .before .before .before .before .before .before .args .a) (c .before .before .before .before .before .before .args .out .now)
 here c = index-here (c .before .before .before .before .before .before .pre) (c .before .before .before .if1 .left) (sym (c .before .wide .ensures) ∙ c .if2 .left)
 
 returns : tie.Need-returns

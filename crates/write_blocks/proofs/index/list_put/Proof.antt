@@ -45,7 +45,7 @@ put-bits-requires c κs =
 
 loop-holds : tie.Need-loop-holds Inv-loop μ-loop
 loop-holds c =
-    (refl, omega arith, list-first (c .before .before .before .before .before .before .args .w) (c .before .before .before .before .before .before .args .l) (c .before .before .before .before .before .before .args .s .now) (c .before .before .put-bits .last .0) (c .before .before .put-bits .result))
+    (refl, omega arith, list-first (c .before .before .before .before .before .before .args .w) (c .before .before .before .before .before .before .args .l) (c .before .before .before .before .before .before .args .value .now) (c .before .before .put-bits .last .0) (c .before .before .put-bits .result))
 
 mul-two-at : tie.Need-mul-two-at Inv-loop μ-loop
 mul-two-at c =

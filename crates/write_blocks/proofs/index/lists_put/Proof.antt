@@ -17,15 +17,15 @@ abbrev μ-loop : tie.MeasureT-loop
 μ-loop out₀ at s a w lines p₀ next₀ l₀ out p next l =
     lines - l
 
-going : (c : tie.At-loop Inv-loop μ-loop) → ListsGoing (c .before .before .before .args .w) (c .before .before .before .args .lines) (c .before .before .before .args .s .now) (c .before .before .before .pre .value) (c .before .before .before .pre .rest) (c .before .before .before .args .out .now) (c .before .before .before .args .at) (c .loop .next) (c .loop .out) (c .loop .p) (c .loop .l)
+going : (c : tie.At-loop Inv-loop μ-loop) → ListsGoing (c .before .before .before .args .w) (c .before .before .before .args .lines) (c .before .before .before .args .sheet .now) (c .before .before .before .pre .value) (c .before .before .before .pre .rest) (c .before .before .before .args .out .now) (c .before .before .before .args .at) (c .loop .next) (c .loop .out) (c .loop .p) (c .loop .l)
 going c = let pre = c .before .before .before .pre in c .loop .inv .2 (pre .value) (pre .rest) (pre .run) (pre .count) (pre .fits)
 
-here : (c : tie.In-loop Inv-loop μ-loop) → ListNext (c .before .before .before .before .args .w) (c .before .before .before .before .args .s .now) (c .before .loop .next) (c .before .loop .l) (going (c .before) .more) (c .before .before .before .before .pre .rest)
+here : (c : tie.In-loop Inv-loop μ-loop) → ListNext (c .before .before .before .before .args .w) (c .before .before .before .before .args .sheet .now) (c .before .loop .next) (c .before .loop .l) (going (c .before) .more) (c .before .before .before .before .pre .rest)
 here c = list-here (c .before .before .before .before .args .w) (c .before .before .before .before .args .lines) (going (c .before)) (c .loop-test .taken)
 
 loop-holds : tie.Need-loop-holds Inv-loop μ-loop
 loop-holds c =
-    (refl, omega arith, lists-first (c .before .before .args .w) (c .before .before .args .lines) (c .before .before .args .s .now) (c .before .before .args .a) (c .before .before .args .out .now) (c .before .before .args .at))
+    (refl, omega arith, lists-first (c .before .before .args .w) (c .before .before .args .lines) (c .before .before .args .sheet .now) (c .before .before .args .a) (c .before .before .args .out .now) (c .before .before .args .at))
 
 add-from : tie.Need-add-from Inv-loop μ-loop
 add-from c =

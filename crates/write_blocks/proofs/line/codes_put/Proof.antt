@@ -26,7 +26,7 @@ fits c =
     let i = c .before .loop .i in
     let k = c .before .before .before .before .before .args .k in
     let (e, z) = codes-place k (pre .value) (c .before .loop .inv .2) (pre .fits) (pre .held) (c .before .loop .inv .1) in
-    let n : length (c .before .before .before .before .before .args .s .now) ≡ length (pre .value) = ap length (pre .held) ∙ length-map (pre .value) (extended k) in
+    let n : length (c .before .before .before .before .before .args .value .now) ≡ length (pre .value) = ap length (pre .held) ∙ length-map (pre .value) (extended k) in
     let m : suc i * k ≤ length (pre .value) * k = mul-le-mul-right k (omega (arith, c .loop-test .taken)) in
     (omega (arith, e, suc-mul i k), z)
 
@@ -35,7 +35,7 @@ pow2-requires c κs = search needs
 
 loop-holds : tie.Need-loop-holds Inv-loop μ-loop
 loop-holds c =
-    (refl, omega arith, codes-none (c .before .before .before .args .k) (c .before .before .before .args .s .now) (c .before .before .before .args .out .now) (c .before .before .before .args .at))
+    (refl, omega arith, codes-none (c .before .before .before .args .k) (c .before .before .before .args .value .now) (c .before .before .before .args .out .now) (c .before .before .before .args .at))
 
 shared-slice-read-wide : tie.Need-shared-slice-read-wide Inv-loop μ-loop
 shared-slice-read-wide c = search needs

@@ -16,7 +16,7 @@ wide-requires c κs = search needs
 put-bits-requires : tie.Need-put-bits-requires
 put-bits-requires c κs =
     let pre = c .before .before .before .before .before .pre in
-    let (k, d, x, y) = end-bytes (c .before .before .before .before .before .args .s .now) (c .before .before .before .before .before .args .a) (pre .value) (pre .held) in
+    let (k, d, x, y) = end-bytes (c .before .before .before .before .before .args .value .now) (c .before .before .before .before .before .args .a) (pre .value) (pre .held) in
     record { below = omega (arith, c .wide .ensures, k, pre .fits .kind); narrow = omega arith; room = omega (arith, pre .room .room); near = omega (arith, pre .room .near) }
 
 add-wide : tie.Need-add-wide
@@ -31,7 +31,7 @@ wide-requires-2 c κs = search needs
 put-bits-requires-2 : tie.Need-put-bits-requires-2
 put-bits-requires-2 c κs =
     let pre = c .before .before .before .before .before .before .before .before .before .before .before .pre in
-    let (k, d, x, y) = end-bytes (c .before .before .before .before .before .before .before .before .before .before .before .args .s .now) (c .before .before .before .before .before .before .before .before .before .before .before .args .a) (pre .value) (pre .held) in
+    let (k, d, x, y) = end-bytes (c .before .before .before .before .before .before .before .before .before .before .before .args .value .now) (c .before .before .before .before .before .before .before .before .before .before .before .args .a) (pre .value) (pre .held) in
     let one = c .before .before .before .before .before .put-bits .ensures in
     record {
       below = rw (c .wide2 .ensures ∙ d) (pre .fits .direction);
@@ -49,7 +49,7 @@ two-at-requires c κs = search needs
 put-bits-requires-3 : tie.Need-put-bits-requires-3
 put-bits-requires-3 c κs =
     let pre = c .before .before .before .before .before .before .before .before .before .before .before .before .before .before .before .before .pre in
-    let (k, d, x, y) = end-bytes (c .before .before .before .before .before .before .before .before .before .before .before .before .before .before .before .before .args .s .now) (c .before .before .before .before .before .before .before .before .before .before .before .before .before .before .before .before .args .a) (pre .value) (pre .held) in
+    let (k, d, x, y) = end-bytes (c .before .before .before .before .before .before .before .before .before .before .before .before .before .before .before .before .args .value .now) (c .before .before .before .before .before .before .before .before .before .before .before .before .before .before .before .before .args .a) (pre .value) (pre .held) in
     let one = c .before .before .before .before .before .before .before .before .before .before .put-bits .ensures in
     let two = c .before .before .before .before .put-bits2 .ensures in
     record {
@@ -68,7 +68,7 @@ two-at-requires-2 c κs = search needs
 put-bits-requires-4 : tie.Need-put-bits-requires-4
 put-bits-requires-4 c κs =
     let pre = c .before .before .before .before .before .before .before .before .before .before .before .before .before .before .before .before .before .before .before .before .before .pre in
-    let (k, d, x, y) = end-bytes (c .before .before .before .before .before .before .before .before .before .before .before .before .before .before .before .before .before .before .before .before .before .args .s .now) (c .before .before .before .before .before .before .before .before .before .before .before .before .before .before .before .before .before .before .before .before .before .args .a) (pre .value) (pre .held) in
+    let (k, d, x, y) = end-bytes (c .before .before .before .before .before .before .before .before .before .before .before .before .before .before .before .before .before .before .before .before .before .args .value .now) (c .before .before .before .before .before .before .before .before .before .before .before .before .before .before .before .before .before .before .before .before .before .args .a) (pre .value) (pre .held) in
     let one = c .before .before .before .before .before .before .before .before .before .before .before .before .before .before .before .put-bits .ensures in
     let two = c .before .before .before .before .before .before .before .before .before .put-bits2 .ensures in
     let three = c .before .before .before .before .put-bits3 .ensures in
@@ -86,7 +86,7 @@ returns : tie.Need-returns
 returns c =
     record {
       is = λ e f h.
-          let (k, d, x, y) = end-bytes (c .before .before .before .before .before .before .before .before .before .before .before .before .before .before .before .before .before .before .before .before .before .before .before .before .args .s .now) (c .before .before .before .before .before .before .before .before .before .before .before .before .before .before .before .before .before .before .before .before .before .before .before .before .args .a) e h in
+          let (k, d, x, y) = end-bytes (c .before .before .before .before .before .before .before .before .before .before .before .before .before .before .before .before .before .before .before .before .before .before .before .before .args .value .now) (c .before .before .before .before .before .before .before .before .before .before .before .before .before .before .before .before .before .before .before .before .before .before .before .before .args .a) e h in
           end-put (c .before .before .before .before .before .before .before .before .before .before .before .before .before .before .before .before .before .before .before .before .before .before .before .before .args .w) e (c .before .before .before .before .before .before .before .before .before .before .before .before .before .before .before .before .before .before .before .wide .ensures ∙ k) (c .before .before .before .before .before .before .before .before .before .before .before .before .before .wide2 .ensures ∙ d) (c .before .before .before .before .before .before .before .before .two-at .ensures ∙ x) (c .before .before .before .two-at2 .ensures ∙ y)
           (c .before .before .before .before .before .before .before .before .before .before .before .before .before .before .before .before .before .before .put-bits .ensures) (c .before .before .before .before .before .before .before .before .before .before .before .before .put-bits2 .ensures) (c .before .before .before .before .before .before .before .put-bits3 .ensures) (c .before .before .put-bits4 .ensures);
     }

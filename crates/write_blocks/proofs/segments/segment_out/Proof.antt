@@ -69,7 +69,7 @@ same-length c = search needs
 
 returns : tie.Need-returns
 returns c =
-    let s = c .before .before .before .before .before .before .before .before .before .before .before .before .before .before .before .before .args .s .now in
+    let s = c .before .before .before .before .before .before .before .before .before .before .before .before .before .before .before .before .args .value .now in
     let e : take (length s - 2) (drop 2 s) ≡ drop 2 s = take-all (length s - 2) (drop 2 s) (omega (arith, length-drop 2 s)) in
     rw e at (laid-next (laid-next (c .before .before .before .before .before .before .before .before .before .before .before .copy .ensures) (c .before .before .before .before .before .before .before .put-two .ensures)) (c .before .before .copy2 .ensures))
 

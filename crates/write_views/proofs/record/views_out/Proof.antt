@@ -17,15 +17,15 @@ abbrev μ-loop : tie.MeasureT-loop
 μ-loop out₀ s w p₀ at₀ out p at =
     length s - p
 
-going : (c : tie.At-loop Inv-loop μ-loop) → ViewsGoing (c .before .before .before .args .w) (c .before .before .before .args .s .now) (c .before .before .before .pre .value) (c .before .before .before .args .out .now) (c .loop .p) (c .loop .out) (c .loop .at)
+going : (c : tie.At-loop Inv-loop μ-loop) → ViewsGoing (c .before .before .before .args .w) (c .before .before .before .args .sheet .now) (c .before .before .before .pre .value) (c .before .before .before .args .out .now) (c .loop .p) (c .loop .out) (c .loop .at)
 going c = let pre = c .before .before .before .pre in c .loop .inv .1 (pre .value) (pre .is) (pre .right)
 
-here : (c : tie.In-loop Inv-loop μ-loop) → ViewNext (c .before .before .before .before .args .w) (c .before .before .before .before .args .s .now) (c .before .loop .p) (going (c .before) .more)
+here : (c : tie.In-loop Inv-loop μ-loop) → ViewNext (c .before .before .before .before .args .w) (c .before .before .before .before .args .sheet .now) (c .before .loop .p) (going (c .before) .more)
 here c = view-here (c .before .before .before .before .args .w) (going (c .before)) (c .loop-test .taken)
 
 loop-holds : tie.Need-loop-holds Inv-loop μ-loop
 loop-holds c =
-    (refl, views-first (c .before .before .args .w) (c .before .before .args .s .now) (c .before .before .args .out .now))
+    (refl, views-first (c .before .before .args .w) (c .before .before .args .sheet .now) (c .before .before .args .out .now))
 
 sub-view-out : tie.Need-sub-view-out Inv-loop μ-loop
 sub-view-out c =

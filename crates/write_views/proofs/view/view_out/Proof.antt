@@ -20,23 +20,23 @@ lines-done : (c : tie.After-skeleton) → (c .skeleton .result .bytes ≡ 2 + le
 lines-done c =
     let pre = c .before .before .before .before .before .before .before .before .before .pre in
     let w = c .before .before .before .before .before .before .before .before .before .args .w in
-    let H = head-laid w (c .before .before .before .before .before .before .before .before .before .args .s .now) (c .before .before .before .before .before .before .before .before .before .args .a) (pre .value) (pre .rest) (pre .is) (pre .next) (pre .right) (c .before .before .before .before .copy .ensures) in
-    let (L, n, d) = lines-laid w (c .before .before .before .before .before .before .before .before .before .args .s .now) (c .before .before .before .before .before .before .before .before .before .args .a) (pre .value) (pre .rest) (pre .is) (pre .next) (pre .right) (c .before .before .before .before .copy .ensures) (c .skeleton .ensures) in
+    let H = head-laid w (c .before .before .before .before .before .before .before .before .before .args .sheet .now) (c .before .before .before .before .before .before .before .before .before .args .a) (pre .value) (pre .rest) (pre .is) (pre .next) (pre .right) (c .before .before .before .before .copy .ensures) in
+    let (L, n, d) = lines-laid w (c .before .before .before .before .before .before .before .before .before .args .sheet .now) (c .before .before .before .before .before .before .before .before .before .args .a) (pre .value) (pre .rest) (pre .is) (pre .next) (pre .right) (c .before .before .before .before .copy .ensures) (c .skeleton .ensures) in
     (omega (arith, L .count), omega (arith, H .count))
 
 index-done : (c : tie.After-index) → c .index .result .bytes ≡ 2 + length (inBytes (indexBlock (length (c .before .before .before .before .before .before .before .before .before .before .before .before .before .before .pre .value .lines)) .enc (c .before .before .before .before .before .before .before .before .before .before .before .before .before .before .pre .value .index)))
 index-done c =
     let pre = c .before .before .before .before .before .before .before .before .before .before .before .before .before .before .pre in
-    let (L, d) = index-laid (c .before .before .before .before .before .before .before .before .before .before .before .before .before .before .args .w) (c .before .before .before .before .before .before .before .before .before .before .before .before .before .before .args .s .now) (c .before .before .before .before .before .before .before .before .before .before .before .before .before .before .args .a) (pre .value) (pre .rest) (pre .is) (pre .next) (pre .right) (c .before .before .before .before .before .before .before .before .before .copy .ensures) (c .before .before .before .before .before .skeleton .ensures) (c .index .ensures) in
+    let (L, d) = index-laid (c .before .before .before .before .before .before .before .before .before .before .before .before .before .before .args .w) (c .before .before .before .before .before .before .before .before .before .before .before .before .before .before .args .sheet .now) (c .before .before .before .before .before .before .before .before .before .before .before .before .before .before .args .a) (pre .value) (pre .rest) (pre .is) (pre .next) (pre .right) (c .before .before .before .before .before .before .before .before .before .copy .ensures) (c .before .before .before .before .before .skeleton .ensures) (c .index .ensures) in
     omega (arith, L .count)
 
 add-from : tie.Need-add-from
 add-from c =
-    let pre = c .before .before .pre in omega (arith, head-there (c .before .before .args .w) (c .before .before .args .s .now) (c .before .before .args .a) (pre .value) (pre .rest) (pre .is) (pre .next) (pre .right))
+    let pre = c .before .before .pre in omega (arith, head-there (c .before .before .args .w) (c .before .before .args .sheet .now) (c .before .before .args .a) (pre .value) (pre .rest) (pre .is) (pre .next) (pre .right))
 
 add-to : tie.Need-add-to
 add-to c =
-    let pre = c .before .before .pre in omega (arith, head-there (c .before .before .args .w) (c .before .before .args .s .now) (c .before .before .args .a) (pre .value) (pre .rest) (pre .is) (pre .next) (pre .right))
+    let pre = c .before .before .pre in omega (arith, head-there (c .before .before .args .w) (c .before .before .args .sheet .now) (c .before .before .args .a) (pre .value) (pre .rest) (pre .is) (pre .next) (pre .right))
 
 sub-copy : tie.Need-sub-copy
 sub-copy c = search needs
@@ -46,7 +46,7 @@ part-copy-start c = search needs
 
 part-copy-end : tie.Need-part-copy-end
 part-copy-end c =
-    let pre = c .before .before .before .pre in omega (arith, head-there (c .before .before .before .args .w) (c .before .before .before .args .s .now) (c .before .before .before .args .a) (pre .value) (pre .rest) (pre .is) (pre .next) (pre .right))
+    let pre = c .before .before .before .pre in omega (arith, head-there (c .before .before .before .args .w) (c .before .before .before .args .sheet .now) (c .before .before .before .args .a) (pre .value) (pre .rest) (pre .is) (pre .next) (pre .right))
 
 copy-requires : tie.Need-copy-requires
 copy-requires c κs =
@@ -55,31 +55,31 @@ copy-requires c κs =
 sub-skeleton : tie.Need-sub-skeleton
 sub-skeleton c =
     let pre = c .before .before .before .before .before .before .before .pre in
-    let H = head-laid (c .before .before .before .before .before .before .before .args .w) (c .before .before .before .before .before .before .before .args .s .now) (c .before .before .before .before .before .before .before .args .a) (pre .value) (pre .rest) (pre .is) (pre .next) (pre .right) (c .before .before .copy .ensures) in
+    let H = head-laid (c .before .before .before .before .before .before .before .args .w) (c .before .before .before .before .before .before .before .args .sheet .now) (c .before .before .before .before .before .before .before .args .a) (pre .value) (pre .rest) (pre .is) (pre .next) (pre .right) (c .before .before .copy .ensures) in
     omega (arith, H .count, view-blocks (c .before .before .before .before .before .before .before .args .w) (pre .value), pre .room)
 
 part-skeleton-start : tie.Need-part-skeleton-start
 part-skeleton-start c =
     let pre = c .before .before .before .before .before .before .before .pre in
-    let H = head-laid (c .before .before .before .before .before .before .before .args .w) (c .before .before .before .before .before .before .before .args .s .now) (c .before .before .before .before .before .before .before .args .a) (pre .value) (pre .rest) (pre .is) (pre .next) (pre .right) (c .before .before .copy .ensures) in
+    let H = head-laid (c .before .before .before .before .before .before .before .args .w) (c .before .before .before .before .before .before .before .args .sheet .now) (c .before .before .before .before .before .before .before .args .a) (pre .value) (pre .rest) (pre .is) (pre .next) (pre .right) (c .before .before .copy .ensures) in
     omega (arith, H .count, view-blocks (c .before .before .before .before .before .before .before .args .w) (pre .value), pre .room)
 
 part-skeleton-end : tie.Need-part-skeleton-end
 part-skeleton-end c =
     let pre = c .before .before .before .before .before .before .before .pre in
-    let H = head-laid (c .before .before .before .before .before .before .before .args .w) (c .before .before .before .before .before .before .before .args .s .now) (c .before .before .before .before .before .before .before .args .a) (pre .value) (pre .rest) (pre .is) (pre .next) (pre .right) (c .before .before .copy .ensures) in
+    let H = head-laid (c .before .before .before .before .before .before .before .args .w) (c .before .before .before .before .before .before .before .args .sheet .now) (c .before .before .before .before .before .before .before .args .a) (pre .value) (pre .rest) (pre .is) (pre .next) (pre .right) (c .before .before .copy .ensures) in
     omega (arith, H .count, view-blocks (c .before .before .before .before .before .before .before .args .w) (pre .value), pre .room)
 
 skeleton-requires : tie.Need-skeleton-requires
 skeleton-requires c κs =
     let pre = c .before .before .before .before .before .before .before .before .pre in
     let w = c .before .before .before .before .before .before .before .before .args .w in
-    let H = head-laid w (c .before .before .before .before .before .before .before .before .args .s .now) (c .before .before .before .before .before .before .before .before .args .a) (pre .value) (pre .rest) (pre .is) (pre .next) (pre .right) (c .before .before .before .copy .ensures) in
+    let H = head-laid w (c .before .before .before .before .before .before .before .before .args .sheet .now) (c .before .before .before .before .before .before .before .before .args .a) (pre .value) (pre .rest) (pre .is) (pre .next) (pre .right) (c .before .before .before .copy .ensures) in
     record {
       narrow = pre .narrow;
       value = pre .value .lines;
       rest = indexBytes (pre .value .index) ++ (joined segmentBytes (pre .value .segments) ++ pre .rest);
-      at = lines-at w (c .before .before .before .before .before .before .before .before .args .s .now) (c .before .before .before .before .before .before .before .before .args .a) (pre .value) (pre .rest) (pre .is) (pre .next) (pre .right);
+      at = lines-at w (c .before .before .before .before .before .before .before .before .args .sheet .now) (c .before .before .before .before .before .before .before .before .args .a) (pre .value) (pre .rest) (pre .is) (pre .next) (pre .right);
       small = pre .right .linesSmall;
       room = simp (length-take, length-drop) (omega (arith, H .count, view-blocks w (pre .value), pre .room));
     }
@@ -105,12 +105,12 @@ index-requires c κs =
     let pre = c .before .before .before .before .before .before .before .before .before .before .before .before .before .pre in
     let w = c .before .before .before .before .before .before .before .before .before .before .before .before .before .args .w in
     let (l, h) = lines-done (c .before .before .before .before) in
-    let (L, n, d) = lines-laid w (c .before .before .before .before .before .before .before .before .before .before .before .before .before .args .s .now) (c .before .before .before .before .before .before .before .before .before .before .before .before .before .args .a) (pre .value) (pre .rest) (pre .is) (pre .next) (pre .right) (c .before .before .before .before .before .before .before .before .copy .ensures) (c .before .before .before .before .skeleton .ensures) in
+    let (L, n, d) = lines-laid w (c .before .before .before .before .before .before .before .before .before .before .before .before .before .args .sheet .now) (c .before .before .before .before .before .before .before .before .before .before .before .before .before .args .a) (pre .value) (pre .rest) (pre .is) (pre .next) (pre .right) (c .before .before .before .before .before .before .before .before .copy .ensures) (c .before .before .before .before .skeleton .ensures) in
     record {
       few = rw n (pre .right .few);
       value = pre .value .index;
       rest = joined segmentBytes (pre .value .segments) ++ pre .rest;
-      at = index-at w (c .before .before .before .before .before .before .before .before .before .before .before .before .before .args .s .now) (c .before .before .before .before .before .before .before .before .before .before .before .before .before .args .a) (pre .value) (pre .rest) (pre .is) (pre .next) (pre .right) (c .before .before .before .before .before .before .before .before .copy .ensures) (c .before .before .before .before .skeleton .ensures);
+      at = index-at w (c .before .before .before .before .before .before .before .before .before .before .before .before .before .args .sheet .now) (c .before .before .before .before .before .before .before .before .before .before .before .before .before .args .a) (pre .value) (pre .rest) (pre .is) (pre .next) (pre .right) (c .before .before .before .before .before .before .before .before .copy .ensures) (c .before .before .before .before .skeleton .ensures);
       small = rw n (pre .right .indexSmall);
       room = simp (length-take, length-drop) (rw n (omega (arith, l, h, view-blocks w (pre .value), pre .room)));
     }
@@ -136,11 +136,11 @@ extended-requires c κs =
     let pre = c .before .before .before .before .before .before .before .before .before .before .before .before .before .before .before .before .before .before .pre in
     let w = c .before .before .before .before .before .before .before .before .before .before .before .before .before .before .before .before .before .before .args .w in
     let (l, h) = lines-done (c .before .before .before .before .before .before .before .before .before) in
-    let (L, d) = index-laid w (c .before .before .before .before .before .before .before .before .before .before .before .before .before .before .before .before .before .before .args .s .now) (c .before .before .before .before .before .before .before .before .before .before .before .before .before .before .before .before .before .before .args .a) (pre .value) (pre .rest) (pre .is) (pre .next) (pre .right) (c .before .before .before .before .before .before .before .before .before .before .before .before .before .copy .ensures) (c .before .before .before .before .before .before .before .before .before .skeleton .ensures) (c .before .before .before .before .index .ensures) in
+    let (L, d) = index-laid w (c .before .before .before .before .before .before .before .before .before .before .before .before .before .before .before .before .before .before .args .sheet .now) (c .before .before .before .before .before .before .before .before .before .before .before .before .before .before .before .before .before .before .args .a) (pre .value) (pre .rest) (pre .is) (pre .next) (pre .right) (c .before .before .before .before .before .before .before .before .before .before .before .before .before .copy .ensures) (c .before .before .before .before .before .before .before .before .before .skeleton .ensures) (c .before .before .before .before .index .ensures) in
     record {
       value = pre .value .segments;
       rest = pre .rest;
-      at = segments-at w (c .before .before .before .before .before .before .before .before .before .before .before .before .before .before .before .before .before .before .args .s .now) (c .before .before .before .before .before .before .before .before .before .before .before .before .before .before .before .before .before .before .args .a) (pre .value) (pre .rest) (pre .is) (pre .next) (pre .right) d;
+      at = segments-at w (c .before .before .before .before .before .before .before .before .before .before .before .before .before .before .before .before .before .before .args .sheet .now) (c .before .before .before .before .before .before .before .before .before .before .before .before .before .before .before .before .before .before .args .a) (pre .value) (pre .rest) (pre .is) (pre .next) (pre .right) d;
       small = pre .right .extendedSmall;
       room = simp (length-take, length-drop) (omega (arith, l, h, index-done (c .before .before .before .before), view-blocks w (pre .value), pre .room));
     }
@@ -149,7 +149,7 @@ add-at-3 : tie.Need-add-at-3
 add-at-3 c =
     let pre = c .before .before .before .before .before .before .before .before .before .before .before .before .before .before .before .before .before .before .before .before .before .before .pre in
     let (l, h) = lines-done (c .before .before .before .before .before .before .before .before .before .before .before .before .before) in
-    let (G, e) = segments-laid (c .before .before .before .before .before .before .before .before .before .before .before .before .before .before .before .before .before .before .before .before .before .before .args .w) (c .before .before .before .before .before .before .before .before .before .before .before .before .before .before .before .before .before .before .before .before .before .before .args .s .now) (c .before .before .before .before .before .before .before .before .before .before .before .before .before .before .before .before .before .before .before .before .before .before .args .a) (pre .value) (pre .rest) (pre .is) (pre .next) (pre .right) (c .before .before .before .before .before .before .before .before .before .before .before .before .before .before .before .before .before .copy .ensures) (c .before .before .before .before .before .before .before .before .before .before .before .before .before .skeleton .ensures) (c .before .before .before .before .before .before .before .before .index .ensures) (c .before .before .before .extended .ensures) in
+    let (G, e) = segments-laid (c .before .before .before .before .before .before .before .before .before .before .before .before .before .before .before .before .before .before .before .before .before .before .args .w) (c .before .before .before .before .before .before .before .before .before .before .before .before .before .before .before .before .before .before .before .before .before .before .args .sheet .now) (c .before .before .before .before .before .before .before .before .before .before .before .before .before .before .before .before .before .before .before .before .before .before .args .a) (pre .value) (pre .rest) (pre .is) (pre .next) (pre .right) (c .before .before .before .before .before .before .before .before .before .before .before .before .before .before .before .before .before .copy .ensures) (c .before .before .before .before .before .before .before .before .before .before .before .before .before .skeleton .ensures) (c .before .before .before .before .before .before .before .before .index .ensures) (c .before .before .before .extended .ensures) in
     omega (arith, l, h, index-done (c .before .before .before .before .before .before .before .before), G .count, view-blocks (c .before .before .before .before .before .before .before .before .before .before .before .before .before .before .before .before .before .before .before .before .before .before .args .w) (pre .value), pre .room)
 
 same-length : tie.Need-same-length
@@ -159,7 +159,7 @@ returns : tie.Need-returns
 returns c =
     record {
       is = λ v rest e n r.
-          view-laid (c .before .before .before .before .before .before .before .before .before .before .before .before .before .before .before .before .before .before .before .before .before .before .args .w) (c .before .before .before .before .before .before .before .before .before .before .before .before .before .before .before .before .before .before .before .before .before .before .args .s .now) (c .before .before .before .before .before .before .before .before .before .before .before .before .before .before .before .before .before .before .before .before .before .before .args .a) v rest e n r (c .before .before .before .before .before .before .before .before .before .before .before .before .before .before .before .before .before .copy .ensures) (c .before .before .before .before .before .before .before .before .before .before .before .before .before .skeleton .ensures) (c .before .before .before .before .before .before .before .before .index .ensures) (c .before .before .before .extended .ensures);
+          view-laid (c .before .before .before .before .before .before .before .before .before .before .before .before .before .before .before .before .before .before .before .before .before .before .args .w) (c .before .before .before .before .before .before .before .before .before .before .before .before .before .before .before .before .before .before .before .before .before .before .args .sheet .now) (c .before .before .before .before .before .before .before .before .before .before .before .before .before .before .before .before .before .before .before .before .before .before .args .a) v rest e n r (c .before .before .before .before .before .before .before .before .before .before .before .before .before .before .before .before .before .copy .ensures) (c .before .before .before .before .before .before .before .before .before .before .before .before .before .skeleton .ensures) (c .before .before .before .before .before .before .before .before .index .ensures) (c .before .before .before .extended .ensures);
     }
 
 pub view-out-spec : {M : Type 1} → statement M
