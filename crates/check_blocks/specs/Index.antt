@@ -17,7 +17,7 @@ use Rattle.check_blocks.specs.Run.{RightAre}
 use Rattle.check_blocks.specs.declared.run.Counted.{Counted}
 use Rattle.check_blocks.specs.declared.run.Counted.the-variants as counted
 
--- the index of a view with so many lines
+-- the index of a view with `lines` lines
 pub record IndexThere (s : List ℕ) (p : ℕ) (fs : List Field) : Type 0 where
   pub stand : FieldsAt s p fs
   pub lines : ℕ

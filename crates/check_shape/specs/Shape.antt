@@ -57,7 +57,7 @@ abbrev pub Passes : Kind → List ℕ → ℕ → PassedFields → Type 0
 Passes k s p (passed.Right n next) = (fs : List Field) → FieldsAt s p fs → PassedAt k s fs n next
 Passes k s p passed.Wrong = (fs : List Field) → FieldsAt s p fs → T (not (allSized k fs))
 
--- ---- the index of a view with so many lines
+-- ---- the index of a view with `lines` lines
 
 pub record IndexAt (lines : ℕ) (s : List ℕ) (fs : List Field) (e : ℕ) : Type 0 where
   pub behind : FieldsAt s e (indexRest fs)

@@ -62,7 +62,7 @@ pub fn starts(sheet: &[u8], p: usize, tag: usize) -> bool
     }
 }
 
-// Whether a field with this tag and so many bytes starts at byte p.
+// Whether a field with this tag, whose value has `size` bytes, starts at byte p.
 fn begins(sheet: &[u8], p: usize, tag: usize, size: usize) -> bool
     requires { ⌜ Standing (now sheet) p ⌝ }
     ensures { λ r. ⌜ Begins tag size (now (sheet .entry)) p r ⌝ }
@@ -98,7 +98,7 @@ fn pass(sheet: &[u8], p: usize, kind: Kind) -> PassedFields
     PassedFields::Right { count, next }
 }
 
-// The index of a view with so many lines: nothing, or an 04 and a list for each line.
+// Where the index of a view with `lines` lines ends: it is nothing, or an 04 and a list for each line.
 fn index_end(sheet: &[u8], p: usize, lines: usize) -> PartEnd
     requires { ⌜ Standing (now sheet) p ⌝ }
     ensures { λ r. ⌜ IndexEnds lines (now (sheet .entry)) p r ⌝ }

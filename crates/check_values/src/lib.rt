@@ -15,7 +15,7 @@ pub enum Valued {
     Wrong,
 }
 
-// The sheet `sheet`: its 01, then view by view; seen counts the views of each position.
+// The values of a whole sheet: its 01, then view by view. `seen` counts the views of each position.
 pub fn values(sheet: &[u8]) -> Valued
     requires { ⌜ ValuesThere (now sheet) ⌝ }
     ensures { λ r. ⌜ ValuesAre (now (sheet .entry)) r ⌝ }

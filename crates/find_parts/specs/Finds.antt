@@ -78,7 +78,7 @@ pub record LinesLeft (w : Widths) (s : List ℕ) (n p : ℕ) (ls : List Line) (u
   pub few : n ≤ mostLines
   pub within : p ≤ 8 * length s
 
--- at most so many lines were passed; where fewer were, there are no more
+-- at most `most` lines were passed; where fewer were, there are no more
 pub record LinesPassed (w : Widths) (s : List ℕ) (most : ℕ) (r : Passed) : Type 0 where
   pub upto : r .count ≤ most
   pub all : r .count < most → 8 * length s - r .next < 8

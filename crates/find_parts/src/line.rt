@@ -14,7 +14,7 @@ pub fn line_end(block: &[u8], p: usize, w: Widths) -> usize
     p + end + 8 + count.value * w.k + end
 }
 
-// The first lines of the block: so many, or all where there are fewer.
+// The first `most` lines of the skeleton block passed, or all where there are fewer.
 pub fn pass_lines(block: &[u8], w: Widths, most: usize) -> Passed
     requires { ⌜ LinesThere w (now block) ⌝ }
     ensures { λ r. ⌜ LinesPassed w (now (block .entry)) most r ⌝ }

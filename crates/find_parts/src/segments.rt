@@ -5,7 +5,7 @@ ghost use Rattle.find_parts.specs.Finds.{SegmentsPassed};
 use crate::Passed;
 use bits::Cursor;
 
-// The first segments of the block: so many, or all where there are fewer.
+// The first `most` segments of the extended block passed, or all where there are fewer.
 pub fn pass_segments(block: &[u8], most: usize) -> Passed
     requires { ⌜ BlockThere segments (now block) ⌝ }
     ensures { λ r. ⌜ SegmentsPassed (now (block .entry)) most r ⌝ }

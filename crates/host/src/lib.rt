@@ -7,7 +7,7 @@ ghost use Rattle.trail.specs.Trail.{trailing};
 ghost use Rattle.segment.specs.Segment.{segmentAnswer};
 ghost use Rattle.orders.specs.Order.{order};
 ghost use Rattle.order_holds.specs.Held.{held};
-ghost use Rattle.orders.specs.Called.{removal, pairOrder};
+ghost use Rattle.orders.specs.Called.{removalOrder, pairOrder};
 use order_holds::Held;
 use order_holds::which_holds;
 use ordering::join;
@@ -55,7 +55,7 @@ pub extern "C" fn fsk_remove(
     lines: &[u8],
     out: &mut [u8],
 ) -> Answer
-    ensures { λ r. ⌜ Answers (order (removal view count (now (lines .entry))) (now (bytes .entry))) (now (out .entry)) (now (out .exit)) r ⌝ }
+    ensures { λ r. ⌜ Answers (order (removalOrder view count (now (lines .entry))) (now (bytes .entry))) (now (out .entry)) (now (out .exit)) r ⌝ }
 {
     remove(bytes, view as usize, count as usize, lines, out)
 }

@@ -16,7 +16,7 @@ use judge_ends::Cleared;
 use judge_ends::zeros_at;
 use outcome::Refusal;
 
-// The block `block`, of a view with that many lines.
+// The index block of a view with `lines` lines: w, then for each line a count and that many differences, then zero bits.
 pub fn judge_index(block: &[u8], lines: usize) -> Judged
     requires { ⌜ (length (now block) ≤ 65535) × (lines ≤ 1024) ⌝ }
     ensures { λ r. ⌜ Reads (indexDec lines) (now (block .entry)) 0 (judged (now (block .entry)) r) ⌝ }

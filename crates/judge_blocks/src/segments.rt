@@ -11,7 +11,7 @@ use crate::block::block_at;
 use bits::Cursor;
 use outcome::Refusal;
 
-// The block `block`.
+// The extended block: segments that fill it, one behind the other.
 pub fn judge_segments(block: &[u8]) -> Judged
     requires { ⌜ length (now block) ≤ 65535 ⌝ }
     ensures { λ r. ⌜ Reads segmentsDec (now (block .entry)) 0 (judged (now (block .entry)) r) ⌝ }

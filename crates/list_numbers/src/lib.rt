@@ -21,7 +21,7 @@ pub struct Listed {
     pub next: usize,
 }
 
-// The pairs in the index block `block` of a view with so many lines: each line's count is read, and its differences are passed.
+// The pairs in the index block of a view with `lines` lines: each line's count is read, and its differences are passed.
 fn count_pairs(block: &[u8], lines: usize) -> usize
     requires { ⌜ BlockThere (indexBlock lines) (now block) ⌝ }
     ensures { λ r. ⌜ PairsCounted lines (now (block .entry)) r ⌝ }

@@ -6,7 +6,7 @@ ghost use mathlib.Core.Bool.{true, false, not};
 ghost use Rattle.bits.specs.Choice.{pick};
 ghost use Rattle.outcome.specs.Outcome.{Answers};
 ghost use Rattle.orders.specs.Order.{order};
-ghost use Rattle.orders.specs.Called.{removal, pairOrder};
+ghost use Rattle.orders.specs.Called.{removalOrder, pairOrder};
 ghost use Rattle.ordering.specs.Orders.{PairThere, PairDone};
 use find_parts::site::Site;
 use order_carry::carry_out;
@@ -19,14 +19,14 @@ use outcome::Answer;
 use outcome::Refusal;
 use outcome::refuse;
 
-// Lines removed: the numbers of `lines`, two bytes each, high byte first. 15, 16 are its own.
-pub fn remove(bytes: &[u8], view: usize, count: usize, lines: &[u8], out: &mut [u8]) -> Answer
-    ensures { λ r. ⌜ Answers (order (removal view count (now (lines .entry))) (now (bytes .entry))) (now (out .entry)) (now (out .exit)) r ⌝ }
+// Lines removed: the numbers of `removal`, two bytes each, high byte first. 15, 16 are its own.
+pub fn remove(bytes: &[u8], view: usize, count: usize, removal: &[u8], out: &mut [u8]) -> Answer
+    ensures { λ r. ⌜ Answers (order (removalOrder view count (now (removal .entry))) (now (bytes .entry))) (now (out .entry)) (now (out .exit)) r ⌝ }
 {
     match named_view(bytes, view, count) {
         NamedView::Refused(number, _) => refuse(number),
         NamedView::At(site) => {
-            if lines_right(lines, count) {
+            if lines_right(removal, count) {
                 if site.extended.from < site.extended.to {
                     refuse(Refusal::EXTENDED)
                 } else {
@@ -35,7 +35,7 @@ pub fn remove(bytes: &[u8], view: usize, count: usize, lines: &[u8], out: &mut [
                         low: 0,
                         joins: false,
                     };
-                    carry_out(bytes, site, change, lines, out)
+                    carry_out(bytes, site, change, removal, out)
                 }
             } else {
                 refuse(Refusal::BAD_LINES)

@@ -8,8 +8,8 @@ use Rattle.orders.specs.Act.{Act, remove, join, part}
 use Rattle.orders.specs.Order.{Order}
 
 -- lines: the removal list's bytes
-abbrev pub removal : (view count : ℕ) → (lines : List ℕ) → Order
-removal view count lines = record { view = view; count = count; act = remove (removalLines lines) }
+abbrev pub removalOrder : (view count : ℕ) → (lines : List ℕ) → Order
+removalOrder view count lines = record { view = view; count = count; act = remove (removalLines lines) }
 
 abbrev pub pairAct : Bool → ℕ → ℕ → Act
 pairAct joins a b = pick joins (join a b) (part a b)

@@ -20,7 +20,7 @@ pub fn refuse(number: u32) -> Answer
     }
 }
 
-// Accepted, with so many elements written.
+// Accepted, with `length` elements written.
 pub fn accept(length: usize) -> Answer
     ensures { λ r. ⌜ r ≡ record { number = 0; place = 0; length = length } ⌝ }
 {

@@ -1,6 +1,6 @@
 // What the library promises. The samples of document 01 are in specs/, the promises and their proofs in proofs/. The functions here
 // make calls one behind the other, as demands 2 and 3 have them, so that it is proved of what runs.
-ghost use Rattle.orders.specs.Called.{removal};
+ghost use Rattle.orders.specs.Called.{removalOrder};
 ghost use Rattle.promises.specs.Calls.{RecordBack, SheetBack, OnlyOnce};
 use order_holds::now_holds;
 use ordering::remove;
@@ -41,7 +41,7 @@ pub fn remove_twice(
     second: &mut [u8],
     third: &mut [u8],
 ) -> Answer
-    ensures { λ r. ⌜ OnlyOnce (removal view count (now (lines .entry))) (now (bytes .entry)) (now (second .entry)) (now (third .entry)) (now (third .exit)) r ⌝ }
+    ensures { λ r. ⌜ OnlyOnce (removalOrder view count (now (lines .entry))) (now (bytes .entry)) (now (second .entry)) (now (third .entry)) (now (third .exit)) r ⌝ }
 {
     let first = remove(bytes, view, count, lines, second);
     let record = now_holds(bytes, second, first.number, first.length);

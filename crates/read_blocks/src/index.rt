@@ -72,7 +72,7 @@ fn lists_out(out: &mut [u8], block: &[u8], p: Cursor, w: usize, lines: usize) ->
     at
 }
 
-// The index block `block` of a view with so many lines.
+// The 04 and the 05 fields of the index block of a view with `lines` lines.
 pub fn index_out(out: &mut [u8], block: &[u8], lines: usize) -> usize
     requires { ⌜ IndexThere lines (now block) (length (now out)) ⌝ }
     ensures { λ r. ⌜ IndexOut lines (now (block .entry)) (now (out .entry)) (now (out .exit)) r ⌝ }

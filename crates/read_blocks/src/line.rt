@@ -145,7 +145,7 @@ pub fn line_out(out: &mut [u8], block: &[u8], p: Cursor, w: Widths) -> Lined
     Lined { next, written }
 }
 
-// The 03 fields of the lines of a skeleton block, which is `block`.
+// The 03 fields of the lines of a skeleton block.
 pub fn lines_out(out: &mut [u8], block: &[u8], w: Widths) -> Lines
     requires { ⌜ LinesThere w (now block) (length (now out)) ⌝ }
     ensures { λ r. ⌜ LinesOut w (now (block .entry)) (now (out .entry)) (now (out .exit)) r ⌝ }

@@ -24,7 +24,7 @@ fn segment_out(out: &mut [u8], block: &[u8], a: usize, n: usize) -> usize
     at
 }
 
-// All segments of the extended block `block`.
+// The 06 fields of the segments of an extended block.
 pub fn segments_out(out: &mut [u8], block: &[u8]) -> usize
     requires { ⌜ SegmentsThere (now block) (length (now out)) ⌝ }
     ensures { λ r. ⌜ SegmentsOut (now (block .entry)) (now (out .entry)) (now (out .exit)) r ⌝ }

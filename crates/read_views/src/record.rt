@@ -21,7 +21,7 @@ fn header_out(out: &mut [u8], bytes: &[u8]) -> usize
     at
 }
 
-// The fields of the views of the record `bytes`, which has the widths w and so many views.
+// The fields of the record's views, `count` of them; w are the widths of their fields.
 fn views_out(out: &mut [u8], bytes: &[u8], w: Widths, count: usize) -> usize
     requires { ⌜ ViewsThere w count (now bytes) (length (now out)) ⌝ }
     ensures { λ r. ⌜ ViewsOut (now (bytes .entry)) (now (out .entry)) (now (out .exit)) r ⌝ }

@@ -35,7 +35,7 @@ fn wide(x: u16) -> usize {
     x as usize
 }
 
-// The first numbers of a trail, so many.
+// The first `count` numbers of a trail.
 fn numbers(trail: &[u16], count: usize) {
     let mut i: usize = 0;
     while i < count && i < trail.len() {
@@ -59,15 +59,15 @@ fn trail_of(bytes: &[u8], view: usize, line: usize) -> bool {
 }
 
 // Whether the view has that segment.
-fn segment_of(s: &[u8], view: usize, place: usize) -> bool {
-    let answer = segment(s, view, place);
+fn segment_of(bytes: &[u8], view: usize, place: usize) -> bool {
+    let answer = segment(bytes, view, place);
     if answer.number != 0 {
         return false;
     }
     start(b"segment ", view, place);
-    let bytes = payload(s, view, place);
+    let part = payload(bytes, view, place);
     text(b" ");
-    number(bytes.len());
+    number(part.len());
     text(b" bytes\n");
     true
 }

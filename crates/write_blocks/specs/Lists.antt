@@ -27,7 +27,7 @@ pub record ListThere (w l : ℕ) (s out : List ℕ) (at : ℕ) : Type 0 where
 pub record ListPut (w l : ℕ) (s old : List ℕ) (at : ℕ) (now : List ℕ) (r : ℕ) : Type 0 where
   pub is : (ns : List ℕ) → FitsList w l ns → s ≡ joined two ns → Puts (neighbours w l .enc ns) old at now r
 
--- ---- the lists of an index at width w, one for each of so many lines: fields 05 from byte a of the sheet s on
+-- ---- the lists of an index at width w, one for each of `lines` lines: fields 05 from byte a of the sheet s on
 
 pub record ListsThere (w lines : ℕ) (s : List ℕ) (a : ℕ) (out : List ℕ) (at : ℕ) : Type 0 where
   pub narrow : w ≤ 16
@@ -42,7 +42,7 @@ pub record ListsPut (w lines : ℕ) (s : List ℕ) (a : ℕ) (old : List ℕ) (a
   pub is : (nss : List (List ℕ)) (rest : List ℕ) → RunAt 5 (joined two) s a nss rest → length nss ≡ lines → Along up (FitsList w) 0 nss
       → (p : ℕ) × Puts (encAlong (neighbours w) up 0 nss) old at now p × (r .bytes ≡ (p + 7) / 8) × (drop (r .next) s ≡ rest)
 
--- ---- the index of a view with so many lines: nothing, or a field 04 and its lists
+-- ---- the index of a view with `lines` lines: nothing, or a field 04 and its lists
 
 pub record IndexAt (lines : ℕ) (s : List ℕ) (a : ℕ) (o : Option Index) (rest : List ℕ) : Type 0 where
   pub is : drop a s ≡ indexBytes o ++ rest

@@ -23,7 +23,7 @@ fn list_put(out: &mut [u8], at: usize, value: &[u8], w: usize, l: usize) -> usiz
     p
 }
 
-// The lists of so many lines, whose fields start at byte a of the sheet.
+// The lists of `lines` lines, whose 05 fields start at byte a of the sheet.
 fn lists_put(out: &mut [u8], at: usize, sheet: &[u8], a: usize, w: usize, lines: usize) -> Done
     requires { ⌜ ListsThere w lines (now sheet) a (now out) at ⌝ }
     ensures { λ r. ⌜ ListsPut w lines (now (sheet .entry)) a (now (out .entry)) at (now (out .exit)) r ⌝ }
@@ -44,7 +44,7 @@ fn lists_put(out: &mut [u8], at: usize, sheet: &[u8], a: usize, w: usize, lines:
     }
 }
 
-// The index of a view with so many lines: none, or that whose 04 is at byte a of the sheet.
+// The index block of a view with `lines` lines: none, or that whose 04 is at byte a of the sheet.
 pub fn index_out(out: &mut [u8], sheet: &[u8], a: usize, lines: usize) -> Done
     requires { ⌜ IndexThere lines (now sheet) a (now out) ⌝ }
     ensures { λ r. ⌜ IndexPut lines (now (sheet .entry)) a (now (out .entry)) (now (out .exit)) r ⌝ }

@@ -19,7 +19,7 @@ fn put_one(out: &mut [u8], n: usize) -> usize
     1
 }
 
-// The header of a record with so many bytes, up to the device; the sheet starts with its 01.
+// The header of a record with `size` bytes, up to the device; the sheet starts with its 01.
 fn device_out(out: &mut [u8], sheet: &[u8], size: usize) -> usize
     requires { ⌜ (12 ≤ length (now sheet)) × (14 ≤ length (now out)) × (size < 65536) ⌝ }
     ensures { λ r. ⌜ Laid (deviceFrom (now (sheet .entry)) size) (now (out .entry)) (now (out .exit)) r ⌝ }
@@ -30,7 +30,7 @@ fn device_out(out: &mut [u8], sheet: &[u8], size: usize) -> usize
     at
 }
 
-// The rest of it: so many views, the scale, and two bytes that are zero.
+// The rest of it: the number of views, the scale, and two bytes that are zero.
 fn scale_out(out: &mut [u8], sheet: &[u8], views: usize) -> usize
     requires { ⌜ (12 ≤ length (now sheet)) × (10 ≤ length (now out)) × (views < 256) ⌝ }
     ensures { λ r. ⌜ Laid (scaleFrom (now (sheet .entry)) views) (now (out .entry)) (now (out .exit)) r ⌝ }
@@ -56,7 +56,7 @@ fn views_out(out: &mut [u8], sheet: &[u8], w: Widths) -> usize
     at
 }
 
-// The record of the sheet, of so many bytes and views.
+// The record of the sheet: it has `size` bytes and `views` views.
 pub fn record_out(out: &mut [u8], sheet: &[u8], size: usize, views: usize) -> usize
     requires { ⌜ RecordThere (now sheet) size views (now out) ⌝ }
     ensures { λ r. ⌜ RecordPut (now (sheet .entry)) size views (now (out .entry)) (now (out .exit)) r ⌝ }

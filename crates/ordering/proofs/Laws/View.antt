@@ -30,7 +30,7 @@ use Rattle.find_parts.specs.declared.site.Site.{Site}
 use Rattle.order_record.proofs.Laws.Acts.{remove-means, keeps}
 use Rattle.order_view.specs.Named.{Named}
 use Rattle.order_carry.specs.Carried.{Tested}
-use Rattle.orders.specs.Called.{removal}
+use Rattle.orders.specs.Called.{removalOrder}
 
 -- ---- segments: an extended length of 0 has none
 
@@ -80,7 +80,7 @@ module _ {s : List ℕ} {view n : ℕ} {x : Site} (F : Named s view n x) where
     abbrev act : Act
     act = remove (removalLines lines)
 
-    pub bad-lines : linesOk n (removalLines lines) ≡ false → order (removal view n lines) s ≡ refused badLines 0
+    pub bad-lines : linesOk n (removalLines lines) ≡ false → order (removalOrder view n lines) s ≡ refused badLines 0
     unfolding tests
     bad-lines e = own-refused act [] (linesOk (count v) (removalLines lines)) badLines _ refl tt (rw (counted, e) tt) (omega arith)
 
@@ -91,7 +91,7 @@ module _ {s : List ℕ} {view n : ℕ} {x : Site} (F : Named s view n x) where
       pub rises : Rising lines
       rises = lines-rise n lines e .0
 
-      pub has-segments : x .extended .from < x .extended .to → order (removal view n lines) s ≡ refused extended 0
+      pub has-segments : x .extended .from < x .extended .to → order (removalOrder view n lines) s ≡ refused extended 0
       unfolding tests
       has-segments l = own-refused act ((linesOk (count v) (removalLines lines), badLines) ∷ []) (empty? (v .segments)) extended [] refl (good, tt) (some-segments (v .segments) (F .at .segments) l) (omega arith)
 

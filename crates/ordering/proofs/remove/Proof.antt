@@ -10,7 +10,7 @@ use Rattle.orders.specs.Listed.{removalLines}
 use Rattle.orders.specs.Act.{remove}
 use Rattle.orders.specs.Order.{linesOk}
 use Rattle.order_view.specs.Named.{Named, ViewNamed}
-use Rattle.orders.specs.Called.{removal}
+use Rattle.orders.specs.Called.{removalOrder}
 use Rattle.order_view.specs.declared.NamedView.{NamedView}
 use Rattle.ordering.proofs.Laws.View.{tested, placed, bad-lines, rises, has-segments, removal-passes, removal-means}
 use borrow.Author.Needs.{needs}
@@ -23,7 +23,7 @@ bytes c = all-bytes (c .before .args .bytes .now) (λ i. c .shared-slice-known .
 found : (c : tie.After-site) → Named (c .before .before .before .before .before .before .args .bytes .now) (c .before .before .before .before .before .before .args .view) (c .before .before .before .before .before .before .args .count) (c .site .given .0 .0)
 found c = subst (λ (r : NamedView). ViewNamed (c .before .before .before .before .before .before .args .bytes .now) (c .before .before .before .before .before .before .args .view) (c .before .before .before .before .before .before .args .count) r) (c .site .given .1) (c .before .before .named-view .ensures)
 
-good : (c : tie.Then1) → linesOk (c .before .before .before .before .before .before .before .before .before .args .count) (removalLines (c .before .before .before .before .before .before .before .before .before .args .lines .now)) ≡ true
+good : (c : tie.Then1) → linesOk (c .before .before .before .before .before .before .before .before .before .args .count) (removalLines (c .before .before .before .before .before .before .before .before .before .args .removal .now)) ≡ true
 good c = sym (c .before .lines-right .ensures) ∙ c .if1 .taken
 
 named-view-requires : tie.Need-named-view-requires
@@ -47,7 +47,7 @@ refuse-requires-2 c κs = search needs
 carry-out-requires : tie.Need-carry-out-requires
 carry-out-requires c κs =
     let f = found (c .before .before .before .before .before .before) in
-    let l = c .before .before .before .before .before .before .before .before .before .before .before .before .args .lines .now in
+    let l = c .before .before .before .before .before .before .before .before .before .before .before .before .args .removal .now in
     let g = good (c .before .before .before) in
     placed f (bytes (c .before .before .before .before .before .before .before .before .before .before .before)) (rises f l g) (removal-means f l g (c .before .if2 .left) (bytes (c .before .before .before .before .before .before .before .before .before .before .before))) (removal-passes f l g (c .before .if2 .left))
 
@@ -56,11 +56,11 @@ refuse-requires-3 c κs = search needs
 
 returns : tie.Need-returns
 returns c =
-    rw (c .refuse .ensures) (answer-refused (λ xs. xs) _ (c .before .before .before .before .before .before .before .before .args .out .now) (subst (λ (r : NamedView). ViewNamed (c .before .before .before .before .before .before .before .before .args .bytes .now) (c .before .before .before .before .before .before .before .before .args .view) (c .before .before .before .before .before .before .before .before .args .count) r) (c .before .before .number .given .1) (c .before .before .before .before .named-view .ensures) (remove (removalLines (c .before .before .before .before .before .before .before .before .args .lines .now)))))
+    rw (c .refuse .ensures) (answer-refused (λ xs. xs) _ (c .before .before .before .before .before .before .before .before .args .out .now) (subst (λ (r : NamedView). ViewNamed (c .before .before .before .before .before .before .before .before .args .bytes .now) (c .before .before .before .before .before .before .before .before .args .view) (c .before .before .before .before .before .before .before .before .args .count) r) (c .before .before .number .given .1) (c .before .before .before .before .named-view .ensures) (remove (removalLines (c .before .before .before .before .before .before .before .before .args .removal .now)))))
 
 returns-2 : tie.Need-returns-2
 returns-2 c =
-    rw (c .refuse2 .ensures) (answer-refused (λ xs. xs) _ (c .before .before .before .before .before .before .before .before .before .before .before .before .args .out .now) (has-segments (found (c .before .before .before .before .before .before)) (c .before .before .before .before .before .before .before .before .before .before .before .before .args .lines .now) (good (c .before .before .before)) (c .before .if2 .taken)))
+    rw (c .refuse2 .ensures) (answer-refused (λ xs. xs) _ (c .before .before .before .before .before .before .before .before .before .before .before .before .args .out .now) (has-segments (found (c .before .before .before .before .before .before)) (c .before .before .before .before .before .before .before .before .before .before .before .before .args .removal .now) (good (c .before .before .before)) (c .before .if2 .taken)))
 
 same-length : tie.Need-same-length
 same-length c = search needs
@@ -68,13 +68,13 @@ same-length c = search needs
 returns-3 : tie.Need-returns-3
 returns-3 c =
     let f = found (c .before .before .before .before .before .before .before .before .before) in
-    let l = c .before .before .before .before .before .before .before .before .before .before .before .before .before .before .before .args .lines .now in
+    let l = c .before .before .before .before .before .before .before .before .before .before .before .before .before .before .before .args .removal .now in
     let g = good (c .before .before .before .before .before .before) in
-    c .before .before .carry-out .ensures .is (removal (c .before .before .before .before .before .before .before .before .before .before .before .before .before .before .before .args .view) (c .before .before .before .before .before .before .before .before .before .before .before .before .before .before .before .args .count) l) (f .value) (f .reads) (f .at) (tested f (remove (removalLines l)) (removal-passes f l g (c .before .before .before .before .if2 .left))) (removal-means f l g (c .before .before .before .before .if2 .left) (bytes (c .before .before .before .before .before .before .before .before .before .before .before .before .before .before)))
+    c .before .before .carry-out .ensures .is (removalOrder (c .before .before .before .before .before .before .before .before .before .before .before .before .before .before .before .args .view) (c .before .before .before .before .before .before .before .before .before .before .before .before .before .before .before .args .count) l) (f .value) (f .reads) (f .at) (tested f (remove (removalLines l)) (removal-passes f l g (c .before .before .before .before .if2 .left))) (removal-means f l g (c .before .before .before .before .if2 .left) (bytes (c .before .before .before .before .before .before .before .before .before .before .before .before .before .before)))
 
 returns-4 : tie.Need-returns-4
 returns-4 c =
-    rw (c .refuse3 .ensures) (answer-refused (λ xs. xs) _ (c .before .before .before .before .before .before .before .before .before .before .args .out .now) (bad-lines (found (c .before .before .before .before)) (c .before .before .before .before .before .before .before .before .before .before .args .lines .now) (sym (c .before .before .lines-right .ensures) ∙ c .before .if1 .left)))
+    rw (c .refuse3 .ensures) (answer-refused (λ xs. xs) _ (c .before .before .before .before .before .before .before .before .before .before .args .out .now) (bad-lines (found (c .before .before .before .before)) (c .before .before .before .before .before .before .before .before .before .before .args .removal .now) (sym (c .before .before .lines-right .ensures) ∙ c .before .if1 .left)))
 
 pub remove-spec : {M : Type 1} → statement M
 remove-spec =

@@ -6,7 +6,7 @@ use Rattle.bits.specs.Bytes.{Byte}
 use Rattle.bits.proofs.Laws.Place.{all-bytes}
 use Rattle.outcome.proofs.Laws.{answer-there}
 use Rattle.orders.proofs.Laws.Calls.{repeated}
-use Rattle.orders.specs.Called.{removal}
+use Rattle.orders.specs.Called.{removalOrder}
 use borrow.Author.Needs.{needs}
 use Rattle.promises.proofs.remove_twice.Statement.{statement}
 use Rattle.promises.proofs.remove_twice.Tie as tie
@@ -34,7 +34,7 @@ returns c =
     λ xs q l.
     let z = answer-there (c .before .before .before .before .before .before .before .before .remove .ensures) xs q l .0 in
     let k = rw (c .before .before .before .before .now-holds .ensures) at (c .before .before .remove2 .ensures) in
-    let (a, b, _) = repeated (removal (c .before .before .before .before .before .before .before .before .before .before .before .before .before .before .args .view) (c .before .before .before .before .before .before .before .before .before .before .before .before .before .before .args .count) (c .before .before .before .before .before .before .before .before .before .before .before .before .before .before .args .lines .now)) refl (c .before .before .before .before .before .before .before .before .before .before .before .before .before .before .args .bytes .now) (lent-bytes (c .before .before .before .before .before .before .before .before .before .before .before .before .before)) (c .before .before .before .before .before .before .before .before .remove .ensures) z k in
+    let (a, b, _) = repeated (removalOrder (c .before .before .before .before .before .before .before .before .before .before .before .before .before .before .args .view) (c .before .before .before .before .before .before .before .before .before .before .before .before .before .before .args .count) (c .before .before .before .before .before .before .before .before .before .before .before .before .before .before .args .lines .now)) refl (c .before .before .before .before .before .before .before .before .before .before .before .before .before .before .args .bytes .now) (lent-bytes (c .before .before .before .before .before .before .before .before .before .before .before .before .before)) (c .before .before .before .before .before .before .before .before .remove .ensures) z k in
     (a, b)
 
 pub remove-twice-spec : {M : Type 1} → statement M

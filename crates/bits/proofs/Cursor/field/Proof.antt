@@ -20,12 +20,12 @@ add-t11 c = search needs
 returns : tie.Need-returns
 returns c =
     let a = c .before .before .before .args in
-    λ e. field-at e (a .s .now) (a .self .at) (a .n) _ (omega arith) (omega arith) (c .number-at .ensures)
+    λ e. field-at e (a .bytes .now) (a .self .at) (a .n) _ (omega arith) (omega arith) (c .number-at .ensures)
 
 returns-2 : tie.Need-returns-2
 returns-2 c =
     let a = c .before .before .args in
-    λ e. field-past e (a .s .now) (a .self .at) (a .n) (omega arith) (omega arith)
+    λ e. field-past e (a .bytes .now) (a .self .at) (a .n) (omega arith) (omega arith)
 
 pub field-spec : {M : Type 1} → statement M
 field-spec = tie.close (tie.spec mul-if1 sub-if1 number-at-requires add-t11 returns returns-2)

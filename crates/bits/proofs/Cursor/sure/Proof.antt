@@ -15,7 +15,7 @@ add-t6 c = search needs
 returns : tie.Need-returns
 returns c =
     let a = c .before .before .args in
-    ((λ e. field-at e (a .s .now) (a .self .at) (a .n) _ (omega arith) (omega arith) (c .number-at .ensures)), refl)
+    ((λ e. field-at e (a .bytes .now) (a .self .at) (a .n) _ (omega arith) (omega arith) (c .number-at .ensures)), refl)
 
 pub sure-spec : {M : Type 1} → statement M
 sure-spec = tie.close (tie.spec number-at-requires add-t6 returns)

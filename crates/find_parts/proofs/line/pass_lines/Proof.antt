@@ -17,7 +17,7 @@ mul-end : tie.Need-mul-end Inv-loop μ-loop
 mul-end c = search needs
 
 loop-holds : tie.Need-loop-holds Inv-loop μ-loop
-loop-holds c = let s = c .before .args in (omega arith, past-none (s .w) (s .s .now))
+loop-holds c = let s = c .before .args in (omega arith, past-none (s .w) (s .block .now))
 
 sub-if1 : tie.Need-sub-if1 Inv-loop μ-loop
 sub-if1 c =

@@ -49,7 +49,7 @@ list-bad : (c : tie.In-loop Inv-loop2 μ-loop2 Inv-loop μ-loop) {x : ℕ} → R
 list-bad c h =
     let a = c .before .before .before .before .before .before .before .before .before .args in
     let l = c .before .loop in
-    lists-stop (a .lines) (a .s .now) (omega arith) (width (c .before .before .before)) (l .size) (omega (arith, c .loop-test .taken)) (l .inv .3) h
+    lists-stop (a .lines) (a .block .now) (omega arith) (width (c .before .before .before)) (l .size) (omega (arith, c .loop-test .taken)) (l .inv .3) h
 
 -- a list's count
 counted : (c : tie.After-count Inv-loop2 μ-loop2 Inv-loop μ-loop) → Reads (fieldDec badIndex (c .before .before .before .before .before .before .w .given .0 .0)) (c .before .before .before .before .before .before .before .before .before .before .before .before .args .block .now) (c .before .before .before .before .loop .p .at) (found (c .count .given .0 .0) (c .count .given .0 .1 .0 .at))
@@ -73,7 +73,7 @@ all-lists : (c : tie.After-loop Inv-loop2 μ-loop2 Inv-loop μ-loop) {P : Type 0
 all-lists c g =
     let a = c .before .before .before .before .before .before .before .before .before .args in
     let l = c .before .loop in
-    lists-done (a .lines) (a .s .now) (omega arith) (width (c .before .before .before)) (l .inv .1) (omega (arith, c .loop-test .left)) (l .inv .3) g
+    lists-done (a .lines) (a .block .now) (omega arith) (width (c .before .before .before)) (l .inv .1) (omega (arith, c .loop-test .left)) (l .inv .3) g
 
 returns : tie.Need-returns Inv-loop2 μ-loop2 Inv-loop μ-loop
 returns c =
@@ -185,7 +185,7 @@ loop-again c =
       omega (arith, c .before .before .before .before .before .before .loop-test .taken),
       m .inv .1,
       omega (arith, small (c .before .before .before), l .inv .2),
-      lists-turn (a .lines) (a .s .now) (omega arith) (width (c .before .before .before .before .before .before .before .before .before)) (l .size) _ (omega arith) (omega (arith, c .before .before .before .before .before .before .loop-test .taken)) (l .inv .3) h,
+      lists-turn (a .lines) (a .block .now) (omega arith) (width (c .before .before .before .before .before .before .before .before .before)) (l .size) _ (omega arith) (omega (arith, c .before .before .before .before .before .before .loop-test .taken)) (l .inv .3) h,
     )
 
 zeros-at-requires : tie.Need-zeros-at-requires Inv-loop2 μ-loop2 Inv-loop μ-loop
@@ -211,20 +211,20 @@ returns-7 : tie.Need-returns-7 Inv-loop2 μ-loop2 Inv-loop μ-loop
 returns-7 c =
     let a = c .before .before .before .before .before .before .before .before .before .before .before .before .before .args in
     all-lists (c .before .before .before .before) λ i e h.
-    index-dirt (a .lines) (a .s .now) (omega arith) h (known (ap (cleared badIndex (a .s .now)) (c .before .q .given .1)) (c .before .before .before .zeros-at .ensures badIndex))
+    index-dirt (a .lines) (a .block .now) (omega arith) h (known (ap (cleared badIndex (a .block .now)) (c .before .q .given .1)) (c .before .before .before .zeros-at .ensures badIndex))
 
 returns-8 : tie.Need-returns-8 Inv-loop2 μ-loop2 Inv-loop μ-loop
 returns-8 c =
     let a = c .before .before .before .before .before .before .before .before .before .before .before .before .before .before .args in
     all-lists (c .before .before .before .before .before) λ i e h.
-    known (ap (λ (n : ℕ). found n (8 * length (a .s .now))) e)
-    (index-good (a .lines) (a .s .now) (omega arith) h (known (ap (cleared badIndex (a .s .now)) (c .before .before .enum-told4 .given .1)) (c .before .before .before .before .zeros-at .ensures badIndex)) (omega (arith, c .if4 .taken)))
+    known (ap (λ (n : ℕ). found n (8 * length (a .block .now))) e)
+    (index-good (a .lines) (a .block .now) (omega arith) h (known (ap (cleared badIndex (a .block .now)) (c .before .before .enum-told4 .given .1)) (c .before .before .before .before .zeros-at .ensures badIndex)) (omega (arith, c .if4 .taken)))
 
 returns-9 : tie.Need-returns-9 Inv-loop2 μ-loop2 Inv-loop μ-loop
 returns-9 c =
     let a = c .before .before .before .before .before .before .before .before .before .before .before .before .before .before .before .args in
     all-lists (c .before .before .before .before .before .before) λ i e h.
-    index-long (a .lines) (a .s .now) (omega arith) h (known (ap (cleared badIndex (a .s .now)) (c .before .before .before .enum-told4 .given .1)) (c .before .before .before .before .before .zeros-at .ensures badIndex)) (omega (arith, c .before .if4 .left))
+    index-long (a .lines) (a .block .now) (omega arith) h (known (ap (cleared badIndex (a .block .now)) (c .before .before .before .enum-told4 .given .1)) (c .before .before .before .before .before .zeros-at .ensures badIndex)) (omega (arith, c .before .if4 .left))
 
 pub judge-index-spec : {M : Type 1} → statement M
 judge-index-spec =

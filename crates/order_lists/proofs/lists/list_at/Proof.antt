@@ -15,29 +15,29 @@ counted c = count-is (c .before .before .args .w) (c .before .before .args .bloc
 
 sure-requires : tie.Need-sure-requires
 sure-requires c κs =
-    let a = c .before .args in let p = c .before .pre in omega (arith, p .narrow, p .short, count-there (a .w) (a .s .now) (a .p) (a .l) (p .value) (p .here))
+    let a = c .before .args in let p = c .before .pre in omega (arith, p .narrow, p .short, count-there (a .w) (a .block .now) (a .p) (a .l) (p .value) (p .here))
 
 add-at : tie.Need-add-at
 add-at c = search needs
 
 mul-t11 : tie.Need-mul-t11
 mul-t11 c =
-    let a = c .before .before .args in let p = c .before .before .pre in omega (arith, p .short, list-there (a .w) (a .s .now) (a .p) (a .l) (p .value) (p .here), ap (λ (n : ℕ). n * a .w) (counted (c)))
+    let a = c .before .before .args in let p = c .before .before .pre in omega (arith, p .short, list-there (a .w) (a .block .now) (a .p) (a .l) (p .value) (p .here), ap (λ (n : ℕ). n * a .w) (counted (c)))
 
 add-t12 : tie.Need-add-t12
 add-t12 c =
-    let a = c .before .before .args in let p = c .before .before .pre in omega (arith, p .short, list-there (a .w) (a .s .now) (a .p) (a .l) (p .value) (p .here), ap (λ (n : ℕ). n * a .w) (counted (c)))
+    let a = c .before .before .args in let p = c .before .before .pre in omega (arith, p .short, list-there (a .w) (a .block .now) (a .p) (a .l) (p .value) (p .here), ap (λ (n : ℕ). n * a .w) (counted (c)))
 
 returns : tie.Need-returns
 returns c =
     let a = c .before .before .args in
     let p = c .before .before .pre in
     record {
-      few = omega (arith, counted (c), count-small (a .w) (a .s .now) (a .p) (a .l) (p .value) (p .here) (p .narrow));
+      few = omega (arith, counted (c), count-small (a .w) (a .block .now) (a .p) (a .l) (p .value) (p .here) (p .narrow));
       waits = refl;
       is = λ ns u h.
-          let e = count-is (a .w) (a .s .now) (a .p) (a .l) ns h (c .sure .ensures .0 badIndex) in
-          (walk-starts (a .w) (a .s .now) (a .p) (a .l) ns h (a .waiting) (p .one) e, omega (arith, ap (λ (n : ℕ). n * a .w) e));
+          let e = count-is (a .w) (a .block .now) (a .p) (a .l) ns h (c .sure .ensures .0 badIndex) in
+          (walk-starts (a .w) (a .block .now) (a .p) (a .l) ns h (a .waiting) (p .one) e, omega (arith, ap (λ (n : ℕ). n * a .w) e));
     }
 
 pub list-at-spec : {M : Type 1} → statement M

@@ -38,9 +38,9 @@ returns-2 c =
     record {
       is = λ ns u h.
           let a = c .before .before .before .before .before .before .args in
-          let x = next-in (a .w) (a .s .now) (a .k) ns h (c .before .before .before .before .if1 .left) in
-          step-own (a .w) (a .s .now) (a .k) (a .low) ns h x _ (is-line (c .before .before .before) (x .line) (x .below) (x .read (c .before .before .before .sure .ensures .0 badIndex))) (c .before .before .before .before .if1 .left)
-          (none-waits (a .w) (a .s .now) (a .k) (a .low) ns h x (c .if2 .taken));
+          let x = next-in (a .w) (a .block .now) (a .k) ns h (c .before .before .before .before .if1 .left) in
+          step-own (a .w) (a .block .now) (a .k) (a .low) ns h x _ (is-line (c .before .before .before) (x .line) (x .below) (x .read (c .before .before .before .sure .ensures .0 badIndex))) (c .before .before .before .before .if1 .left)
+          (none-waits (a .w) (a .block .now) (a .k) (a .low) ns h x (c .if2 .taken));
       waits = omega arith;
       less = omega (arith, c .before .before .before .before .if1 .left);
     }
@@ -50,8 +50,8 @@ returns-3 c =
     record {
       is = λ ns u h.
           let a = c .before .before .before .before .before .before .before .args in
-          let x = next-in (a .w) (a .s .now) (a .k) ns h (c .before .before .before .before .before .if1 .left) in
-          step-put (a .w) (a .s .now) (a .k) (a .low) ns h x (c .before .if2 .left) (omega (arith, is-line (c .before .before .before .before) (x .line) (x .below) (x .read (c .before .before .before .before .sure .ensures .0 badIndex)), c .if3 .taken));
+          let x = next-in (a .w) (a .block .now) (a .k) ns h (c .before .before .before .before .before .if1 .left) in
+          step-put (a .w) (a .block .now) (a .k) (a .low) ns h x (c .before .if2 .left) (omega (arith, is-line (c .before .before .before .before) (x .line) (x .below) (x .read (c .before .before .before .before .sure .ensures .0 badIndex)), c .if3 .taken));
       waits = omega arith;
       less = omega (arith, c .before .if2 .left);
     }
@@ -61,9 +61,9 @@ returns-4 c =
     record {
       is = λ ns u h.
           let a = c .before .before .before .before .before .before .before .args in
-          let x = next-in (a .w) (a .s .now) (a .k) ns h (c .before .before .before .before .before .if1 .left) in
-          step-own (a .w) (a .s .now) (a .k) (a .low) ns h x _ (is-line (c .before .before .before .before) (x .line) (x .below) (x .read (c .before .before .before .before .sure .ensures .0 badIndex))) (c .before .before .before .before .before .if1 .left)
-          (one-waits (a .w) (a .s .now) (a .k) (a .low) ns h x (c .before .if2 .left) (omega (arith, is-line (c .before .before .before .before) (x .line) (x .below) (x .read (c .before .before .before .before .sure .ensures .0 badIndex)), c .if3 .left)));
+          let x = next-in (a .w) (a .block .now) (a .k) ns h (c .before .before .before .before .before .if1 .left) in
+          step-own (a .w) (a .block .now) (a .k) (a .low) ns h x _ (is-line (c .before .before .before .before) (x .line) (x .below) (x .read (c .before .before .before .before .sure .ensures .0 badIndex))) (c .before .before .before .before .before .if1 .left)
+          (one-waits (a .w) (a .block .now) (a .k) (a .low) ns h x (c .before .if2 .left) (omega (arith, is-line (c .before .before .before .before) (x .line) (x .below) (x .read (c .before .before .before .before .sure .ensures .0 badIndex)), c .if3 .left)));
       waits = omega arith;
       less = omega (arith, c .before .before .before .before .before .if1 .left);
     }

@@ -36,7 +36,7 @@ here : (c : tie.In-loop Inv-loop μ-loop)
 here c =
     let a = c .before .before .before .before .args in
     let l = c .before .loop in
-    list-at (a .w) (a .lines) (l .l) (a .s .now) (l .q .at) (omega arith) (l .inv .3 .next)
+    list-at (a .w) (a .lines) (l .l) (a .block .now) (l .q .at) (omega arith) (l .inv .3 .next)
 
 -- its field is laid in the rest of out
 laid-here : (c : tie.After-list-out Inv-loop μ-loop) → Laid (listBytes (here (c .before .before) .value))
@@ -102,7 +102,7 @@ returns c =
     let a = c .before .before .before .before .args in
     let l = c .before .loop in
     let U = l .inv .3 in
-    let done = at-last listBytes listSize U (along-done (neighbours (a .w)) up (a .lines) (l .l) (l .l) (drop (l .q .at) (bitsOf (a .s .now))) (omega arith)) in
+    let done = at-last listBytes listSize U (along-done (neighbours (a .w)) up (a .lines) (l .l) (l .l) (drop (l .q .at) (bitsOf (a .block .now))) (omega arith)) in
     (l .q .at, record { value = U .all; reads = record { is = done .0; within = l .inv .1 }; laid = done .1 })
 
 pub lists-out-spec : {M : Type 1} → statement M

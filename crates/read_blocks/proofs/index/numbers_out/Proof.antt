@@ -33,7 +33,7 @@ here : (c : tie.In-loop Inv-loop μ-loop)
 here c =
     let a = c .before .before .before .before .args in
     let l = c .before .loop in
-    number-at (a .w) (a .n) (l .i) (l .inv .4 .0) (l .number) (a .s .now) (l .q .at) (omega arith) (l .inv .1) (l .inv .4 .1 .next)
+    number-at (a .w) (a .n) (l .i) (l .inv .4 .0) (l .number) (a .block .now) (l .q .at) (omega arith) (l .inv .1) (l .inv .4 .1 .next)
 
 difference : (c : tie.After-sure Inv-loop μ-loop) → c .sure .result .value ≡ here (c .before) .value
 difference c = one-value (here (c .before) .there .is) (c .sure .ensures .0 badIndex) .0
@@ -93,7 +93,7 @@ returns c =
     let a = c .before .before .before .before .args in
     let l = c .before .loop in
     let U = l .inv .4 .1 in
-    let done = at-last two (λ x. 2) U (numbers-end (a .w) (a .n) (l .i) (l .inv .4 .0) (l .number) (drop (l .q .at) (bitsOf (a .s .now))) (omega arith)) in
+    let done = at-last two (λ x. 2) U (numbers-end (a .w) (a .n) (l .i) (l .inv .4 .0) (l .number) (drop (l .q .at) (bitsOf (a .block .now))) (omega arith)) in
     record { value = U .all; reads = record { is = done .0; within = l .inv .1 }; laid = done .1 }
 
 pub numbers-out-spec : {M : Type 1} → statement M
