@@ -18,7 +18,7 @@ use Rattle.check_blocks.specs.declared.run.Counted.{Counted}
 use Rattle.check_blocks.specs.declared.run.Counted.the-variants as counted
 
 -- the index of a view with `lines` lines
-pub record IndexThere (s : List ℕ) (p : ℕ) (fs : List Field) : Type 0 where
+pub record IndexToCheck (s : List ℕ) (p : ℕ) (fs : List Field) : Type 0 where
   pub stand : FieldsAt s p fs
   pub lines : ℕ
   pub few : lines ≤ 1024
@@ -36,5 +36,5 @@ pub record IndexWrong (fs : List Field) : Type 0 where
   pub refuses : indexFrom (indexIn fs) ≡ refused badValue left
 
 abbrev pub IndexIs : List ℕ → ℕ → Counted → Type 0
-IndexIs s p (counted.Right e z) = RightAre 67108865 p e z (IndexThere s p) (λ fs. IndexRight s fs e z)
-IndexIs s p counted.Wrong = (fs : List Field) → IndexThere s p fs → IndexWrong fs
+IndexIs s p (counted.Right e z) = RightAre 67108865 p e z (IndexToCheck s p) (λ fs. IndexRight s fs e z)
+IndexIs s p counted.Wrong = (fs : List Field) → IndexToCheck s p fs → IndexWrong fs

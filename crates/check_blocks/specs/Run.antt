@@ -45,11 +45,11 @@ listLong v = eqb (length v % 2) 0
 abbrev pub segmentLong : List ℕ → Bool
 segmentLong v = leb 2 (length v)
 
-pub record Lines (s : List ℕ) (p : ℕ) (fs : List Field) : Type 0 where
+pub record LineFields (s : List ℕ) (p : ℕ) (fs : List Field) : Type 0 where
   pub run : Run 3 lineLong s p fs
   pub few : length (front 3 fs) ≤ 1024
 
-pub record Lists (s : List ℕ) (p : ℕ) (fs : List Field) : Type 0 where
+pub record ListFields (s : List ℕ) (p : ℕ) (fs : List Field) : Type 0 where
   pub run : Run 5 listLong s p fs
   pub few : length (front 5 fs) ≤ 1024
 
@@ -78,8 +78,8 @@ abbrev pub listBits : ℕ → List ℕ → ℕ
 listBits w ns = w + w * length ns
 
 -- in bytes
-abbrev pub segmentBytes : Segment → ℕ
-segmentBytes g = 4 + length (g .payload)
+abbrev pub segmentTakes : Segment → ℕ
+segmentTakes g = 4 + length (g .payload)
 
 -- an answer e, z: behind p or at it, and at most so much; what it says holds whatever fields stand there
 pub record RightAre (most p e z : ℕ) (P : List Field → Type 0) (Q : List Field → Type 0) : Type 0 where
@@ -89,15 +89,15 @@ pub record RightAre (most p e z : ℕ) (P : List Field → Type 0) (Q : List Fie
 
 -- a line has at most 2,132 bits
 abbrev pub LinesAre : Widths → List ℕ → ℕ → Counted → Type 0
-LinesAre w s p (counted.Right e z) = RightAre (1024 * 2132) p e z (Lines s p) (λ fs. RunRight 3 (λ _. lineValue w) alike tt fs (lineBits w) s e z)
-LinesAre w s p counted.Wrong = (fs : List Field) → Lines s p fs → RunWrong 3 (λ _. lineValue w) alike tt fs
+LinesAre w s p (counted.Right e z) = RightAre (1024 * 2132) p e z (LineFields s p) (λ fs. RunRight 3 (λ _. lineValue w) alike tt fs (lineBits w) s e z)
+LinesAre w s p counted.Wrong = (fs : List Field) → LineFields s p fs → RunWrong 3 (λ _. lineValue w) alike tt fs
 
 -- a list has at most 16 + 16 * 32,767 bits
 abbrev pub ListsAre : ℕ → List ℕ → ℕ → Counted → Type 0
-ListsAre w s p (counted.Right e z) = RightAre (1024 * 524288) p e z (Lists s p) (λ fs. RunRight 5 (listValue w) up 0 fs (listBits w) s e z)
-ListsAre w s p counted.Wrong = (fs : List Field) → Lists s p fs → RunWrong 5 (listValue w) up 0 fs
+ListsAre w s p (counted.Right e z) = RightAre (1024 * 524288) p e z (ListFields s p) (λ fs. RunRight 5 (listValue w) up 0 fs (listBits w) s e z)
+ListsAre w s p counted.Wrong = (fs : List Field) → ListFields s p fs → RunWrong 5 (listValue w) up 0 fs
 
 -- segments take fewer bytes than their fields
 pub record SegmentsAre (s : List ℕ) (p : ℕ) (r : Extended) : Type 0 where
   pub small : p + r .bytes ≤ r .end
-  pub is : (fs : List Field) → Segments s p fs → RunRight 6 (λ _. segmentValue) alike tt fs segmentBytes s (r .end) (r .bytes)
+  pub is : (fs : List Field) → Segments s p fs → RunRight 6 (λ _. segmentValue) alike tt fs segmentTakes s (r .end) (r .bytes)

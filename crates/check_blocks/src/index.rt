@@ -1,6 +1,6 @@
 // The values of a view's index: nothing, or the width and a list for each line. The lists are judged at the width, so it comes first.
 ghost use Rattle.check_blocks.specs.Run.{Some};
-ghost use Rattle.check_blocks.specs.Index.{IndexThere, IndexIs};
+ghost use Rattle.check_blocks.specs.Index.{IndexToCheck, IndexIs};
 use crate::run::Counted;
 use crate::run::list_values;
 use check_shape::starts;
@@ -9,7 +9,7 @@ use check_value::list::width_value;
 
 // The 04 at byte p and its 05s, if there is one. The answer is the byte behind them, and the bytes of the index block.
 pub fn index_values(sheet: &[u8], p: usize) -> Counted
-    requires { ⌜ Some (IndexThere (now sheet) p) ⌝ }
+    requires { ⌜ Some (IndexToCheck (now sheet) p) ⌝ }
     ensures { λ r. ⌜ IndexIs (now (sheet .entry)) p r ⌝ }
 {
     if !starts(sheet, p, 4) {

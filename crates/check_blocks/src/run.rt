@@ -2,7 +2,7 @@
 // them as long as they come, and counts what they take in a record.
 ghost use Prim.Native.Nat.{_≤_};
 ghost use Rattle.format.specs.Record.{Narrow};
-ghost use Rattle.check_blocks.specs.Run.{Some, Lines, LinesAre, Lists, ListsAre, Segments, SegmentsAre};
+ghost use Rattle.check_blocks.specs.Run.{Some, LineFields, LinesAre, ListFields, ListsAre, Segments, SegmentsAre};
 use bits::two_at;
 use check_line::line_value;
 use check_shape::starts;
@@ -38,7 +38,7 @@ pub fn segment_sizes(sheet: &[u8], p: usize) -> Extended
 
 // The 03s from byte p on, at the widths of the header.
 pub fn line_values(sheet: &[u8], p: usize, w: Widths) -> Counted
-    requires { ⌜ Some (Lines (now sheet) p) × Narrow w ⌝ }
+    requires { ⌜ Some (LineFields (now sheet) p) × Narrow w ⌝ }
     ensures { λ r. ⌜ LinesAre w (now (sheet .entry)) p r ⌝ }
 {
     let ends = 2 * (2 + w.b + 2 * w.c);
@@ -60,7 +60,7 @@ pub fn line_values(sheet: &[u8], p: usize, w: Widths) -> Counted
 
 // The 05s from byte p on, at the width w of their index; l is the line whose list comes next.
 pub fn list_values(sheet: &[u8], p: usize, w: usize) -> Counted
-    requires { ⌜ Some (Lists (now sheet) p) × (w ≤ 16) ⌝ }
+    requires { ⌜ Some (ListFields (now sheet) p) × (w ≤ 16) ⌝ }
     ensures { λ r. ⌜ ListsAre w (now (sheet .entry)) p r ⌝ }
 {
     let mut next = p;

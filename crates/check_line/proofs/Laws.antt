@@ -22,8 +22,8 @@ use Rattle.bits.proofs.Laws.Parts.{some-left, drop-end}
 use Rattle.outcome.specs.Refusals.{badValue}
 use Rattle.format.specs.Line.{Line}
 use Rattle.format.specs.declared.Widths.{Widths}
-use Rattle.sheet.specs.Code.{extended, codeOk}
-use Rattle.sheet.specs.Values.{below, endValue, codeValue, lineValue}
+use Rattle.sheet.specs.Code.{signExtended, codeOk}
+use Rattle.sheet.specs.Values.{fewBits, endValue, codeValue, lineValue}
 use Rattle.sheet.proofs.Laws.Lengths.{length-line}
 use Rattle.check_value.specs.Worth.{Wrong, Tested}
 use Rattle.check_line.specs.Parts.{There, NotThere, Passes, codesDec}
@@ -42,10 +42,10 @@ module _ {A : Type 0} (d : Bits → Read Bool A) (s : List ℕ) (p q : ℕ) wher
 -- ---- a number written in n bits that may need at most m
 
 module _ (n m : ℕ) {s : List ℕ} {p v q : ℕ} (h : Reads (fieldDec badValue n) s p (found v q)) where
-  below-ok : ltb v (2 ^ m) ≡ true → Reads (below n m .dec) s p (found v q)
+  below-ok : ltb v (2 ^ m) ≡ true → Reads (fewBits n m .dec) s p (found v q)
   below-ok e = pass (field badValue n) badValue (λ x. ltb x (2 ^ m)) h (rw e tt)
 
-  below-no : p ≤ 8 * length s → ltb v (2 ^ m) ≡ false → Reads (below n m .dec) s p (fault badValue p)
+  below-no : p ≤ 8 * length s → ltb v (2 ^ m) ≡ false → Reads (fewBits n m .dec) s p (fault badValue p)
   below-no i e = fail (field badValue n) badValue (λ x. ltb x (2 ^ m)) i h (rw e tt)
 
 -- ---- an end: type, direction, x, y, one behind the other from place p on
@@ -79,19 +79,19 @@ module _ (w : Widths) {s : List ℕ} {p k p1 d p2 x p3 y p4 : ℕ} (K : Reads (f
 
 module _ (k x all top : ℕ) (a : all ≡ 2 ^ k) (t : top ≡ 2 ^ (k - 1)) where
   pub code-low : x % all < top → eqb (x % all) x ≡ codeOk k x
-  unfolding extended
+  unfolding signExtended
   code-low l =
       let n : ℕ = x % 2 ^ k in
       let y : n < 2 ^ (k - 1) = rw (a, t) at l in
-      let z : extended k n ≡ n = pick-yes (ltb n (2 ^ (k - 1))) _ _ (yes-ltb {a = n} y) in
+      let z : signExtended k n ≡ n = pick-yes (ltb n (2 ^ (k - 1))) _ _ (yes-ltb {a = n} y) in
       rw (a, z)
 
   pub code-high : top ≤ x % all → eqb (x % all + (256 - all)) x ≡ codeOk k x
-  unfolding extended
+  unfolding signExtended
   code-high l =
       let n : ℕ = x % 2 ^ k in
       let y : 2 ^ (k - 1) ≤ n = rw (a, t) at l in
-      let z : extended k n ≡ n + (256 - 2 ^ k) = pick-no (ltb n (2 ^ (k - 1))) _ _ (no-ltb {a = n} y) in
+      let z : signExtended k n ≡ n + (256 - 2 ^ k) = pick-no (ltb n (2 ^ (k - 1))) _ _ (no-ltb {a = n} y) in
       rw (a, z)
 
 -- ---- the codes, from byte 12 on: those before byte i are right, so what is read from there is what is read of them all

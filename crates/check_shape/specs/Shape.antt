@@ -42,11 +42,11 @@ pub record Begins (t n : ℕ) (s : List ℕ) (p : ℕ) (r : Bool) : Type 0 where
 
 -- ---- fields of a kind, as long as they come
 
-abbrev pub sized : Kind → ℕ → Bool
-sized k n = within (k .least) (k .most) n && eqb (n % k .step) 0
+abbrev pub rightSize : Kind → ℕ → Bool
+rightSize k n = within (k .least) (k .most) n && eqb (n % k .step) 0
 
 abbrev pub allSized : Kind → List Field → Bool
-allSized k fs = every (λ v. sized k (length v)) (front (k .tag) fs)
+allSized k fs = every (λ v. rightSize k (length v)) (front (k .tag) fs)
 
 pub record PassedAt (k : Kind) (s : List ℕ) (fs : List Field) (n next : ℕ) : Type 0 where
   pub count : n ≡ length (front (k .tag) fs)
@@ -59,12 +59,12 @@ Passes k s p passed.Wrong = (fs : List Field) → FieldsAt s p fs → T (not (al
 
 -- ---- the index of a view with `lines` lines
 
-pub record IndexAt (lines : ℕ) (s : List ℕ) (fs : List Field) (e : ℕ) : Type 0 where
+pub record IndexFieldsAt (lines : ℕ) (s : List ℕ) (fs : List Field) (e : ℕ) : Type 0 where
   pub behind : FieldsAt s e (indexRest fs)
   pub right : T (indexShape lines (indexIn fs))
 
 abbrev pub IndexEnds : ℕ → List ℕ → ℕ → PartEnd → Type 0
-IndexEnds lines s p (end.At e) = (fs : List Field) → FieldsAt s p fs → IndexAt lines s fs e
+IndexEnds lines s p (end.At e) = (fs : List Field) → FieldsAt s p fs → IndexFieldsAt lines s fs e
 IndexEnds lines s p end.Wrong = (fs : List Field) → FieldsAt s p fs → T (not (indexShape lines (indexIn fs)))
 
 -- ---- a view, from its 02 on
@@ -78,12 +78,12 @@ abbrev pub viewRest : List Field → List Field
 viewRest [] = []
 viewRest (f ∷ fs) = rest 6 (indexRest (rest 3 fs))
 
-pub record ViewAt (s : List ℕ) (fs : List Field) (e : ℕ) : Type 0 where
+pub record ViewFieldsAt (s : List ℕ) (fs : List Field) (e : ℕ) : Type 0 where
   pub behind : FieldsAt s e (viewRest fs)
   pub right : T (viewRight fs)
 
 abbrev pub ViewEnds : List ℕ → ℕ → PartEnd → Type 0
-ViewEnds s p (end.At e) = (fs : List Field) → FieldsAt s p fs → ViewAt s fs e
+ViewEnds s p (end.At e) = (fs : List Field) → FieldsAt s p fs → ViewFieldsAt s fs e
 ViewEnds s p end.Wrong = (fs : List Field) → FieldsAt s p fs → T (not (viewRight fs))
 
 -- ---- the sheet

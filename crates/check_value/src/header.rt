@@ -9,7 +9,7 @@ use format::Header;
 use format::ViewHeader;
 use judge_heads::header::ScaleAt;
 use judge_heads::header::scale_at;
-use judge_heads::view::FieldsAt;
+use judge_heads::view::HeadFieldsAt;
 use judge_heads::view::head_fields;
 
 pub enum HeaderWorth {
@@ -43,7 +43,7 @@ pub fn head_value(value: &[u8], seen: &[u8; 11]) -> HeadWorth
     ensures { λ r. ⌜ Told (viewHeadValue (earlierOf (now (seen .entry)))) (now (value .entry)) (headIs r) ⌝ }
 {
     match head_fields(Cursor::start(), value, seen) {
-        FieldsAt::Wrong(_) => HeadWorth::Wrong,
-        FieldsAt::At(head, _) => HeadWorth::Right(head),
+        HeadFieldsAt::Wrong(_) => HeadWorth::Wrong,
+        HeadFieldsAt::At(head, _) => HeadWorth::Right(head),
     }
 }

@@ -19,7 +19,7 @@ use Rattle.check_values.specs.declared.view.Sized.{Sized}
 use Rattle.check_values.specs.declared.view.ViewWorth.{ViewWorth}
 use Rattle.check_values.specs.declared.view.ViewWorth.the-variants as worth
 
-pub record ViewThere (s : List ℕ) (p : ℕ) (fs : List Field) : Type 0 where
+pub record ViewToCheck (s : List ℕ) (p : ℕ) (fs : List Field) : Type 0 where
   pub stand : FieldsAt s p fs
   pub right : T (viewRight fs)
 
@@ -46,8 +46,8 @@ pub record SizedIs (w : Widths) (seen s : List ℕ) (p : ℕ) (v : Sized) : Type
   pub on : p < v .end
   pub small : p + v .bytes ≤ v .end + 134217728
   pub eleven : v .position ≤ 10
-  pub is : (fs : List Field) → ViewThere s p fs → (ps : List ℕ) → Seen seen ps → ViewRight w ps fs s v
+  pub is : (fs : List Field) → ViewToCheck s p fs → (ps : List ℕ) → Seen seen ps → ViewRight w ps fs s v
 
 abbrev pub ViewIs : Widths → List ℕ → List ℕ → ℕ → ViewWorth → Type 0
 ViewIs w seen s p (worth.Right v) = SizedIs w seen s p v
-ViewIs w seen s p worth.Wrong = (fs : List Field) → ViewThere s p fs → (ps : List ℕ) → Seen seen ps → ViewWrong w ps fs
+ViewIs w seen s p worth.Wrong = (fs : List Field) → ViewToCheck s p fs → (ps : List ℕ) → Seen seen ps → ViewWrong w ps fs

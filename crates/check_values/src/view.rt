@@ -2,7 +2,7 @@
 // that is wrong is the answer.
 ghost use Rattle.format.specs.Record.{Narrow};
 ghost use Rattle.check_blocks.specs.Run.{Some};
-ghost use Rattle.check_values.specs.View.{ViewThere, ViewIs};
+ghost use Rattle.check_values.specs.View.{ViewToCheck, ViewIs};
 use check_blocks::index::index_values;
 use check_blocks::run::Counted;
 use check_blocks::run::line_values;
@@ -25,7 +25,7 @@ pub enum ViewWorth {
 
 // The view whose 02 starts at byte p; seen counts the earlier views of each position. Two bytes of length stand before each block.
 pub fn view_values(sheet: &[u8], p: usize, w: Widths, seen: &[u8; 11]) -> ViewWorth
-    requires { ⌜ Some (ViewThere (now sheet) p) × Narrow w ⌝ }
+    requires { ⌜ Some (ViewToCheck (now sheet) p) × Narrow w ⌝ }
     ensures { λ r. ⌜ ViewIs w (now (seen .entry)) (now (sheet .entry)) p r ⌝ }
 {
     let from = p + 3;

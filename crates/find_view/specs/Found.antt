@@ -25,6 +25,6 @@ pub record Stands (s : List ℕ) (view : ℕ) (c : Scale) (x : Blocks) : Type 0 
 pub record Refuses (s : List ℕ) (view e p : ℕ) : Type 0 where
   pub is : (f : ℕ → Record → Outcome ℕ) → onView view f s ≡ refused e p
 
-abbrev pub ViewFound : List ℕ → ℕ → FoundView → Type 0
-ViewFound s view (f.At scale x) = Stands s view scale x
-ViewFound s view (f.Refused e p) = Refuses s view e p
+abbrev pub FindsView : List ℕ → ℕ → FoundView → Type 0
+FindsView s view (f.At scale x) = Stands s view scale x
+FindsView s view (f.Refused e p) = Refuses s view e p

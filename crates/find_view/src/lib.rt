@@ -1,5 +1,5 @@
 // The view that a call names, in any bytes: the record is judged, then the view is found. Every call on a view begins here.
-ghost use Rattle.find_view.specs.Found.{ViewFound};
+ghost use Rattle.find_view.specs.Found.{FindsView};
 use find_parts::view::Blocks;
 use find_parts::view::blocks_at;
 use find_parts::view::view_at;
@@ -15,7 +15,7 @@ pub enum FoundView {
 }
 
 pub fn find_view(bytes: &[u8], view: usize) -> FoundView
-    ensures { λ r. ⌜ ViewFound (now (bytes .entry)) view r ⌝ }
+    ensures { λ r. ⌜ FindsView (now (bytes .entry)) view r ⌝ }
 {
     match judge(bytes) {
         Verdict::Refused(number, place) => FoundView::Refused(number, place),

@@ -26,5 +26,5 @@ abbrev pub diff : ℕ → ℕ × ℕ → Codec Bool ℕ
 diff w i = ranged badIndex w (i .0) (i .1)
 
 -- the first may be 0; those behind it are at least 1; what is left of L is what their sum may still be
-abbrev pub tell : ℕ × ℕ → ℕ → ℕ × ℕ
-tell i d = (1, i .1 - d)
+abbrev pub tellDifference : ℕ × ℕ → ℕ → ℕ × ℕ
+tellDifference i d = (1, i .1 - d)

@@ -6,11 +6,11 @@ use mathlib.Core.List.{List, [], _∷_}
 use lib.ListN.{length}
 use Rattle.bits.specs.ChoiceLaws.{within-low, within-high, within-yes}
 use Rattle.bits.specs.Lists.{All, Along}
-use Rattle.format.specs.Differences.{Falls, diffs, undiffs, diff, tell}
+use Rattle.format.specs.Differences.{Falls, diffs, undiffs, diff, tellDifference}
 
 -- differences that the codec takes, from the state (m, l) on
 abbrev pub Steps : ℕ → ℕ → ℕ → List ℕ → Type 0
-Steps w m l ds = Along tell (λ i d. diff w i .Fits d) (m, l) ds
+Steps w m l ds = Along tellDifference (λ i d. diff w i .Fits d) (m, l) ds
 
 -- ---- laws
 

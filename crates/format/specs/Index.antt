@@ -13,14 +13,14 @@ use Rattle.bits.specs.CodecLaws.{field, then, via, along, ranged}
 use Rattle.bits.specs.Block.{Block}
 use Rattle.bits.specs.BlockLaws.{ended, maybe}
 use Rattle.outcome.specs.Refusals.{badIndex}
-use Rattle.format.specs.Differences.{diff, tell}
+use Rattle.format.specs.Differences.{diff, tellDifference}
 pub use Rattle.format.specs.Parts.{FitsList, Index, up, FitsIndex}
 use Rattle.format.specs.Parts.{makeList, differencesOf, makeIndex, partsOfIndex}
 use Rattle.format.specs.PartsLaws.{list-matches, index-matches}
 
 -- line l's neighbours at width w
 abbrev pub neighbours : ℕ → ℕ → Codec Bool (List ℕ)
-neighbours w l = via (then (field badIndex w) λ n. along (diff w) tell n (0, l)) (makeList l) (differencesOf l) (FitsList w l) (list-matches w l)
+neighbours w l = via (then (field badIndex w) λ n. along (diff w) tellDifference n (0, l)) (makeList l) (differencesOf l) (FitsList w l) (list-matches w l)
 
 -- the block without its filling; n is how many lines there are
 unfoldable pub index : ℕ → Codec Bool Index

@@ -35,7 +35,7 @@ reached (r.Refused e p) = fault e p
 -- ---- a block behind its length, a field of 16 bits at byte a
 
 -- it is whole: from byte b up to byte e
-pub record Whole (s : List ℕ) (a b e : ℕ) : Type 0 where
+pub record WholeAt (s : List ℕ) (a b e : ℕ) : Type 0 where
   pub start : b ≡ a + 2
   pub counted : Reads (fieldDec past 16) s (8 * a) (found (e - b) (8 * b))
   pub ordered : b ≤ e
@@ -48,7 +48,7 @@ pub data Cut (s : List ℕ) (a p : ℕ) : Type 0 where
 
 -- the one or the other, as `block_at` says
 abbrev pub Behind : List ℕ → ℕ → WholeBlock → Type 0
-Behind s a (k.At b e) = Whole s a b e
+Behind s a (k.At b e) = WholeAt s a b e
 Behind s a (k.Past p) = Cut s a p
 
 -- ---- what is read

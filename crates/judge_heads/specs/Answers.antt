@@ -16,8 +16,8 @@ use Rattle.format.specs.declared.Header.{Header}
 use Rattle.format.specs.declared.ViewHeader.{ViewHeader}
 use Rattle.judge_heads.specs.declared.view.Headed.{Headed}
 use Rattle.judge_heads.specs.declared.view.Headed.the-variants as h
-use Rattle.judge_heads.specs.declared.view.FieldsAt.{FieldsAt}
-use Rattle.judge_heads.specs.declared.view.FieldsAt.the-variants as v
+use Rattle.judge_heads.specs.declared.view.HeadFieldsAt.{HeadFieldsAt}
+use Rattle.judge_heads.specs.declared.view.HeadFieldsAt.the-variants as v
 use Rattle.judge_heads.specs.declared.header.ScaleAt.{ScaleAt}
 use Rattle.judge_heads.specs.declared.header.ScaleAt.the-variants as f
 use Rattle.judge_heads.specs.declared.header.HeaderAt.{HeaderAt}
@@ -26,7 +26,7 @@ use Rattle.judge_heads.specs.declared.header.HeaderAt.the-variants as g
 -- ---- answers
 
 -- n is the refusal of a value
-abbrev pub fieldsAt : ℕ → FieldsAt → Found ViewHeader
+abbrev pub fieldsAt : ℕ → HeadFieldsAt → Found ViewHeader
 fieldsAt n (v.At x p) = found x (p .at)
 fieldsAt n (v.Wrong p) = fault n p
 

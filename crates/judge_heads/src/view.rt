@@ -18,7 +18,7 @@ pub enum Headed {
 }
 
 // The header's fields and the cursor behind them, or the place of the first that is not right.
-pub enum FieldsAt {
+pub enum HeadFieldsAt {
     At(ViewHeader, Cursor),
     Wrong(usize),
 }
@@ -47,7 +47,7 @@ fn impression_bad(impression: usize) -> bool
 
 // The header's eight bytes at the cursor, without the skeleton's length; seen counts the earlier views of each position. A sheet has
 // them too, with a refusal of its own.
-pub fn head_fields(p: Cursor, bytes: &[u8], seen: &[u8; 11]) -> FieldsAt
+pub fn head_fields(p: Cursor, bytes: &[u8], seen: &[u8; 11]) -> HeadFieldsAt
     requires { ⌜ (length (now bytes) ≤ 65535) × (p .at + 64 ≤ 8 * length (now bytes)) ⌝ }
     ensures { λ r. ⌜ ((e : ℕ) → Reads (headFields e (earlierOf (now (seen .entry))) .dec) (now (bytes .entry)) (p .at) (fieldsAt e r)) ⌝ }
 {
@@ -59,20 +59,20 @@ pub fn head_fields(p: Cursor, bytes: &[u8], seen: &[u8; 11]) -> FieldsAt
     let height = width.next.sure(bytes, 16);
     let finger = position.value;
     if number.value != earlier(seen, finger) {
-        return FieldsAt::Wrong(p.at);
+        return HeadFieldsAt::Wrong(p.at);
     }
     if 10 < finger {
-        return FieldsAt::Wrong(p.at + 8);
+        return HeadFieldsAt::Wrong(p.at + 8);
     }
     let kind = impression.value;
     if impression_bad(kind) {
-        return FieldsAt::Wrong(p.at + 16);
+        return HeadFieldsAt::Wrong(p.at + 16);
     }
     if 100 < quality.value {
-        return FieldsAt::Wrong(p.at + 24);
+        return HeadFieldsAt::Wrong(p.at + 24);
     }
     let next = height.next;
-    FieldsAt::At(
+    HeadFieldsAt::At(
         ViewHeader {
             number: number.value,
             position: finger,
@@ -95,8 +95,8 @@ pub fn head_at(bytes: &[u8], a: usize, seen: &[u8; 11]) -> Headed
         return Headed::Refused(Refusal::PAST, at);
     }
     match head_fields(Cursor { at }, bytes, seen) {
-        FieldsAt::Wrong(p) => Headed::Refused(Refusal::BAD_VIEW, p),
-        FieldsAt::At(head, p) => {
+        HeadFieldsAt::Wrong(p) => Headed::Refused(Refusal::BAD_VIEW, p),
+        HeadFieldsAt::At(head, p) => {
             let len = p.sure(bytes, 16);
             Headed::At(head, len.value)
         }

@@ -7,7 +7,7 @@ use Rattle.bits.specs.Codec.{got}
 use Rattle.format.specs.Record.{Record, read}
 use Rattle.format.specs.declared.Widths.{Widths}
 
-pub record ViewsThere (w : Widths) (count : ℕ) (s : List ℕ) : Type 0 where
+pub record ViewsToList (w : Widths) (count : ℕ) (s : List ℕ) : Type 0 where
   pub value : Record
   pub reads : read s ≡ got value []
   pub widths : w ≡ value .head .scale .widths

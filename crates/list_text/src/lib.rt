@@ -1,6 +1,6 @@
 // A record's listing, printed: `refused N`, or a line with length and views and one for each view.
 ghost use Prim.Native.Nat.{_≤_, _<_};
-ghost use Rattle.list_text.specs.Views.{ViewsThere};
+ghost use Rattle.list_text.specs.Views.{ViewsToList};
 use format::Header;
 use format::Widths;
 use judge::Verdict;
@@ -73,7 +73,7 @@ fn view_line(v: Listed)
 
 // The lines of the views of an accepted record.
 fn view_lines(bytes: &[u8], w: Widths, count: usize)
-    requires { ⌜ ViewsThere w count (now bytes) ⌝ }
+    requires { ⌜ ViewsToList w count (now bytes) ⌝ }
 {
     let mut a: usize = Header::BYTES;
     let mut i: usize = 0;

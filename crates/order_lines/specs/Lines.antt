@@ -29,7 +29,7 @@ pub record LinesAt (w : Widths) (s : List ℕ) (p : ℕ) (ls : List Line) (u : B
   pub fits : All (FitsLine w) ls
   pub within : p ≤ 8 * length s
 
-pub record LinesThere (w : Widths) (s : List ℕ) (count : ℕ) (removal : List ℕ) : Type 0 where
+pub record LinesToKeep (w : Widths) (s : List ℕ) (count : ℕ) (removal : List ℕ) : Type 0 where
   pub narrow : Narrow w
   pub short : length s ≤ 65535
   pub rising : Rising removal
@@ -43,7 +43,7 @@ pub record LinesSized (w : Widths) (s : List ℕ) (count : ℕ) (removal : List 
   pub is : (ls : List Line) (u : Bits) → LinesAt w s 0 ls u → length ls ≡ count → r ≡ length (keptBlock w removal ls)
 
 pub record LinesPutThere (w : Widths) (s : List ℕ) (count : ℕ) (removal out : List ℕ) : Type 0 where
-  pub there : LinesThere w s count removal
+  pub there : LinesToKeep w s count removal
   pub room : length (keptBlock w removal (there .value)) ≤ length out
 
 pub record LinesPut (w : Widths) (s : List ℕ) (count : ℕ) (removal before after : List ℕ) (r : ℕ) : Type 0 where

@@ -3,7 +3,7 @@
 ghost use mathlib.Core.Path.{_≡_};
 ghost use Prim.Native.Nat.{min};
 ghost use Rattle.order_lines.specs.Copy.{CopyThere, Copied};
-ghost use Rattle.order_lines.specs.Lines.{LinesThere, LinesSized, LinesPutThere, LinesPut};
+ghost use Rattle.order_lines.specs.Lines.{LinesToKeep, LinesSized, LinesPutThere, LinesPut};
 use bits::Cursor;
 use find_parts::line::line_end;
 use format::Widths;
@@ -34,7 +34,7 @@ fn copy_bits(out: &mut [u8], at: usize, block: &[u8], p: usize, end: usize) -> u
 
 // How many bytes the new skeleton block has. The old one is `block`, of `count` lines; the removal leaves some of them.
 pub fn lines_size(block: &[u8], w: Widths, count: usize, removal: &[u8]) -> usize
-    requires { ⌜ LinesThere w (now block) count (now removal) ⌝ }
+    requires { ⌜ LinesToKeep w (now block) count (now removal) ⌝ }
     ensures { λ r. ⌜ LinesSized w (now (block .entry)) count (now (removal .entry)) r ⌝ }
 {
     let mut p: usize = 0;

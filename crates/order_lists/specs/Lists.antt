@@ -24,15 +24,15 @@ use Rattle.order_lists.specs.declared.lists.Entry.{Entry}
 -- ---- the lists after an order
 
 -- what stands for a line where there is none: a number that no line has, since a line's has 16 bits
-abbrev pub noLine : ℕ
-noLine = 65536
+abbrev pub noLineNumber : ℕ
+noLineNumber = 65536
 
 -- how many lines are put into line l's list, and which line it leaves out
 abbrev pub waits : Change → ℕ → ℕ
 waits ch l = pick (eqb l (ch .high)) (pick (ch .joins) 1 0) 0
 
 abbrev pub leaves : Change → ℕ → ℕ
-leaves ch l = pick (eqb l (ch .high)) (pick (ch .joins) noLine (ch .low)) noLine
+leaves ch l = pick (eqb l (ch .high)) (pick (ch .joins) noLineNumber (ch .low)) noLineNumber
 
 -- line l's list
 abbrev pub newList : List ℕ → Change → ℕ → List ℕ → List ℕ

@@ -64,7 +64,7 @@ pub record StepTo (w : ℕ) (s : List ℕ) (k : ListWalk) (low : ℕ) (ns : List
   pub is : putIn (k .waiting) low ns ≡ r .line ∷ putIn (r .next .waiting) low more
   pub less : r .next .left + r .next .waiting < k .left + k .waiting
 
-pub record Steps (w : ℕ) (s : List ℕ) (k : ListWalk) (low : ℕ) (r : Step) : Type 0 where
+pub record StepsOn (w : ℕ) (s : List ℕ) (k : ListWalk) (low : ℕ) (r : Step) : Type 0 where
   pub is : (ns : List ℕ) (u : Bits) → WalkAt w s k ns u → StepTo w s k low ns u r
   pub waits : r .next .waiting ≤ k .waiting
   pub less : r .next .left + r .next .waiting < k .left + k .waiting

@@ -2,7 +2,7 @@
 // lines that a removal names left out and the others renumbered.
 ghost use Rattle.orders.specs.Listed.{removalLines};
 ghost use Rattle.order_removal.specs.Rank.{Rising};
-ghost use Rattle.order_lists.specs.Walk.{WalkThere, Steps, Fares};
+ghost use Rattle.order_lists.specs.Walk.{WalkThere, StepsOn, Fares};
 use bits::Cursor;
 use order_removal::rank_of;
 
@@ -31,7 +31,7 @@ pub enum Fate {
 // line to be put in.
 pub fn step_on(block: &[u8], w: usize, k: ListWalk, low: usize) -> Step
     requires { ⌜ WalkThere w (now block) k ⌝ }
-    ensures { λ r. ⌜ Steps w (now (block .entry)) k low r ⌝ }
+    ensures { λ r. ⌜ StepsOn w (now (block .entry)) k low r ⌝ }
 {
     let at = k.at;
     let left = k.left;

@@ -15,7 +15,7 @@ use Rattle.bits.specs.Codec.{fieldDec}
 use Rattle.bits.specs.Reads.{found, Reads}
 use Rattle.outcome.specs.Refusals.{badIndex}
 use Rattle.orders.specs.Survive.{elem}
-use Rattle.order_lists.specs.Walk.{putIn, WalkAt, Steps}
+use Rattle.order_lists.specs.Walk.{putIn, WalkAt, StepsOn}
 use Rattle.order_lists.specs.Lists.{ListsAt, ListHere, EntryAt}
 use Rattle.order_near.specs.Near.{Has, FoundAt, Near}
 use Rattle.order_lists.specs.declared.walk.ListWalk.{ListWalk}
@@ -40,7 +40,7 @@ module _ (w : ℕ) (s : List ℕ) (low : ℕ) where
   pub looking-first : (from : ListWalk) → LookingAll w s low from from
   looking-first from ns u h = record { ms = ns; at = h; is = refl }
 
-  module _ {from k : ListWalk} {r : Step} (L : LookingAll w s low from k) (z : k .waiting ≡ 0) (S : Steps w s k 0 r) where
+  module _ {from k : ListWalk} {r : Step} (L : LookingAll w s low from k) (z : k .waiting ≡ 0) (S : StepsOn w s k 0 r) where
     -- the list's next line, and those behind it
     record Next (ns : List ℕ) (u : Bits) : Type 0 where
       ms : List ℕ

@@ -17,13 +17,13 @@ abbrev pub extendedStart : Record → ℕ → ℕ
 extendedStart r i = (bitsBefore r i + bitsAhead (r .head .scale .widths) (viewAt r i)) / 8 - 2
 
 -- all of it
-abbrev pub viewBytes : Record → ℕ → List ℕ → List ℕ
-viewBytes r i bytes = slice (viewStart r i) (viewStart r (suc i)) bytes
+abbrev pub viewPart : Record → ℕ → List ℕ → List ℕ
+viewPart r i bytes = slice (viewStart r i) (viewStart r (suc i)) bytes
 
 -- "view header without skeleton length (8 bytes)"
-abbrev pub viewHeaderBytes : Record → ℕ → List ℕ → List ℕ
-viewHeaderBytes r i bytes = slice (viewStart r i) (viewStart r i + 8) bytes
+abbrev pub viewHeaderPart : Record → ℕ → List ℕ → List ℕ
+viewHeaderPart r i bytes = slice (viewStart r i) (viewStart r i + 8) bytes
 
 -- the extended length and the segments, up to the view's end
-abbrev pub extendedBytes : Record → ℕ → List ℕ → List ℕ
-extendedBytes r i bytes = slice (extendedStart r i) (viewStart r (suc i)) bytes
+abbrev pub extendedPart : Record → ℕ → List ℕ → List ℕ
+extendedPart r i bytes = slice (extendedStart r i) (viewStart r (suc i)) bytes

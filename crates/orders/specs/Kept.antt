@@ -11,7 +11,7 @@ use Rattle.bits.specs.Codec.{got}
 use Rattle.format.specs.Record.{Record, read, write, Allowed}
 use Rattle.format.specs.Places.{viewAt}
 use Rattle.orders.specs.History.{Call, fresh, history, Follows}
-use Rattle.orders.specs.Bytes.{viewBytes, viewHeaderBytes, extendedBytes}
+use Rattle.orders.specs.Bytes.{viewPart, viewHeaderPart, extendedPart}
 
 -- start are the bytes of the record r; they are lent to the first of the orders cs, and each result to the next; now are the bytes
 -- that hold at the end.
@@ -30,7 +30,7 @@ pub record Kept (cs : List Call) (r : Record) (start now : List ℕ) : Type 0 wh
   pub front : slice 0 8 now ≡ slice 0 8 start
   pub fields : slice 12 24 now ≡ slice 12 24 start
   -- a view on which no order was accepted keeps all its bytes
-  pub spared : (i : ℕ) → i < length (r .views) → history i cs start (fresh (viewAt r i)) .accepted ≡ 0 → viewBytes last i now ≡ viewBytes r i start
+  pub spared : (i : ℕ) → i < length (r .views) → history i cs start (fresh (viewAt r i)) .accepted ≡ 0 → viewPart last i now ≡ viewPart r i start
   -- and every view those of its header, but for the skeleton length, and those of its extended length and segments
-  pub headers : (i : ℕ) → i < length (r .views) → viewHeaderBytes last i now ≡ viewHeaderBytes r i start
-  pub extended : (i : ℕ) → i < length (r .views) → extendedBytes last i now ≡ extendedBytes r i start
+  pub headers : (i : ℕ) → i < length (r .views) → viewHeaderPart last i now ≡ viewHeaderPart r i start
+  pub extended : (i : ℕ) → i < length (r .views) → extendedPart last i now ≡ extendedPart r i start

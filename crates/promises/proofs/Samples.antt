@@ -14,7 +14,7 @@ use Rattle.format.specs.Record.{header, views, recordOf, read, size, write}
 use Rattle.format.specs.Call.{onRecord, onView}
 use Rattle.sheet.specs.Fields.{tagged, fields}
 use Rattle.sheet.specs.Grammar.{grammar}
-use Rattle.sheet.specs.Code.{extended}
+use Rattle.sheet.specs.Code.{signExtended}
 use Rattle.sheet.specs.Values.{headerValue, viewHeadValue, lineValue, widthValue, listValue, segmentValue}
 use Rattle.sheet.specs.Sheet.{rawView, rawOf, sheetOf, viewFrom, recordFrom, readSheet, reading, writing}
 use Rattle.trail.specs.Trail.{trail, trailing}
@@ -24,5 +24,5 @@ use Rattle.orders.specs.Order.{edited, tests, allTests, verdict, order}
 use Rattle.promises.specs.Samples.{result, expected, computed, table}
 
 pub samples : map computed table ≡ map expected table
-unfolding numberOfBits bitsOfNumber bitsOf bytesOf thenDec viaDec onlyDec judgedDec wholeDec roomDec endedDec sizedDec aheadDec passDec recastDec mostLines leastBytes mostBytes end line skeleton index indexBlock segment segments view viewHeader header views recordOf read size write onRecord onView tagged fields grammar headerValue viewHeadValue lineValue widthValue listValue segmentValue rawView rawOf sheetOf viewFrom recordFrom readSheet reading writing trail trailing leastWidth near after edited tests allTests verdict order extended result
+unfolding numberOfBits bitsOfNumber bitsOf bytesOf thenDec viaDec onlyDec judgedDec wholeDec roomDec endedDec sizedDec aheadDec passDec recastDec mostLines leastBytes mostBytes end line skeleton index indexBlock segment segments view viewHeader header views recordOf read size write onRecord onView tagged fields grammar headerValue viewHeadValue lineValue widthValue listValue segmentValue rawView rawOf sheetOf viewFrom recordFrom readSheet reading writing trail trailing leastWidth near after edited tests allTests verdict order signExtended result
 samples = refl

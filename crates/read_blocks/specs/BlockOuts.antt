@@ -17,7 +17,7 @@ use Rattle.sheet_bytes.specs.Bytes.{indexBytes, segmentBytes}
 
 -- ---- the index block s of a view with that many lines
 
-pub record IndexThere (lines : ℕ) (s : List ℕ) (n : ℕ) : Type 0 where
+pub record IndexToRead (lines : ℕ) (s : List ℕ) (n : ℕ) : Type 0 where
   pub few : lines ≤ 1024
   pub short : length s ≤ 65535
   pub value : Option Index
@@ -30,7 +30,7 @@ pub record IndexOut (lines : ℕ) (s before after : List ℕ) (r : ℕ) : Type 0
 
 -- ---- the extended block s
 
-pub record SegmentsThere (s : List ℕ) (n : ℕ) : Type 0 where
+pub record SegmentsToRead (s : List ℕ) (n : ℕ) : Type 0 where
   pub short : length s ≤ 65535
   pub value : List Segment
   pub left : Bits

@@ -22,7 +22,7 @@ use Rattle.read_blocks.specs.declared.line.Lines.{Lines}
 
 -- ---- a line at place p of the block s; n bytes are lent
 
-pub record LineThere (w : Widths) (s : List ℕ) (p n : ℕ) : Type 0 where
+pub record LineToRead (w : Widths) (s : List ℕ) (p n : ℕ) : Type 0 where
   pub narrow : Narrow w
   pub short : length s ≤ 65535
   pub value : Line
@@ -35,7 +35,7 @@ pub record LineOut (w : Widths) (s : List ℕ) (p : ℕ) (before after : List �
 
 -- ---- the lines of the skeleton block s
 
-pub record LinesThere (w : Widths) (s : List ℕ) (n : ℕ) : Type 0 where
+pub record LinesToRead (w : Widths) (s : List ℕ) (n : ℕ) : Type 0 where
   pub narrow : Narrow w
   pub short : length s ≤ 65535
   pub value : List Line

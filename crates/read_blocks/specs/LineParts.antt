@@ -11,7 +11,7 @@ use Rattle.put_bytes.specs.Laid.{Laid}
 use Rattle.format.specs.Line.{EndFits}
 use Rattle.format.specs.declared.End.{End}
 use Rattle.sheet_bytes.specs.Bytes.{lineBytes}
-use Rattle.read_blocks.specs.declared.line.Parts.{Parts}
+use Rattle.read_blocks.specs.declared.line.LineParts.{LineParts}
 
 -- an end whose numbers fit the bytes that a sheet has for them
 abbrev pub SmallEnd : End → Type 0
@@ -19,7 +19,7 @@ SmallEnd = EndFits (λ n. n < 256) (λ n. n < 256) (λ n. n < 65536)
 
 -- ---- the field of a line of the block s, with codes of k bits; n bytes are lent
 
-pub record PartsThere (k : ℕ) (s : List ℕ) (l : Parts) (n : ℕ) : Type 0 where
+pub record PartsThere (k : ℕ) (s : List ℕ) (l : LineParts) (n : ℕ) : Type 0 where
   pub short : length s ≤ 65535
   pub low : 1 ≤ k
   pub high : k ≤ 8
@@ -29,6 +29,6 @@ pub record PartsThere (k : ℕ) (s : List ℕ) (l : Parts) (n : ℕ) : Type 0 wh
   pub codes : l .codes .at + l .count * k ≤ 8 * length s
   pub room : 15 + l .count ≤ n
 
-pub record PartsOut (k : ℕ) (s : List ℕ) (l : Parts) (before after : List ℕ) (r : ℕ) : Type 0 where
+pub record PartsOut (k : ℕ) (s : List ℕ) (l : LineParts) (before after : List ℕ) (r : ℕ) : Type 0 where
   pub is : (cs : List ℕ) (q : ℕ) → Reads (timesDec (field badLine k) (l .count)) s (l .codes .at) (found cs q)
       → Laid (lineBytes k (record { start = l .start; codes = cs; finish = l .finish })) before after r

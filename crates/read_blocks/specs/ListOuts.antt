@@ -9,7 +9,7 @@ use Rattle.bits.specs.Bytes.{bitsOf}
 use Rattle.bits.specs.Codec.{Read, got, alongDec}
 use Rattle.bits.specs.Reads.{Reads, found, keeping}
 use Rattle.put_bytes.specs.Laid.{Laid}
-use Rattle.format.specs.Differences.{undiffs, diff, tell}
+use Rattle.format.specs.Differences.{undiffs, diff, tellDifference}
 
 -- d reads a value from place p of the block s on, and n bytes hold it
 pub record ValueThere {A : Type 0} (d : Bits → Read Bool A) (size : A → ℕ) (s : List ℕ) (p n : ℕ) : Type 0 where
@@ -28,4 +28,4 @@ pub record ValueOut {A : Type 0} (d : Bits → Read Bool A) (bytes : A → List 
 
 -- n differences of w bits, the first at least m, as neighbours by number from l downwards
 abbrev pub numbersDec : (w n m l : ℕ) → Bits → Read Bool (List ℕ)
-numbersDec w n m l s = keeping (undiffs l) (alongDec (diff w) tell n (m, l) s)
+numbersDec w n m l s = keeping (undiffs l) (alongDec (diff w) tellDifference n (m, l) s)

@@ -8,7 +8,7 @@ ghost use Rattle.format.specs.Index.{neighbours, up};
 ghost use Rattle.format.specs.SheetSize.{listSize};
 ghost use Rattle.put_bytes.specs.HighFirst.{two, joined};
 ghost use Rattle.sheet_bytes.specs.Bytes.{listBytes};
-ghost use Rattle.read_blocks.specs.BlockOuts.{IndexThere, IndexOut};
+ghost use Rattle.read_blocks.specs.BlockOuts.{IndexToRead, IndexOut};
 ghost use Rattle.read_blocks.specs.ListOuts.{ValueThere, ValueOut, numbersDec};
 use bits::Cursor;
 use put_bytes::copy;
@@ -74,7 +74,7 @@ fn lists_out(out: &mut [u8], block: &[u8], p: Cursor, w: usize, lines: usize) ->
 
 // The 04 and the 05 fields of the index block of a view with `lines` lines.
 pub fn index_out(out: &mut [u8], block: &[u8], lines: usize) -> usize
-    requires { ⌜ IndexThere lines (now block) (length (now out)) ⌝ }
+    requires { ⌜ IndexToRead lines (now block) (length (now out)) ⌝ }
     ensures { λ r. ⌜ IndexOut lines (now (block .entry)) (now (out .entry)) (now (out .exit)) r ⌝ }
 {
     if block.len() == 0 {

@@ -10,11 +10,11 @@ ghost use Rattle.bits.specs.Reads.{found, Reads};
 ghost use Rattle.outcome.specs.Refusals.{badLine};
 ghost use Rattle.put_bytes.specs.Laid.{Laid};
 ghost use Rattle.format.specs.Line.{end};
-ghost use Rattle.sheet.specs.Code.{extended};
+ghost use Rattle.sheet.specs.Code.{signExtended};
 ghost use Rattle.sheet_bytes.specs.Bytes.{endBytes};
 ghost use Rattle.find_parts.specs.Stands.{endBits};
 ghost use Rattle.read_blocks.specs.LineParts.{SmallEnd, PartsThere, PartsOut};
-ghost use Rattle.read_blocks.specs.LineOuts.{LineThere, LineOut, LinesThere, LinesOut};
+ghost use Rattle.read_blocks.specs.LineOuts.{LineToRead, LineOut, LinesToRead, LinesOut};
 use bits::Cursor;
 use bits::pow2;
 use format::End;
@@ -28,7 +28,7 @@ struct SureEnd {
 }
 
 // What the 03 field of a line is made of; the codes are still to be read.
-struct Parts {
+struct LineParts {
     start: End,
     finish: End,
     codes: Cursor,
@@ -50,7 +50,7 @@ pub struct Lines {
 // The byte of a code of k bits.
 fn code_byte(n: usize, k: usize) -> u8
     requires { ⌜ (n < 2 ^ k) × (1 ≤ k) × (k ≤ 8) ⌝ }
-    ensures { λ r. ⌜ r ≡ extended k n ⌝ }
+    ensures { λ r. ⌜ r ≡ signExtended k n ⌝ }
 {
     if n < pow2(k - 1) {
         n as u8
@@ -96,7 +96,7 @@ fn end_sure(p: Cursor, block: &[u8], w: Widths) -> SureEnd
 fn codes_out(out: &mut [u8], block: &[u8], p: Cursor, k: usize, n: usize) -> usize
     requires { ⌜ (length (now block) ≤ 65535) × (1 ≤ k) × (k ≤ 8) × (p .at + n * k ≤ 8 * length (now block)) × (n ≤ length (now out)) ⌝ }
     ensures { λ r. ⌜ (r ≡ n) × ((cs : List ℕ) (q : ℕ) → Reads (timesDec (field badLine k) n) (now (block .entry)) (p .at) (found cs q)
-        → Laid (map (extended k) cs) (now (out .entry)) (now (out .exit)) r) ⌝ }
+        → Laid (map (signExtended k) cs) (now (out .entry)) (now (out .exit)) r) ⌝ }
 {
     let mut q = p;
     let mut i: usize = 0;
@@ -110,7 +110,7 @@ fn codes_out(out: &mut [u8], block: &[u8], p: Cursor, k: usize, n: usize) -> usi
 }
 
 // The 03 field of a line.
-fn parts_out(out: &mut [u8], block: &[u8], l: Parts, k: usize) -> usize
+fn parts_out(out: &mut [u8], block: &[u8], l: LineParts, k: usize) -> usize
     requires { ⌜ PartsThere k (now block) l (length (now out)) ⌝ }
     ensures { λ r. ⌜ PartsOut k (now (block .entry)) l (now (out .entry)) (now (out .exit)) r ⌝ }
 {
@@ -123,7 +123,7 @@ fn parts_out(out: &mut [u8], block: &[u8], l: Parts, k: usize) -> usize
 
 // The 03 field of the line at the cursor.
 pub fn line_out(out: &mut [u8], block: &[u8], p: Cursor, w: Widths) -> Lined
-    requires { ⌜ LineThere w (now block) (p .at) (length (now out)) ⌝ }
+    requires { ⌜ LineToRead w (now block) (p .at) (length (now out)) ⌝ }
     ensures { λ r. ⌜ LineOut w (now (block .entry)) (p .at) (now (out .entry)) (now (out .exit)) r ⌝ }
 {
     let first = end_sure(p, block, w);
@@ -135,7 +135,7 @@ pub fn line_out(out: &mut [u8], block: &[u8], p: Cursor, w: Widths) -> Lined
     let start = first.value;
     let finish = last.value;
     let next = last.next;
-    let parts = Parts {
+    let parts = LineParts {
         start,
         finish,
         codes,
@@ -147,7 +147,7 @@ pub fn line_out(out: &mut [u8], block: &[u8], p: Cursor, w: Widths) -> Lined
 
 // The 03 fields of the lines of a skeleton block.
 pub fn lines_out(out: &mut [u8], block: &[u8], w: Widths) -> Lines
-    requires { ⌜ LinesThere w (now block) (length (now out)) ⌝ }
+    requires { ⌜ LinesToRead w (now block) (length (now out)) ⌝ }
     ensures { λ r. ⌜ LinesOut w (now (block .entry)) (now (out .entry)) (now (out .exit)) r ⌝ }
 {
     let end = 8 * block.len();

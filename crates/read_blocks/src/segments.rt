@@ -5,7 +5,7 @@ ghost use Prim.Native.Nat.{_+_, _-_, _≤_};
 ghost use lib.ListN.{length, take, drop};
 ghost use Rattle.put_bytes.specs.Laid.{Laid};
 ghost use Rattle.put_bytes.specs.HighFirst.{start};
-ghost use Rattle.read_blocks.specs.BlockOuts.{SegmentsThere, SegmentsOut};
+ghost use Rattle.read_blocks.specs.BlockOuts.{SegmentsToRead, SegmentsOut};
 use bits::Cursor;
 use put_bytes::copy;
 use put_bytes::put_three;
@@ -26,7 +26,7 @@ fn segment_out(out: &mut [u8], block: &[u8], a: usize, n: usize) -> usize
 
 // The 06 fields of the segments of an extended block.
 pub fn segments_out(out: &mut [u8], block: &[u8]) -> usize
-    requires { ⌜ SegmentsThere (now block) (length (now out)) ⌝ }
+    requires { ⌜ SegmentsToRead (now block) (length (now out)) ⌝ }
     ensures { λ r. ⌜ SegmentsOut (now (block .entry)) (now (out .entry)) (now (out .exit)) r ⌝ }
 {
     let mut at: usize = 0;

@@ -19,7 +19,7 @@ headerField s = (start 1 9 ++ take 2 (drop 12 s)) ++ take 7 (drop 15 s)
 
 -- ---- the views of the record; n bytes are lent
 
-pub record ViewsThere (w : Widths) (count : ℕ) (s : List ℕ) (n : ℕ) : Type 0 where
+pub record ViewsToRead (w : Widths) (count : ℕ) (s : List ℕ) (n : ℕ) : Type 0 where
   pub value : Record
   pub reads : read s ≡ got value []
   pub widths : w ≡ value .head .scale .widths

@@ -17,7 +17,7 @@ use Rattle.read_views.specs.declared.view.ViewOut.{ViewOut}
 
 -- ---- the blocks of a view; the length of the first is at byte b
 
-pub record BlocksThere (w : Widths) (s : List ℕ) (b n : ℕ) : Type 0 where
+pub record BlocksToRead (w : Widths) (s : List ℕ) (b n : ℕ) : Type 0 where
   pub narrow : Narrow w
   pub short : length s ≤ 32768
   pub value : View
@@ -31,7 +31,7 @@ pub record BlocksOut (w : Widths) (s : List ℕ) (b : ℕ) (before after : List 
 
 -- ---- the view at byte a, behind views of the positions seen; n bytes are lent
 
-pub record ViewThere (w : Widths) (s : List ℕ) (a n : ℕ) : Type 0 where
+pub record ViewToRead (w : Widths) (s : List ℕ) (a n : ℕ) : Type 0 where
   pub narrow : Narrow w
   pub short : length s ≤ 32768
   pub seen : List ℕ

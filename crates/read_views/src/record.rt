@@ -3,7 +3,7 @@
 ghost use Prim.Native.Nat.{_≤_};
 ghost use lib.ListN.{length};
 ghost use Rattle.put_bytes.specs.Laid.{Laid};
-ghost use Rattle.read_views.specs.SheetOuts.{headerField, ViewsThere, ViewsOut, SheetThere, SheetOut};
+ghost use Rattle.read_views.specs.SheetOuts.{headerField, ViewsToRead, ViewsOut, SheetThere, SheetOut};
 use crate::view::view_out;
 use format::Header;
 use format::Widths;
@@ -23,7 +23,7 @@ fn header_out(out: &mut [u8], bytes: &[u8]) -> usize
 
 // The fields of the record's views, `count` of them; w are the widths of their fields.
 fn views_out(out: &mut [u8], bytes: &[u8], w: Widths, count: usize) -> usize
-    requires { ⌜ ViewsThere w count (now bytes) (length (now out)) ⌝ }
+    requires { ⌜ ViewsToRead w count (now bytes) (length (now out)) ⌝ }
     ensures { λ r. ⌜ ViewsOut (now (bytes .entry)) (now (out .entry)) (now (out .exit)) r ⌝ }
 {
     let mut p: usize = Header::BYTES;

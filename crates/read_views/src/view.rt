@@ -1,7 +1,7 @@
 // The fields of a view: 02, its header; then those of its lines, its index and its segments. The judge has accepted the view, so
 // that each of its blocks is where the lengths say.
 ghost use lib.ListN.{length};
-ghost use Rattle.read_views.specs.ViewOuts.{BlocksThere, BlocksOut, ViewThere, ViewWritten};
+ghost use Rattle.read_views.specs.ViewOuts.{BlocksToRead, BlocksOut, ViewToRead, ViewWritten};
 use find_parts::view::blocks_at;
 use format::Widths;
 use put_bytes::copy;
@@ -18,7 +18,7 @@ pub struct ViewOut {
 
 // The fields of a view's blocks; the length of the first is at byte b.
 fn blocks_out(out: &mut [u8], bytes: &[u8], b: usize, w: Widths) -> ViewOut
-    requires { ⌜ BlocksThere w (now bytes) b (length (now out)) ⌝ }
+    requires { ⌜ BlocksToRead w (now bytes) b (length (now out)) ⌝ }
     ensures { λ r. ⌜ BlocksOut w (now (bytes .entry)) b (now (out .entry)) (now (out .exit)) r ⌝ }
 {
     let blocks = blocks_at(bytes, b);
@@ -37,7 +37,7 @@ fn blocks_out(out: &mut [u8], bytes: &[u8], b: usize, w: Widths) -> ViewOut
 
 // The fields of the view at byte a.
 pub fn view_out(out: &mut [u8], bytes: &[u8], a: usize, w: Widths) -> ViewOut
-    requires { ⌜ ViewThere w (now bytes) a (length (now out)) ⌝ }
+    requires { ⌜ ViewToRead w (now bytes) a (length (now out)) ⌝ }
     ensures { λ r. ⌜ ViewWritten w (now (bytes .entry)) a (now (out .entry)) (now (out .exit)) r ⌝ }
 {
     let mut at = put_three(out, 2, 8);

@@ -16,7 +16,7 @@ use Rattle.format.specs.View.{view, viewHeader}
 use Rattle.format.specs.Record.{header, views, recordOf, size, write}
 use Rattle.sheet.specs.Fields.{tagged, fields}
 use Rattle.sheet.specs.Grammar.{grammar}
-use Rattle.sheet.specs.Code.{extended}
+use Rattle.sheet.specs.Code.{signExtended}
 use Rattle.sheet.specs.Values.{headerValue, viewHeadValue, lineValue, widthValue, listValue, segmentValue}
 use Rattle.sheet.specs.Sheet.{viewFrom, recordFrom, readSheet, writing}
 use Rattle.sheet.specs.Sample.{sheetA}
@@ -51,5 +51,5 @@ table =
     ∷ []
 
 verdicts : map verdict table ≡ map expected table
-unfolding numberOfBits bitsOfNumber bitsOf bytesOf thenDec viaDec onlyDec judgedDec endedDec aheadDec passDec recastDec mostLines mostBytes end line skeleton index indexBlock segment segments view viewHeader header views recordOf size write tagged fields grammar headerValue viewHeadValue lineValue widthValue listValue segmentValue viewFrom recordFrom readSheet writing extended
+unfolding numberOfBits bitsOfNumber bitsOf bytesOf thenDec viaDec onlyDec judgedDec endedDec aheadDec passDec recastDec mostLines mostBytes end line skeleton index indexBlock segment segments view viewHeader header views recordOf size write tagged fields grammar headerValue viewHeadValue lineValue widthValue listValue segmentValue viewFrom recordFrom readSheet writing signExtended
 verdicts = refl

@@ -6,13 +6,13 @@ use lib.Dec.{ltb, eqb}
 use Rattle.bits.specs.Choice.{pick}
 use Rattle.bits.specs.Bytes.{Byte}
 
-unfoldable pub extended : ℕ → ℕ → ℕ
-extended k n = pick (ltb n (2 ^ (k - 1))) n (n + (2 ^ 8 - 2 ^ k))
+unfoldable pub signExtended : ℕ → ℕ → ℕ
+signExtended k n = pick (ltb n (2 ^ (k - 1))) n (n + (2 ^ 8 - 2 ^ k))
 
 -- a byte that is the extension of its lowest k bits
 abbrev pub codeOk : ℕ → ℕ → Bool
-codeOk k x = eqb (extended k (x % 2 ^ k)) x
+codeOk k x = eqb (signExtended k (x % 2 ^ k)) x
 
 -- a code of k bits, and its byte
 abbrev pub CodeValue : ℕ → ℕ → Type 0
-CodeValue k n = (n < 2 ^ k) × Byte (extended k n)
+CodeValue k n = (n < 2 ^ k) × Byte (signExtended k n)

@@ -7,7 +7,7 @@ use lib.Dec.{T, ltb, eqb-refl, eqb→eq}
 use lib.Pow.{pow-pos, pow-mono, high-ones}
 use Rattle.bits.specs.ChoiceLaws.{pick-case, split}
 use Rattle.bits.specs.CodecLaws.{Matches}
-use Rattle.sheet.specs.Code.{extended, codeOk, CodeValue}
+use Rattle.sheet.specs.Code.{signExtended, codeOk, CodeValue}
 
 raised : (k n : ℕ) → n < 2 ^ k → (n + (2 ^ 8 - 2 ^ k)) % 2 ^ k ≡ n
 raised k n h =
@@ -20,18 +20,18 @@ raised k n h =
     ap (λ (m : ℕ). (n + m) % 2 ^ k) z ∙ rw e (mod-eq-of-lt h))
 
 -- the lowest k bits of the byte are the code
-pub extended-low : (k n : ℕ) → n < 2 ^ k → extended k n % 2 ^ k ≡ n
-unfolding extended
+pub extended-low : (k n : ℕ) → n < 2 ^ k → signExtended k n % 2 ^ k ≡ n
+unfolding signExtended
 extended-low k n h = pick-case (λ (x : ℕ). x % 2 ^ k ≡ n) (ltb n (2 ^ (k - 1))) _ _ (λ t. mod-eq-of-lt h) (λ t. raised k n h)
 
-pub extended-ok : (k n : ℕ) → n < 2 ^ k → T (codeOk k (extended k n))
-extended-ok k n h = rw (extended-low k n h) (eqb-refl (extended k n))
+pub extended-ok : (k n : ℕ) → n < 2 ^ k → T (codeOk k (signExtended k n))
+extended-ok k n h = rw (extended-low k n h) (eqb-refl (signExtended k n))
 
-pub code-matches : (k : ℕ) → Matches (λ x. (x < 2 ^ 8) × T (codeOk k x)) (λ x. x % 2 ^ k) (extended k) (CodeValue k)
+pub code-matches : (k : ℕ) → Matches (λ x. (x < 2 ^ 8) × T (codeOk k x)) (λ x. x % 2 ^ k) (signExtended k) (CodeValue k)
 code-matches k =
     record {
       fits = λ n h. (h .1, extended-ok k n (h .0));
       same = λ n h. extended-low k n (h .0);
-      allowed = λ x h. (mod-lt x (pow-pos k), rw (eqb→eq (extended k (x % 2 ^ k)) x (h .1)) (h .0));
-      again = λ x h. eqb→eq (extended k (x % 2 ^ k)) x (h .1);
+      allowed = λ x h. (mod-lt x (pow-pos k), rw (eqb→eq (signExtended k (x % 2 ^ k)) x (h .1)) (h .0));
+      again = λ x h. eqb→eq (signExtended k (x % 2 ^ k)) x (h .1);
     }

@@ -103,9 +103,9 @@ abbrev pub sheetShape : RawSheet → Bool
 sheetShape s = allTrue (eqb (length (s .head)) 9 ∷ within 1 255 (length (s .views)) ∷ every viewShape (s .views) ∷ [])
 
 -- an 01 comes first, nothing stands between it and the first 02, and each view's fields are used up
-abbrev pub ordered : List Field → Bool
-ordered [] = false
-ordered (f ∷ fs) = allTrue (eqb (f .tag) 1 ∷ empty? (parted fs .0) ∷ every usedUp (parted fs .1) ∷ [])
+abbrev pub inOrder : List Field → Bool
+inOrder [] = false
+inOrder (f ∷ fs) = allTrue (eqb (f .tag) 1 ∷ empty? (parted fs .0) ∷ every usedUp (parted fs .1) ∷ [])
 
 unfoldable pub grammar : List Field → Bool
-grammar fs = ordered fs && sheetShape (sheetIn fs)
+grammar fs = inOrder fs && sheetShape (sheetIn fs)

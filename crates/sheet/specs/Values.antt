@@ -22,7 +22,7 @@ use Rattle.format.specs.declared.End.{End}
 use Rattle.format.specs.declared.Header.{Header}
 use Rattle.format.specs.declared.ViewHeader.{ViewHeader}
 pub use Rattle.sheet.specs.Code.{CodeValue}
-use Rattle.sheet.specs.Code.{extended, codeOk}
+use Rattle.sheet.specs.Code.{signExtended, codeOk}
 use Rattle.sheet.specs.CodeLaws.{code-matches}
 pub use Rattle.sheet.specs.Parts.{Below, EndValue, LineValue, SegmentValue}
 use Rattle.sheet.specs.Parts.{headerOfValue, valueOfHeader, lineOfValue, valueOfLine, segmentOfValue, valueOfSegment}
@@ -41,18 +41,18 @@ viewHeadValue earlier = ended (headFields badValue earlier) badValue
 -- ---- 03: "start type, direction, x (2), y (2), end type, direction, x (2), y (2), then a byte for each code, two's complement"
 
 -- a number written in w bits that needs at most m
-abbrev pub below : ℕ → ℕ → Codec Bool ℕ
-below w m = only (field badValue w) badValue (λ n. ltb n (2 ^ m))
+abbrev pub fewBits : ℕ → ℕ → Codec Bool ℕ
+fewBits w m = only (field badValue w) badValue (λ n. ltb n (2 ^ m))
 
 abbrev pub endValue : Widths → Codec Bool End
-endValue w = endOf (below 8 2) (below 8 (w .b)) (below 16 (w .c))
+endValue w = endOf (fewBits 8 2) (fewBits 8 (w .b)) (fewBits 16 (w .c))
 
 -- a code of k bits, as its byte
 abbrev pub codeValue : ℕ → Codec Bool ℕ
-codeValue k = via (only (field badValue 8) badValue (codeOk k)) (λ x. x % 2 ^ k) (extended k) (CodeValue k) (code-matches k)
+codeValue k = via (only (field badValue 8) badValue (codeOk k)) (λ x. x % 2 ^ k) (signExtended k) (CodeValue k) (code-matches k)
 
 abbrev pub codesValue : ℕ → Block (List ℕ)
-codesValue k = fill (codeValue k) badValue (λ n. byte-some (extended k n)) (λ n. byte-whole (extended k n))
+codesValue k = fill (codeValue k) badValue (λ n. byte-some (signExtended k n)) (λ n. byte-whole (signExtended k n))
 
 unfoldable pub lineValue : Widths → Block Line
 lineValue w =

@@ -11,7 +11,7 @@ use Rattle.format.specs.View.{View}
 use Rattle.format.specs.Record.{Record}
 use Rattle.format.specs.declared.End.{End}
 use Rattle.format.specs.declared.Header.{Header}
-use Rattle.sheet.specs.Code.{extended}
+use Rattle.sheet.specs.Code.{signExtended}
 use Rattle.find_parts.specs.Stored.{headBytes, scaleBytes}
 
 abbrev pub endBytes : End → List ℕ
@@ -19,7 +19,7 @@ endBytes p = p .kind ∷ p .direction ∷ (two (p .x) ++ two (p .y))
 
 -- k: bits of a code
 abbrev pub lineBytes : ℕ → Line → List ℕ
-lineBytes k l = start 3 (12 + length (l .codes)) ++ (endBytes (l .start) ++ (endBytes (l .finish) ++ map (extended k) (l .codes)))
+lineBytes k l = start 3 (12 + length (l .codes)) ++ (endBytes (l .start) ++ (endBytes (l .finish) ++ map (signExtended k) (l .codes)))
 
 abbrev pub listBytes : List ℕ → List ℕ
 listBytes ns = start 5 (2 * length ns) ++ joined two ns

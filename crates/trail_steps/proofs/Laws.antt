@@ -22,7 +22,7 @@ use Rattle.put_bytes.specs.Laid.{Laid}
 use Rattle.put_bytes.proofs.Laws.{laid-none}
 use Rattle.trail.specs.Trail.{turnsLevel, turned, follow}
 use Rattle.trail.proofs.Laws.{trail-small}
-use Rattle.trail_steps.specs.Walk.{penOf, drawnBy, elementAt, Steps, CodesThere, OfCodes, drawn, CanDraw}
+use Rattle.trail_steps.specs.Walk.{penOf, drawnBy, elementAt, StepDraws, CodesThere, OfCodes, drawn, CanDraw}
 use Rattle.trail_steps.specs.declared.Pen.{Pen}
 use Rattle.trail_steps.specs.declared.Stepped.{Stepped}
 use Rattle.trail_steps.specs.declared.Stepped.the-variants as s
@@ -41,15 +41,15 @@ pub turned-small : (half k heading code : ℕ) → 1 ≤ half → turned half k 
 turned-small half k heading code l = mod-lt _ (omega arith)
 
 pub turns : (half k : ℕ) (pen : Pen) (code : ℕ) → code ≡ 2 ^ (k - 1) → pen .heading < 2 * half
-    → Steps half k pen code (s.Turned (record { heading = pen .heading; high = not (pen .high) }))
+    → StepDraws half k pen code (s.Turned (record { heading = pen .heading; high = not (pen .high) }))
 turns half k pen code e l = record { is = λ codes. rw (eqb-true code (2 ^ (k - 1)) e); heading = l }
 
-pub draws : (half k : ℕ) (pen : Pen) (code : ℕ) → code ≢ 2 ^ (k - 1) → 1 ≤ half → Steps half k pen code (elementAt (turned half k (pen .heading) code) (pen .high))
+pub draws : (half k : ℕ) (pen : Pen) (code : ℕ) → code ≢ 2 ^ (k - 1) → 1 ≤ half → StepDraws half k pen code (elementAt (turned half k (pen .heading) code) (pen .high))
 draws half k pen code e l =
     record { is = λ codes. rw (eqb-false code (2 ^ (k - 1)) e); heading = turned-small half k (pen .heading) code l }
 
 -- an element is below 4N
-pub element-small : {half k x : ℕ} {pen moved : Pen} {code : ℕ} → 1 ≤ half → pen .heading < 2 * half → Steps half k pen code (s.Drawn x moved) → x < 4 * half
+pub element-small : {half k x : ℕ} {pen moved : Pen} {code : ℕ} → 1 ≤ half → pen .heading < 2 * half → StepDraws half k pen code (s.Drawn x moved) → x < 4 * half
 element-small {half} {k} {x} {pen} {moved} {code} l h st = rw (st .is []) at (trail-small half k (pen .high) (pen .heading) (code ∷ []) (omega arith) h) .0
 
 -- ---- a loop over the codes
@@ -147,7 +147,7 @@ drawing-start {before = before} e t =
 module _ {form : List ℕ → List ℕ} {half k n heading : ℕ} {s : List ℕ} {p : ℕ} {before : List ℕ} {i q : ℕ} {pen : Pen} {after : List ℕ} {at : ℕ}
     (o : Drawing form half k n heading s p before i q pen after at) where
   -- a code is read, and the step of it taken
-  module _ {code q′ : ℕ} {r : Stepped} (l : i < n) (c : Reads (fieldDec badLine k) s q (found code q′)) (st : Steps half k pen code r) where
+  module _ {code q′ : ℕ} {r : Stepped} (l : i < n) (c : Reads (fieldDec badLine k) s q (found code q′)) (st : StepDraws half k pen code r) where
     walk-on : Onward k n s p (i + 1) q′ (Walked half k heading (penOf r) (o .new ++ drawnBy r))
     walk-on =
         onward-next l c

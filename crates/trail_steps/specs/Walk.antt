@@ -34,7 +34,7 @@ abbrev pub elementAt : ℕ → Bool → Stepped
 elementAt heading high = s.Drawn (2 * heading + val high) (record { heading = heading; high = high })
 
 -- whatever codes follow, the trail is what the step draws and the trail from there
-pub record Steps (half k : ℕ) (pen : Pen) (code : ℕ) (r : Stepped) : Type 0 where
+pub record StepDraws (half k : ℕ) (pen : Pen) (code : ℕ) (r : Stepped) : Type 0 where
   pub is : (codes : List ℕ) → follow half k (pen .high) (pen .heading) (code ∷ codes) ≡ drawnBy r ++ follow half k (penOf r .high) (penOf r .heading) codes
   pub heading : penOf r .heading < 2 * half
 

@@ -7,7 +7,7 @@ ghost use lib.ListN.{length};
 ghost use Rattle.put_bytes.specs.Laid.{Laid};
 ghost use Rattle.put_bytes.specs.HighFirst.{two, joined};
 ghost use Rattle.trail.specs.Trail.{turned, follow};
-ghost use Rattle.trail_steps.specs.Walk.{startAt, elementAt, drawn, CodesThere, CanDraw, OfCodes, Steps};
+ghost use Rattle.trail_steps.specs.Walk.{startAt, elementAt, drawn, CodesThere, CanDraw, OfCodes, StepDraws};
 use bits::Cursor;
 use bits::pow2;
 
@@ -70,7 +70,7 @@ fn element_at(heading: usize, high: bool) -> Stepped
 // One code of k bits.
 pub fn step(pen: Pen, code: usize, k: usize, half: usize) -> Stepped
     requires { ⌜ (1 ≤ k) × (k ≤ 8) × (code < 2 ^ k) × (1 ≤ half) × (half ≤ 255) × (pen .heading < 2 * half) ⌝ }
-    ensures { λ r. ⌜ Steps half k pen code r ⌝ }
+    ensures { λ r. ⌜ StepDraws half k pen code r ⌝ }
 {
     if code == level_turn(k) {
         return Stepped::Turned(Pen {

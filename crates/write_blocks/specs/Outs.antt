@@ -22,12 +22,12 @@ pub record SegmentsAt (s : List ℕ) (a : ℕ) (gs : List Segment) (rest : List 
   pub run : RunAt 6 segmentHeld s a gs rest
   pub fits : All FitsSegment gs
 
-pub record SegmentsThere (s : List ℕ) (a n : ℕ) : Type 0 where
+pub record SegmentsToWrite (s : List ℕ) (a n : ℕ) : Type 0 where
   pub value : List Segment
   pub rest : List ℕ
   pub at : SegmentsAt s a value rest
   pub room : total (λ g. 4 + length (g .payload)) value ≤ n
 
-pub record SegmentsOut (s : List ℕ) (a : ℕ) (before after : List ℕ) (r : Done) : Type 0 where
+pub record SegmentsWritten (s : List ℕ) (a : ℕ) (before after : List ℕ) (r : Done) : Type 0 where
   pub is : (gs : List Segment) (rest : List ℕ) → SegmentsAt s a gs rest
       → Laid (joined segmentStored gs) before after (r .bytes) × (drop (r .next) s ≡ rest)

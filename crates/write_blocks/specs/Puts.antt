@@ -13,7 +13,7 @@ use Rattle.put_bits.specs.Put.{Puts, Room}
 use Rattle.format.specs.Line.{Line, FitsEnd, FitsLine, end, line}
 use Rattle.format.specs.declared.End.{End}
 use Rattle.format.specs.declared.Widths.{Widths}
-use Rattle.sheet.specs.Code.{extended}
+use Rattle.sheet.specs.Code.{signExtended}
 use Rattle.format.specs.Record.{Narrow}
 use Rattle.find_parts.specs.Stands.{endBits}
 use Rattle.sheet_bytes.specs.Bytes.{endBytes}
@@ -35,23 +35,23 @@ pub record EndPut (w : Widths) (s : List ℕ) (a : ℕ) (old : List ℕ) (at : �
 
 -- ---- codes of k bits, a byte each
 
-pub record CodesThere (k : ℕ) (s out : List ℕ) (at : ℕ) : Type 0 where
+pub record CodesToWrite (k : ℕ) (s out : List ℕ) (at : ℕ) : Type 0 where
   pub low : 1 ≤ k
   pub high : k ≤ 8
   pub value : List ℕ
   pub fits : All (λ n. n < 2 ^ k) value
-  pub held : s ≡ map (extended k) value
+  pub held : s ≡ map (signExtended k) value
   pub room : Room out at (length value * k)
 
 pub record CodesPut (k : ℕ) (s old : List ℕ) (at : ℕ) (now : List ℕ) (r : ℕ) : Type 0 where
-  pub is : (cs : List ℕ) → All (λ n. n < 2 ^ k) cs → s ≡ map (extended k) cs → Puts (encAll (field badLine k) cs) old at now r
+  pub is : (cs : List ℕ) → All (λ n. n < 2 ^ k) cs → s ≡ map (signExtended k) cs → Puts (encAll (field badLine k) cs) old at now r
 
 -- ---- a line, whose field has the value s
 
 abbrev pub lineHeld : ℕ → Line → List ℕ
-lineHeld k l = endBytes (l .start) ++ (endBytes (l .finish) ++ map (extended k) (l .codes))
+lineHeld k l = endBytes (l .start) ++ (endBytes (l .finish) ++ map (signExtended k) (l .codes))
 
-pub record LineThere (w : Widths) (s out : List ℕ) (at : ℕ) : Type 0 where
+pub record LineToWrite (w : Widths) (s out : List ℕ) (at : ℕ) : Type 0 where
   pub narrow : Narrow w
   pub value : Line
   pub fits : FitsLine w value
@@ -63,17 +63,17 @@ pub record LinePut (w : Widths) (s old : List ℕ) (at : ℕ) (now : List ℕ) (
 
 -- ---- the lines: fields 03 from byte a of the sheet s on
 
-pub record LinesAt (w : Widths) (s : List ℕ) (a : ℕ) (ls : List Line) (rest : List ℕ) : Type 0 where
+pub record LineFieldsAt (w : Widths) (s : List ℕ) (a : ℕ) (ls : List Line) (rest : List ℕ) : Type 0 where
   pub run : RunAt 3 (lineHeld (w .k)) s a ls rest
   pub fits : All (FitsLine w) ls
 
-pub record LinesThere (w : Widths) (s : List ℕ) (a : ℕ) (out : List ℕ) : Type 0 where
+pub record LinesToWrite (w : Widths) (s : List ℕ) (a : ℕ) (out : List ℕ) : Type 0 where
   pub narrow : Narrow w
   pub value : List Line
   pub rest : List ℕ
-  pub at : LinesAt w s a value rest
+  pub at : LineFieldsAt w s a value rest
   pub room : Room out 0 (total (λ l. length (line w .enc l)) value)
 
-pub record LinesPut (w : Widths) (s : List ℕ) (a : ℕ) (before after : List ℕ) (r : Lines) : Type 0 where
-  pub is : (ls : List Line) (rest : List ℕ) → LinesAt w s a ls rest
+pub record LinesWritten (w : Widths) (s : List ℕ) (a : ℕ) (before after : List ℕ) (r : Lines) : Type 0 where
+  pub is : (ls : List Line) (rest : List ℕ) → LineFieldsAt w s a ls rest
       → Laid (inBytes (filled (encAll (line w) ls))) before after (r .bytes) × (r .count ≡ length ls) × (drop (r .next) s ≡ rest)

@@ -1,5 +1,5 @@
 // The skeleton block, from the sheet's 03 fields: each line's ends, its count of codes and its codes, in bits.
-ghost use Rattle.write_blocks.specs.Puts.{EndThere, EndPut, CodesThere, CodesPut, LineThere, LinePut, LinesThere, LinesPut};
+ghost use Rattle.write_blocks.specs.Puts.{EndThere, EndPut, CodesToWrite, CodesPut, LineToWrite, LinePut, LinesToWrite, LinesWritten};
 use bits::pow2;
 use bits::two_at;
 use bits::wide;
@@ -26,7 +26,7 @@ fn end_put(out: &mut [u8], at: usize, value: &[u8], a: usize, w: Widths) -> usiz
 
 // Codes of k bits, whose bytes are `value`.
 fn codes_put(out: &mut [u8], at: usize, value: &[u8], k: usize) -> usize
-    requires { ⌜ CodesThere k (now value) (now out) at ⌝ }
+    requires { ⌜ CodesToWrite k (now value) (now out) at ⌝ }
     ensures { λ r. ⌜ CodesPut k (now (value .entry)) (now (out .entry)) at (now (out .exit)) r ⌝ }
 {
     let top = pow2(k);
@@ -41,7 +41,7 @@ fn codes_put(out: &mut [u8], at: usize, value: &[u8], k: usize) -> usize
 
 // The line whose field has the value.
 fn line_put(out: &mut [u8], at: usize, value: &[u8], w: Widths) -> usize
-    requires { ⌜ LineThere w (now value) (now out) at ⌝ }
+    requires { ⌜ LineToWrite w (now value) (now out) at ⌝ }
     ensures { λ r. ⌜ LinePut w (now (value .entry)) (now (out .entry)) at (now (out .exit)) r ⌝ }
 {
     let end = value.len();
@@ -53,8 +53,8 @@ fn line_put(out: &mut [u8], at: usize, value: &[u8], w: Widths) -> usize
 
 // The lines whose fields start at byte a of the sheet.
 pub fn lines_out(out: &mut [u8], sheet: &[u8], a: usize, w: Widths) -> Lines
-    requires { ⌜ LinesThere w (now sheet) a (now out) ⌝ }
-    ensures { λ r. ⌜ LinesPut w (now (sheet .entry)) a (now (out .entry)) (now (out .exit)) r ⌝ }
+    requires { ⌜ LinesToWrite w (now sheet) a (now out) ⌝ }
+    ensures { λ r. ⌜ LinesWritten w (now (sheet .entry)) a (now (out .entry)) (now (out .exit)) r ⌝ }
 {
     let mut next = a;
     let mut at: usize = 0;

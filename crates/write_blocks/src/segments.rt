@@ -5,7 +5,7 @@ ghost use Prim.Native.Nat.{_+_, _≤_};
 ghost use lib.ListN.{length, take, drop};
 ghost use Rattle.put_bytes.specs.Laid.{Laid};
 ghost use Rattle.put_bytes.specs.HighFirst.{two};
-ghost use Rattle.write_blocks.specs.Outs.{SegmentsThere, SegmentsOut};
+ghost use Rattle.write_blocks.specs.Outs.{SegmentsToWrite, SegmentsWritten};
 use crate::Done;
 use bits::two_at;
 use bits::wide;
@@ -26,8 +26,8 @@ fn segment_out(out: &mut [u8], value: &[u8]) -> usize
 
 // The segments whose fields start at byte a of the sheet.
 pub fn segments_out(out: &mut [u8], sheet: &[u8], a: usize) -> Done
-    requires { ⌜ SegmentsThere (now sheet) a (length (now out)) ⌝ }
-    ensures { λ r. ⌜ SegmentsOut (now (sheet .entry)) a (now (out .entry)) (now (out .exit)) r ⌝ }
+    requires { ⌜ SegmentsToWrite (now sheet) a (length (now out)) ⌝ }
+    ensures { λ r. ⌜ SegmentsWritten (now (sheet .entry)) a (now (out .entry)) (now (out .exit)) r ⌝ }
 {
     let mut p = a;
     let mut at: usize = 0;

@@ -22,7 +22,7 @@ scaleFrom s m = ((m ∷ []) ++ take 7 (drop 5 s)) ++ two 0
 
 -- ---- the views: their fields are all that stands from byte 12 of the sheet s on
 
-pub record ViewsThere (w : Widths) (s out : List ℕ) : Type 0 where
+pub record ViewsToWrite (w : Widths) (s out : List ℕ) : Type 0 where
   pub narrow : Narrow w
   pub value : List View
   pub is : drop 12 s ≡ joined (viewBytes (w .k)) value

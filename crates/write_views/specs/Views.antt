@@ -15,7 +15,7 @@ use Rattle.format.specs.declared.Widths.{Widths}
 use Rattle.format.specs.Record.{Narrow}
 use Rattle.sheet_bytes.specs.Bytes.{viewBytes}
 use Rattle.find_parts.specs.Stored.{sizedOut, viewOut}
-use Rattle.write_blocks.specs.Puts.{LinesAt}
+use Rattle.write_blocks.specs.Puts.{LineFieldsAt}
 use Rattle.write_blocks.specs.Lists.{IndexAt}
 use Rattle.write_blocks.specs.Outs.{SegmentsAt}
 use Rattle.write_blocks.specs.declared.Done.{Done}
@@ -27,12 +27,12 @@ pub record SkeletonThere (w : Widths) (s : List ℕ) (a : ℕ) (out : List ℕ) 
   pub narrow : Narrow w
   pub value : List Line
   pub rest : List ℕ
-  pub at : LinesAt w s a value rest
+  pub at : LineFieldsAt w s a value rest
   pub small : length (inBytes (skeleton w .enc value)) < 65536
   pub room : 2 + length (inBytes (skeleton w .enc value)) ≤ length out
 
 pub record SkeletonOut (w : Widths) (s : List ℕ) (a : ℕ) (before after : List ℕ) (r : Lines) : Type 0 where
-  pub is : (ls : List Line) (rest : List ℕ) → LinesAt w s a ls rest
+  pub is : (ls : List Line) (rest : List ℕ) → LineFieldsAt w s a ls rest
       → Laid (sizedOut (skeleton w) ls) before after (r .bytes) × (r .count ≡ length ls) × (drop (r .next) s ≡ rest)
 
 -- ---- the index block: nothing, or fields 04 and 05
@@ -45,7 +45,7 @@ pub record IndexSizedThere (lines : ℕ) (s : List ℕ) (a : ℕ) (out : List �
   pub small : length (inBytes (indexBlock lines .enc value)) < 65536
   pub room : 2 + length (inBytes (indexBlock lines .enc value)) ≤ length out
 
-pub record IndexSized (lines : ℕ) (s : List ℕ) (a : ℕ) (before after : List ℕ) (r : Done) : Type 0 where
+pub record IndexBehindLength (lines : ℕ) (s : List ℕ) (a : ℕ) (before after : List ℕ) (r : Done) : Type 0 where
   pub is : (o : Option Index) (rest : List ℕ) → IndexAt lines s a o rest
       → Laid (sizedOut (indexBlock lines) o) before after (r .bytes) × (drop (r .next) s ≡ rest)
 
@@ -78,7 +78,7 @@ pub record RightView (w : Widths) (v : View) : Type 0 where
   pub indexSmall : length (inBytes (indexBlock (length (v .lines)) .enc (v .index))) < 65536
   pub extendedSmall : length (inBytes (segments .enc (v .segments))) < 65536
 
-pub record ViewThere (w : Widths) (s : List ℕ) (a : ℕ) (out : List ℕ) : Type 0 where
+pub record ViewToWrite (w : Widths) (s : List ℕ) (a : ℕ) (out : List ℕ) : Type 0 where
   pub narrow : Narrow w
   pub value : View
   pub rest : List ℕ

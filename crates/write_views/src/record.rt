@@ -3,7 +3,7 @@ ghost use mathlib.Core.List.{[], _∷_};
 ghost use Prim.Native.Nat.{_≤_, _<_};
 ghost use lib.ListN.{length};
 ghost use Rattle.put_bytes.specs.Laid.{Laid};
-ghost use Rattle.write_views.specs.Records.{deviceFrom, scaleFrom, ViewsThere, ViewsPut, RecordThere, RecordPut};
+ghost use Rattle.write_views.specs.Records.{deviceFrom, scaleFrom, ViewsToWrite, ViewsPut, RecordThere, RecordPut};
 use crate::view::view_out;
 use bits::wide;
 use format::Widths;
@@ -43,7 +43,7 @@ fn scale_out(out: &mut [u8], sheet: &[u8], views: usize) -> usize
 
 // The views, whose fields start at byte 12 of the sheet.
 fn views_out(out: &mut [u8], sheet: &[u8], w: Widths) -> usize
-    requires { ⌜ ViewsThere w (now sheet) (now out) ⌝ }
+    requires { ⌜ ViewsToWrite w (now sheet) (now out) ⌝ }
     ensures { λ r. ⌜ ViewsPut w (now (sheet .entry)) (now (out .entry)) (now (out .exit)) r ⌝ }
 {
     let mut p: usize = 12;

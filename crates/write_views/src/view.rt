@@ -1,6 +1,6 @@
 // A view of the record, from its fields in the sheet: the header's bytes as they stand, then the three blocks, each behind its length.
 // A block is written first, and its length in front of it when it is known.
-ghost use Rattle.write_views.specs.Views.{SkeletonThere, SkeletonOut, IndexSizedThere, IndexSized, SegmentsSizedThere, SegmentsSized, ViewThere, ViewPut};
+ghost use Rattle.write_views.specs.Views.{SkeletonThere, SkeletonOut, IndexSizedThere, IndexBehindLength, SegmentsSizedThere, SegmentsSized, ViewToWrite, ViewPut};
 use format::Widths;
 use put_bytes::copy;
 use put_bytes::put_two;
@@ -27,7 +27,7 @@ fn skeleton(out: &mut [u8], sheet: &[u8], a: usize, w: Widths) -> Lines
 // The index block behind its length.
 fn index(out: &mut [u8], sheet: &[u8], a: usize, lines: usize) -> Done
     requires { ⌜ IndexSizedThere lines (now sheet) a (now out) ⌝ }
-    ensures { λ r. ⌜ IndexSized lines (now (sheet .entry)) a (now (out .entry)) (now (out .exit)) r ⌝ }
+    ensures { λ r. ⌜ IndexBehindLength lines (now (sheet .entry)) a (now (out .entry)) (now (out .exit)) r ⌝ }
 {
     let block = index_out(&mut out[2..], sheet, a, lines);
     let at = put_two(out, block.bytes);
@@ -52,7 +52,7 @@ fn extended(out: &mut [u8], sheet: &[u8], a: usize) -> Done
 
 // The view whose 02 is at byte a of the sheet.
 pub fn view_out(out: &mut [u8], sheet: &[u8], a: usize, w: Widths) -> Done
-    requires { ⌜ ViewThere w (now sheet) a (now out) ⌝ }
+    requires { ⌜ ViewToWrite w (now sheet) a (now out) ⌝ }
     ensures { λ r. ⌜ ViewPut w (now (sheet .entry)) a (now (out .entry)) (now (out .exit)) r ⌝ }
 {
     let from = a + 3;

@@ -16,7 +16,7 @@ use Rattle.format.specs.Segments.{Segment, segment, segment-length, segments}
 use Rattle.format.specs.declared.Widths.{Widths}
 use Rattle.find_parts.proofs.Laws.Index.{none-enc, index-long}
 use Rattle.find_parts.proofs.Laws.Lists.{all-long, along-long, list-bits}
-use Rattle.check_blocks.specs.Run.{lineBits, listBits, segmentBytes}
+use Rattle.check_blocks.specs.Run.{lineBits, listBits, segmentTakes}
 
 -- ---- lines
 
@@ -40,10 +40,10 @@ no-index-bytes n = ap length (none-enc n)
 
 -- ---- segments
 
-segments-long : (gs : List Segment) → length (encAll segment gs) ≡ 8 * total segmentBytes gs
+segments-long : (gs : List Segment) → length (encAll segment gs) ≡ 8 * total segmentTakes gs
 segments-long [] = refl
 segments-long (g ∷ gs) = length-append (segment .enc g) (encAll segment gs) ∙ omega (arith, segment-length g, segments-long gs)
 
-pub segments-bytes : (gs : List Segment) → length (segments .enc gs) ≡ 8 * total segmentBytes gs
+pub segments-bytes : (gs : List Segment) → length (segments .enc gs) ≡ 8 * total segmentTakes gs
 unfolding segments
 segments-bytes gs = segments-long gs

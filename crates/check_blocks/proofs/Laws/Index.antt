@@ -26,8 +26,8 @@ use Rattle.check_fields.specs.Fields.{FieldsAt}
 use Rattle.check_fields.proofs.Laws.{field-there, its-value, fields-behind}
 use Rattle.check_shape.specs.Shape.{starts}
 use Rattle.check_value.specs.Worth.{Wrong}
-use Rattle.check_blocks.specs.Run.{listLong, listBits, Lists, RunRight, RunWrong}
-use Rattle.check_blocks.specs.Index.{IndexThere, IndexRight, IndexWrong}
+use Rattle.check_blocks.specs.Run.{listLong, listBits, ListFields, RunRight, RunWrong}
+use Rattle.check_blocks.specs.Index.{IndexToCheck, IndexRight, IndexWrong}
 use Rattle.check_blocks.proofs.Laws.Blocks.{index-bytes, no-index-bytes}
 
 pub no-index : {s : List ℕ} {p : ℕ} (fs : List Field) → FieldsAt s p fs → T (not (starts 4 fs)) → IndexRight s fs p 0
@@ -50,9 +50,9 @@ pub record IndexParts (s : List ℕ) (p : ℕ) (fs : List Field) : Type 0 where
   pub long : length (part s (p + 3) (p + 4 - (p + 3))) ≡ 1
   pub there : p + 4 ≤ length s
   pub holds : part s (p + 3) (p + 4 - (p + 3)) ≡ width
-  pub lists : Lists s (p + 4) others
+  pub lists : ListFields s (p + 4) others
 
-pub index-parts : {s : List ℕ} {p : ℕ} (fs : List Field) → IndexThere s p fs → T (starts 4 fs) → IndexParts s p fs
+pub index-parts : {s : List ℕ} {p : ℕ} (fs : List Field) → IndexToCheck s p fs → T (starts 4 fs) → IndexParts s p fs
 index-parts [] h t = absurd t
 index-parts {s} {p} (f ∷ fs) h t =
     let e : indexIn (f ∷ fs) ≡ some (f .value, front 5 fs) = pick-yes (eqb (f .tag) 4) _ _ t in

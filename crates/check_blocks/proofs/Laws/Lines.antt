@@ -22,7 +22,7 @@ use Rattle.sheet.specs.Values.{lineValue}
 use Rattle.sheet.specs.Sheet.{alike}
 use Rattle.check_shape.specs.Shape.{starts}
 use Rattle.check_value.specs.Worth.{Right, Wrong}
-use Rattle.check_blocks.specs.Run.{lineLong, lineBits, Lines, RunWrong, RunRight, RightAre}
+use Rattle.check_blocks.specs.Run.{lineLong, lineBits, LineFields, RunWrong, RunRight, RightAre}
 use Rattle.check_blocks.proofs.Laws.Stand.{Held, Next}
 use Rattle.check_blocks.proofs.Laws.Run.{Going, going-first, going-all, going-wrong, going-on, its-right, one-more}
 
@@ -50,7 +50,7 @@ pub record LinesGoing (w : Widths) (s : List ℕ) (a p z : ℕ) : Type 0 where
   pub count : ℕ
   pub small : z ≤ count * 2132
   pub on : a ≤ p
-  pub is : (fs : List Field) → Lines s a fs → Going 3 lineLong (λ _. lineValue w) alike (lineBits w) s fs tt p tt count z
+  pub is : (fs : List Field) → LineFields s a fs → Going 3 lineLong (λ _. lineValue w) alike (lineBits w) s fs tt p tt count z
 
 pub lines-first : (w : Widths) (s : List ℕ) (a : ℕ) → LinesGoing w s a a 0
 lines-first w s a = record { count = 0; small = omega arith; on = omega arith; is = λ fs h. going-first (h .run) }
@@ -61,10 +61,10 @@ pub record LineNext (w : Widths) (s : List ℕ) (a p z : ℕ) (g : LinesGoing w 
   pub most : m ≤ 267
   pub held : Held s p m
   pub few : g .count < 1024
-  pub is : (fs : List Field) (h : Lines s a fs) → Next 3 s p m (g .is fs h .left)
+  pub is : (fs : List Field) (h : LineFields s a fs) → Next 3 s p m (g .is fs h .left)
 
 module _ {w : Widths} {s : List ℕ} {a p z : ℕ} (g : LinesGoing w s a p z) where
-  pub line-next : (fs : List Field) (h : Lines s a fs) → {m : ℕ} → ((fs : List Field) (h : Lines s a fs) → Next 3 s p m (g .is fs h .left)) → LineNext w s a p z g m
+  pub line-next : (fs : List Field) (h : LineFields s a fs) → {m : ℕ} → ((fs : List Field) (h : LineFields s a fs) → Next 3 s p m (g .is fs h .left)) → LineNext w s a p z g m
   line-next fs h {m} k =
       let N = k fs h in
       let v : List ℕ = N .field .value in
@@ -81,7 +81,7 @@ module _ {w : Widths} {s : List ℕ} {a p z : ℕ} (g : LinesGoing w s a p z) wh
     abbrev v : List ℕ
     v = part s (p + 3) (p + 3 + m - (p + 3))
 
-    pub lines-wrong : Wrong (lineValue w) v → (fs : List Field) → Lines s a fs → RunWrong 3 (λ _. lineValue w) alike tt fs
+    pub lines-wrong : Wrong (lineValue w) v → (fs : List Field) → LineFields s a fs → RunWrong 3 (λ _. lineValue w) alike tt fs
     lines-wrong r fs h =
         going-wrong (g .is fs h) (N .is fs h)
         (subst (λ (x : List ℕ). lineValue w .dec (bitsOf x) ≡ refused badValue (r .left)) (N .is fs h .holds) (r .refuses))
@@ -103,8 +103,8 @@ module _ {w : Widths} {s : List ℕ} {a p z : ℕ} (g : LinesGoing w s a p z) wh
         let k = counted-few w (m - 12) n (omega (arith, N .most)) in
         (codes-few w (m - 12) n (omega (arith, N .most)), k, omega (arith, k, g .small, N .few))
 
-  pub lines-all : (fs : List Field) → Lines s a fs → ((gs : List Field) (h : Lines s a gs) → T (not (starts 3 (g .is gs h .left))))
-      → RightAre (1024 * 2132) a p z (Lines s a) (λ gs. RunRight 3 (λ _. lineValue w) alike tt gs (lineBits w) s p z)
+  pub lines-all : (fs : List Field) → LineFields s a fs → ((gs : List Field) (h : LineFields s a gs) → T (not (starts 3 (g .is gs h .left))))
+      → RightAre (1024 * 2132) a p z (LineFields s a) (λ gs. RunRight 3 (λ _. lineValue w) alike tt gs (lineBits w) s p z)
   lines-all fs h k =
       record {
         small = omega (arith, g .small, g .is fs h .count, h .few);

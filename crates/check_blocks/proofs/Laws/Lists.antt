@@ -19,7 +19,7 @@ use Rattle.sheet.specs.Fields.{Field}
 use Rattle.sheet.specs.Values.{listValue}
 use Rattle.check_shape.specs.Shape.{starts}
 use Rattle.check_value.specs.Worth.{Right, Wrong}
-use Rattle.check_blocks.specs.Run.{listLong, listBits, Lists, RunWrong, RunRight, RightAre}
+use Rattle.check_blocks.specs.Run.{listLong, listBits, ListFields, RunWrong, RunRight, RightAre}
 use Rattle.check_blocks.proofs.Laws.Stand.{Held, Next}
 use Rattle.check_blocks.proofs.Laws.Run.{Going, going-first, going-all, going-wrong, going-on, its-right, one-more}
 
@@ -32,7 +32,7 @@ differences-few w n h l = omega (arith, mul-le-mul {n₁ = w} {m₁ = n} {n₂ =
 pub record ListsGoing (w : ℕ) (s : List ℕ) (a p l z : ℕ) : Type 0 where
   pub small : z ≤ l * 524288
   pub on : a ≤ p
-  pub is : (fs : List Field) → Lists s a fs → Going 5 listLong (listValue w) up (listBits w) s fs 0 p l l z
+  pub is : (fs : List Field) → ListFields s a fs → Going 5 listLong (listValue w) up (listBits w) s fs 0 p l l z
 
 pub lists-first : (w : ℕ) (s : List ℕ) (a : ℕ) → ListsGoing w s a a 0 0
 lists-first w s a = record { small = omega arith; on = omega arith; is = λ fs h. going-first (h .run) }
@@ -43,10 +43,10 @@ pub record ListNext (w : ℕ) (s : List ℕ) (a p l z : ℕ) (g : ListsGoing w s
   pub most : m ≤ 65534
   pub held : Held s p m
   pub few : l < 1024
-  pub is : (fs : List Field) (h : Lists s a fs) → Next 5 s p m (g .is fs h .left)
+  pub is : (fs : List Field) (h : ListFields s a fs) → Next 5 s p m (g .is fs h .left)
 
 module _ {w : ℕ} {s : List ℕ} {a p l z : ℕ} (g : ListsGoing w s a p l z) where
-  pub list-next : (fs : List Field) (h : Lists s a fs) → {m : ℕ} → ((fs : List Field) (h : Lists s a fs) → Next 5 s p m (g .is fs h .left)) → ListNext w s a p l z g m
+  pub list-next : (fs : List Field) (h : ListFields s a fs) → {m : ℕ} → ((fs : List Field) (h : ListFields s a fs) → Next 5 s p m (g .is fs h .left)) → ListNext w s a p l z g m
   list-next fs h {m} k =
       let N = k fs h in
       let e : length (N .field .value) % 2 ≡ 0 = eqb-yes (its-right (g .is fs h) N) in
@@ -63,7 +63,7 @@ module _ {w : ℕ} {s : List ℕ} {a p l z : ℕ} (g : ListsGoing w s a p l z) w
     abbrev v : List ℕ
     v = part s (p + 3) (p + 3 + m - (p + 3))
 
-    pub lists-wrong : Wrong (listValue w l) v → (fs : List Field) → Lists s a fs → RunWrong 5 (listValue w) up 0 fs
+    pub lists-wrong : Wrong (listValue w l) v → (fs : List Field) → ListFields s a fs → RunWrong 5 (listValue w) up 0 fs
     lists-wrong r fs h =
         going-wrong (g .is fs h) (N .is fs h)
         (subst (λ (x : List ℕ). listValue w l .dec (bitsOf x) ≡ refused badValue (r .left)) (N .is fs h .holds) (r .refuses))
@@ -85,8 +85,8 @@ module _ {w : ℕ} {s : List ℕ} {a p l z : ℕ} (g : ListsGoing w s a p l z) w
               (ap (λ (k : ℕ). w + w * k) e));
         }
 
-  pub lists-all : (fs : List Field) → Lists s a fs → ((gs : List Field) (h : Lists s a gs) → T (not (starts 5 (g .is gs h .left))))
-      → RightAre (1024 * 524288) a p z (Lists s a) (λ gs. RunRight 5 (listValue w) up 0 gs (listBits w) s p z)
+  pub lists-all : (fs : List Field) → ListFields s a fs → ((gs : List Field) (h : ListFields s a gs) → T (not (starts 5 (g .is gs h .left))))
+      → RightAre (1024 * 524288) a p z (ListFields s a) (λ gs. RunRight 5 (listValue w) up 0 gs (listBits w) s p z)
   lists-all fs h k =
       record {
         small = omega (arith, g .small, g .is fs h .count, h .few);

@@ -20,7 +20,7 @@ use Rattle.sheet.specs.Fields.{Field}
 use Rattle.sheet.specs.Values.{segmentValue}
 use Rattle.sheet.specs.Sheet.{alike}
 use Rattle.check_shape.specs.Shape.{starts}
-use Rattle.check_blocks.specs.Run.{segmentLong, segmentBytes, Segments, RunRight}
+use Rattle.check_blocks.specs.Run.{segmentLong, segmentTakes, Segments, RunRight}
 use Rattle.check_blocks.proofs.Laws.Stand.{Next}
 use Rattle.check_blocks.proofs.Laws.Run.{Going, going-first, going-all, its-right, going-on}
 
@@ -29,7 +29,7 @@ use Rattle.check_blocks.proofs.Laws.Run.{Going, going-first, going-all,
 pub record SegmentIn (v : List ℕ) : Type 0 where
   pub value : Segment
   pub reads : segmentValue .dec (bitsOf v) ≡ got value []
-  pub bytes : length v + 2 ≡ segmentBytes value
+  pub bytes : length v + 2 ≡ segmentTakes value
 
 segment-in : (v : List ℕ) → 2 ≤ length v → SegmentIn v
 unfolding segmentValue recastDec aheadDec
@@ -44,7 +44,7 @@ segment-in v l =
 -- ---- the loop over them
 
 abbrev pub SegmentsGoing : List ℕ → List Field → ℕ → ℕ → Type 0
-SegmentsGoing s fs p z = (n : ℕ) × Going 6 segmentLong (λ _. segmentValue) alike segmentBytes s fs tt p tt n z
+SegmentsGoing s fs p z = (n : ℕ) × Going 6 segmentLong (λ _. segmentValue) alike segmentTakes s fs tt p tt n z
 
 pub segments-first : {s : List ℕ} {p : ℕ} {fs : List Field} → Segments s p fs → SegmentsGoing s fs p 0
 segments-first h = (0, going-first h)
@@ -55,5 +55,5 @@ module _ {s : List ℕ} {fs : List Field} {p z : ℕ} (g : SegmentsGoing s fs p 
       let S = segment-in (N .field .value) (leb→le 2 (length (N .field .value)) (its-right (g .1) N)) in
       (g .0 + 1, going-on (g .1) N (S .reads) (omega (arith, S .bytes, N .size)))
 
-  pub segments-all : T (not (starts 6 (g .1 .left))) → RunRight 6 (λ _. segmentValue) alike tt fs segmentBytes s p z
+  pub segments-all : T (not (starts 6 (g .1 .left))) → RunRight 6 (λ _. segmentValue) alike tt fs segmentTakes s p z
   segments-all h = going-all (g .1) h

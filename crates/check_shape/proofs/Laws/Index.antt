@@ -16,7 +16,7 @@ use Rattle.bits.specs.ListsLaws.{all-true, true-all}
 use Rattle.sheet.specs.Fields.{Field}
 use Rattle.sheet.specs.Grammar.{front, rest, indexIn, indexRest, indexShape}
 use Rattle.check_fields.specs.Fields.{FieldsAt}
-use Rattle.check_shape.specs.Shape.{starts, begins, allSized, PassedAt, IndexAt}
+use Rattle.check_shape.specs.Shape.{starts, begins, allSized, PassedAt, IndexFieldsAt}
 use Rattle.check_shape.proofs.Laws.Sizes.{listKind, lists-sized}
 use Rattle.check_shape.proofs.Laws.Stand.{Begun}
 
@@ -47,7 +47,7 @@ module _ (n : ℕ) (f : Field) (fs : List Field) (e : f .tag ≡ 4) where
 
 -- ---- no 04, or one of another length
 
-pub no-index : (n : ℕ) {s : List ℕ} {p : ℕ} {fs : List Field} → FieldsAt s p fs → T (not (starts 4 fs)) → IndexAt n s fs p
+pub no-index : (n : ℕ) {s : List ℕ} {p : ℕ} {fs : List Field} → FieldsAt s p fs → T (not (starts 4 fs)) → IndexFieldsAt n s fs p
 no-index n {fs = []} h t = record { behind = h; right = tt }
 no-index n {s} {p} {fs = f ∷ fs} h t =
     record {
@@ -78,7 +78,7 @@ module _ (n : ℕ) {s : List ℕ} {p : ℕ} {fs : List Field} (B : Begun 4 1 s p
     pub count-wrong : m ≢ n → T (not (indexShape n (indexIn fs)))
     count-wrong u = index-wrong (λ r. u (omega (arith, L .count, r .count)))
 
-    pub index-right : m ≡ n → IndexAt n s fs next
+    pub index-right : m ≡ n → IndexFieldsAt n s fs next
     index-right e =
         record {
           behind = subst (λ (x : List Field). FieldsAt s next x) (sym (index-rest n (B .field) (B .others) (B .tag)) ∙ ap indexRest (sym (B .is))) (L .behind);

@@ -16,7 +16,7 @@ use Rattle.sheet.specs.Fields.{Field}
 use Rattle.sheet.specs.Grammar.{rest, indexRest, grammar}
 use Rattle.check_fields.specs.Fields.{fieldBytes, FieldsAt, Fields}
 use Rattle.check_fields.proofs.Laws.{field-long, no-fields, some-fields}
-use Rattle.check_shape.specs.Shape.{begins, viewRight, viewRest, ViewAt, Shape}
+use Rattle.check_shape.specs.Shape.{begins, viewRight, viewRest, ViewFieldsAt, Shape}
 use Rattle.check_shape.proofs.Laws.Views.{viewsRight, views, views-on, views-wrong, grammar-is, grammar-begins}
 use Rattle.check_shape.proofs.Laws.Stand.{Begun}
 
@@ -39,7 +39,7 @@ index-less (f ∷ fs) =
     (λ e. rw (eqb-true (f .tag) 4 e) (omega (arith, rest-less 5 fs, length-append (fieldBytes f) (joined fieldBytes fs))))
     (λ n. rw (eqb-false (f .tag) 4 n) (omega arith))
 
-pub further : {s : List ℕ} {p e : ℕ} {fs : List Field} → FieldsAt s p fs → ViewAt s fs e → p < e
+pub further : {s : List ℕ} {p e : ℕ} {fs : List Field} → FieldsAt s p fs → ViewFieldsAt s fs e → p < e
 further {fs = []} h v = absurd (v .right)
 further {s} {p} {e} {fs = f ∷ fs} h v =
     let a : length s - p ≡ bytes (f ∷ fs) = sym (length-drop p s) ∙ ap length (h .is) in
@@ -58,7 +58,7 @@ pub going-first : {s : List ℕ} {p : ℕ} {fs : List Field} → FieldsAt s p fs
 going-first {fs = fs} h = record { left = fs; stand = h; count = omega arith; right = refl }
 
 module _ {s : List ℕ} {fs : List Field} {n p : ℕ} (g : Going s fs n p) where
-  pub going-on : {e : ℕ} → ViewAt s (g .left) e → Going s fs (n + 1) e
+  pub going-on : {e : ℕ} → ViewFieldsAt s (g .left) e → Going s fs (n + 1) e
   going-on v =
       let (a, b) = views-on (g .left) (v .right) in
       record { left = viewRest (g .left); stand = v .behind; count = omega (arith, g .count, b); right = sym a ∙ g .right }

@@ -13,7 +13,7 @@ use Rattle.bits.specs.ChoiceLaws.{eqb-true, eqb-false, eq-split, within-low, wi
 use Rattle.bits.specs.Lists.{All, every}
 use Rattle.sheet.specs.Fields.{Field, FitsField}
 use Rattle.sheet.specs.Grammar.{front}
-use Rattle.check_shape.specs.Shape.{sized, allSized}
+use Rattle.check_shape.specs.Shape.{rightSize, allSized}
 use Rattle.check_shape.specs.declared.Kind.{Kind}
 
 -- tests that agree
@@ -29,12 +29,12 @@ every-same P t u (x ∷ xs) h e = ap₂ (λ (a b : Bool). a && b) (e x (h .0)) (
 
 -- ---- one length
 
-pub sized-facts : (k : Kind) (n : ℕ) → T (sized k n) → (k .least ≤ n) × (n ≤ k .most) × (n % k .step ≡ 0)
+pub sized-facts : (k : Kind) (n : ℕ) → T (rightSize k n) → (k .least ≤ n) × (n ≤ k .most) × (n % k .step ≡ 0)
 sized-facts k n t =
     let (a, b) = and-yes (within (k .least) (k .most) n) (eqb (n % k .step) 0) t in
     (within-low (k .least) (k .most) n a, within-high (k .least) (k .most) n a, eqb-yes b)
 
-pub facts-sized : (k : Kind) (n : ℕ) → k .least ≤ n → n ≤ k .most → n % k .step ≡ 0 → T (sized k n)
+pub facts-sized : (k : Kind) (n : ℕ) → k .least ≤ n → n ≤ k .most → n % k .step ≡ 0 → T (rightSize k n)
 facts-sized k n a b e = yes-and (within (k .least) (k .most) n) (eqb (n % k .step) 0) (within-yes (k .least) (k .most) n a b) (yes-eqb e)
 
 -- ---- those of the fields
@@ -63,20 +63,20 @@ module _ (fs : List Field) (fits : All FitsField fs) where
   pub lines-sized : allSized lineKind fs ≡ every (λ l. within 12 267 (length l)) (front 3 fs)
   lines-sized =
       every-same Short _ _ (front 3 fs) (front-short 3 fs fits) λ v h.
-      same (sized lineKind (length v)) (within 12 267 (length v))
+      same (rightSize lineKind (length v)) (within 12 267 (length v))
       (λ t. let (a, b, e) = sized-facts lineKind (length v) t in within-yes 12 267 (length v) a b)
       (λ t. facts-sized lineKind (length v) (within-low 12 267 (length v) t) (within-high 12 267 (length v) t) (omega arith))
 
   pub lists-sized : allSized listKind fs ≡ every (λ l. eqb (length l % 2) 0) (front 5 fs)
   lists-sized =
       every-same Short _ _ (front 5 fs) (front-short 5 fs fits) λ v h.
-      same (sized listKind (length v)) (eqb (length v % 2) 0)
+      same (rightSize listKind (length v)) (eqb (length v % 2) 0)
       (λ t. let (a, b, e) = sized-facts listKind (length v) t in yes-eqb e)
       (λ t. facts-sized listKind (length v) (omega arith) (omega arith) (eqb-yes t))
 
   pub segments-sized : allSized segmentKind fs ≡ every (λ g. leb 2 (length g)) (front 6 fs)
   segments-sized =
       every-same Short _ _ (front 6 fs) (front-short 6 fs fits) λ v h.
-      same (sized segmentKind (length v)) (leb 2 (length v))
+      same (rightSize segmentKind (length v)) (leb 2 (length v))
       (λ t. let (a, b, e) = sized-facts segmentKind (length v) t in yes-leb a)
       (λ t. facts-sized segmentKind (length v) (leb-yes t) (omega arith) (omega arith))

@@ -14,7 +14,7 @@ use Rattle.sheet.specs.Fields.{Field}
 use Rattle.sheet.specs.Grammar.{front, rest}
 use Rattle.check_fields.specs.Fields.{FieldsAt}
 use Rattle.check_fields.proofs.Laws.{field-there, its-tag, its-size, fields-behind, no-fields, some-fields}
-use Rattle.check_shape.specs.Shape.{starts, begins, sized, allSized, PassedAt}
+use Rattle.check_shape.specs.Shape.{starts, begins, rightSize, allSized, PassedAt}
 use Rattle.check_shape.specs.declared.Kind.{Kind}
 
 -- ---- what a call tells that answers a test
@@ -106,7 +106,7 @@ module _ {k : Kind} {s : List ℕ} {fs : List Field} {n next : ℕ} (g : Going k
       record {
         count = omega (arith, g .count, ap length a);
         behind = subst (λ (x : List Field). FieldsAt s next x) (sym b ∙ g .others) (g .stand);
-        right = subst T (sym (ap (every (λ v. sized k (length v))) a) ∙ g .right) tt;
+        right = subst T (sym (ap (every (λ v. rightSize k (length v))) a) ∙ g .right) tt;
       }
     where
       none : (gs : List Field) → T (not (starts (k .tag) gs)) → (front (k .tag) gs ≡ []) × (rest (k .tag) gs ≡ gs)
@@ -124,18 +124,18 @@ module _ {k : Kind} {s : List ℕ} {fs : List Field} {n next : ℕ} (g : Going k
     rest-is : rest (k .tag) (g .left) ≡ rest (k .tag) (F .others)
     rest-is = ap (rest (k .tag)) (F .is) ∙ pick-yes (eqb (F .field .tag) (k .tag)) _ _ (yes-eqb (F .tag))
 
-    sizes-are : allSized k (g .left) ≡ (sized k size && allSized k (F .others))
-    sizes-are = ap (every (λ v. sized k (length v))) front-is
+    sizes-are : allSized k (g .left) ≡ (rightSize k size && allSized k (F .others))
+    sizes-are = ap (every (λ v. rightSize k (length v))) front-is
 
-    pub going-on : T (sized k size) → Going k s fs (n + 1) (next + (3 + size))
+    pub going-on : T (rightSize k size) → Going k s fs (n + 1) (next + (3 + size))
     going-on t =
         record {
           left = F .others;
           stand = F .behind;
           count = omega (arith, g .count, ap length front-is);
           others = sym rest-is ∙ g .others;
-          right = sym (ap (λ (b : Bool). b && allSized k (F .others)) (T-true (sized k size) t)) ∙ sym sizes-are ∙ g .right;
+          right = sym (ap (λ (b : Bool). b && allSized k (F .others)) (T-true (rightSize k size) t)) ∙ sym sizes-are ∙ g .right;
         }
 
-    pub going-wrong : (T (sized k size) → ⊥) → T (not (allSized k fs))
-    going-wrong wrong = not-T (allSized k fs) (λ t. wrong (and-yes (sized k size) (allSized k (F .others)) (subst T (sym (g .right) ∙ sizes-are) t) .0))
+    pub going-wrong : (T (rightSize k size) → ⊥) → T (not (allSized k fs))
+    going-wrong wrong = not-T (allSized k fs) (λ t. wrong (and-yes (rightSize k size) (allSized k (F .others)) (subst T (sym (g .right) ∙ sizes-are) t) .0))

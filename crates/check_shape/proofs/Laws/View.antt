@@ -11,7 +11,7 @@ use mir.Facts.{T-not, not-T, yes-and, yes-eqb}
 use Rattle.sheet.specs.Fields.{Field}
 use Rattle.sheet.specs.Grammar.{rest, indexIn, indexRest, indexShape}
 use Rattle.check_fields.specs.Fields.{FieldsAt}
-use Rattle.check_shape.specs.Shape.{begins, allSized, viewRight, viewRest, PassedAt, IndexAt, ViewAt}
+use Rattle.check_shape.specs.Shape.{begins, allSized, viewRight, viewRest, PassedAt, IndexFieldsAt, ViewFieldsAt}
 use Rattle.check_shape.proofs.Laws.Sizes.{lineKind, segmentKind, lines-sized, segments-sized}
 use Rattle.check_shape.proofs.Laws.Views.{Tests, view-tests, tests-view}
 use Rattle.check_shape.proofs.Laws.Stand.{Begun}
@@ -41,13 +41,13 @@ module _ {s : List ℕ} {p : ℕ} {fs : List Field} (B : Begun 2 8 s p fs) where
         view-wrong λ r.
         T-not (indexShape n (indexIn (rest 3 (B .others)))) (subst (λ (k : ℕ). T (indexShape k (indexIn (rest 3 (B .others))))) (sym (L .count)) (r .index)) u
 
-    module _ {g : ℕ} (I : IndexAt n s (rest 3 (B .others)) g) where
+    module _ {g : ℕ} (I : IndexFieldsAt n s (rest 3 (B .others)) g) where
       pub segments-wrong : T (not (allSized segmentKind (indexRest (rest 3 (B .others))))) → T (not (viewRight fs))
       segments-wrong u =
           view-wrong λ r.
           T-not (allSized segmentKind (indexRest (rest 3 (B .others)))) (subst T (sym (segments-sized (indexRest (rest 3 (B .others))) (I .behind .fits))) (r .segments)) u
 
-      pub view-right : {m e : ℕ} → n ≤ 1024 → PassedAt segmentKind s (indexRest (rest 3 (B .others))) m e → ViewAt s fs e
+      pub view-right : {m e : ℕ} → n ≤ 1024 → PassedAt segmentKind s (indexRest (rest 3 (B .others))) m e → ViewFieldsAt s fs e
       view-right {e = e} l G =
           record {
             behind = subst (λ (x : List Field). FieldsAt s e x) (ap viewRest (sym (B .is))) (G .behind);

@@ -14,7 +14,7 @@ use Rattle.bits.specs.Lists.{every, allTrue, empty?}
 use Rattle.bits.specs.ListsLaws.{all-true, true-all}
 use Rattle.format.specs.Limits.{mostLines}
 use Rattle.sheet.specs.Fields.{Field}
-use Rattle.sheet.specs.Grammar.{Parts, parted, front, rest, indexIn, indexRest, viewIn, usedUp, sheetIn, indexShape, viewShape, sheetShape, ordered, grammar}
+use Rattle.sheet.specs.Grammar.{Parts, parted, front, rest, indexIn, indexRest, viewIn, usedUp, sheetIn, indexShape, viewShape, sheetShape, inOrder, grammar}
 use Rattle.check_shape.specs.Shape.{begins, viewRight, viewRest}
 use Rattle.check_shape.proofs.Laws.Parted.{parted-at, parted-not, rest-behind, view-parted}
 use Rattle.check_shape.proofs.Laws.Sizes.{same}
@@ -116,7 +116,7 @@ module _ (f : Field) (fs : List Field) where
   grammar-apart : T (grammar (f ∷ fs)) → T (begins 1 9 (f ∷ fs)) × T (within 1 255 (views fs)) × T (viewsRight fs)
   unfolding grammar
   grammar-apart t =
-      let (o, s) = and-yes (ordered (f ∷ fs)) (sheetShape (sheetIn (f ∷ fs))) t in
+      let (o, s) = and-yes (inOrder (f ∷ fs)) (sheetShape (sheetIn (f ∷ fs))) t in
       let (a, (e, (u, _))) = all-true (orderTests f fs) o in
       let (h, (n, (v, _))) = all-true (sheetTests f fs) s in (
         yes-and (eqb (f .tag) 1) (eqb (length (f .value)) 9) a h,
@@ -129,7 +129,7 @@ module _ (f : Field) (fs : List Field) where
   grammar-made b n v =
       let (a, h) = and-yes (eqb (f .tag) 1) (eqb (length (f .value)) 9) b in
       let (e, (u, (w, _))) = all-true (empty? (parted fs .0) ∷ every usedUp (parted fs .1) ∷ every viewShape (map viewIn (parted fs .1)) ∷ []) v in
-      yes-and (ordered (f ∷ fs)) (sheetShape (sheetIn (f ∷ fs)))
+      yes-and (inOrder (f ∷ fs)) (sheetShape (sheetIn (f ∷ fs)))
       (true-all (orderTests f fs) (a, (e, (u, tt))))
       (true-all (sheetTests f fs) (h, (subst (λ (k : ℕ). T (within 1 255 k)) (sym (length-map (parted fs .1) viewIn)) n, (w, tt))))
 

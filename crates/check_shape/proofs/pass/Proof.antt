@@ -10,7 +10,7 @@ use lib.ListN.{length}
 use lib.Dec.{T}
 use Rattle.sheet.specs.Fields.{Field}
 use Rattle.check_fields.specs.Fields.{FieldsAt}
-use Rattle.check_shape.specs.Shape.{sized, allSized}
+use Rattle.check_shape.specs.Shape.{rightSize, allSized}
 use Rattle.check_shape.proofs.Laws.Sizes.{sized-facts, facts-sized}
 use Rattle.check_shape.proofs.Laws.Stand.{told, denied, First, first, Going, going-first, going-all, going-on, going-wrong}
 use borrow.Author.Needs.{needs}
@@ -34,8 +34,8 @@ here c fs h = let g = c .before .before .loop .inv .1 fs h in first (c .before .
 its-size : (c : tie.After-two-at Inv-loop μ-loop) (fs : List Field) (h : FieldsAt (c .before .before .before .before .before .args .sheet .now) (c .before .before .before .before .before .args .p) fs) → c .two-at .result ≡ length (here (c .before) fs h .field .value)
 its-size c fs h = c .two-at .ensures ∙ here (c .before) fs h .size
 
-wrong : (c : tie.After-two-at Inv-loop μ-loop) → (T (sized (c .before .before .before .before .before .args .kind) (c .two-at .result)) → ⊥) → (fs : List Field) → FieldsAt (c .before .before .before .before .before .args .sheet .now) (c .before .before .before .before .before .args .p) fs → T (not (allSized (c .before .before .before .before .before .args .kind) fs))
-wrong c u fs h = going-wrong (c .before .before .before .loop .inv .1 fs h) (here (c .before) fs h) (subst (λ (n : ℕ). T (sized (c .before .before .before .before .before .args .kind) n) → ⊥) (its-size c fs h) u)
+wrong : (c : tie.After-two-at Inv-loop μ-loop) → (T (rightSize (c .before .before .before .before .before .args .kind) (c .two-at .result)) → ⊥) → (fs : List Field) → FieldsAt (c .before .before .before .before .before .args .sheet .now) (c .before .before .before .before .before .args .p) fs → T (not (allSized (c .before .before .before .before .before .args .kind) fs))
+wrong c u fs h = going-wrong (c .before .before .before .loop .inv .1 fs h) (here (c .before) fs h) (subst (λ (n : ℕ). T (rightSize (c .before .before .before .before .before .args .kind) n) → ⊥) (its-size c fs h) u)
 
 loop-holds : tie.Need-loop-holds Inv-loop μ-loop
 loop-holds c =
@@ -91,7 +91,7 @@ loop-again c =
     let l = c .before .before .before .before .before .before .before .before .before .loop in (
       omega (arith, l .inv .0),
       λ fs h. let F = here (c .before .before .before .before .before .before .before) fs h in let e = its-size (c .before .before .before .before .before .before) fs h in
-          subst (λ (n : ℕ). Going k s fs (l .count + 1) (l .next + (3 + n))) (sym e) (going-on (l .inv .1 fs h) F (subst (λ (n : ℕ). T (sized k n)) e (facts-sized k (c .before .before .before .before .before .before .two-at .result) (omega (arith, c .before .before .before .before .if2 .left)) (omega (arith, c .before .before .if3 .left)) (c .if4 .left)))),
+          subst (λ (n : ℕ). Going k s fs (l .count + 1) (l .next + (3 + n))) (sym e) (going-on (l .inv .1 fs h) F (subst (λ (n : ℕ). T (rightSize k n)) e (facts-sized k (c .before .before .before .before .before .before .two-at .result) (omega (arith, c .before .before .before .before .if2 .left)) (omega (arith, c .before .before .if3 .left)) (c .if4 .left)))),
     )
 
 returns-4 : tie.Need-returns-4 Inv-loop μ-loop

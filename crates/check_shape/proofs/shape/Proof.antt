@@ -8,7 +8,7 @@ use mathlib.Core.List.{List}
 use lib.ListN.{length}
 use Rattle.sheet.specs.Fields.{Field}
 use Rattle.check_fields.specs.Fields.{FieldsAt}
-use Rattle.check_shape.specs.Shape.{ViewEnds, ViewAt}
+use Rattle.check_shape.specs.Shape.{ViewEnds, ViewFieldsAt}
 use Rattle.check_shape.specs.declared.PartEnd.{PartEnd}
 use Rattle.check_shape.proofs.Laws.Stand.{told, denied, Begun, begun}
 use Rattle.check_shape.proofs.Laws.Sheet.{further, Going, going-first, going-on, going-wrong, going-all, shape-is, no-first, views-not, no-views, some-views}
@@ -30,7 +30,7 @@ first c = begun 1 9 (c .before .before .before .pre .stand) (told (not-false _ (
 going : (c : tie.At-loop Inv-loop μ-loop) → Going (c .before .before .before .before .args .sheet .now) (first (c .before) .others) (c .loop .views) (c .loop .p)
 going c = c .loop .inv .1 (first (c .before) .others) (first (c .before) .behind)
 
-view : (c : tie.After-next Inv-loop μ-loop) (fs : List Field) → FieldsAt (c .before .before .before .before .before .before .before .before .args .sheet .now) (c .before .before .before .before .loop .p) fs → ViewAt (c .before .before .before .before .before .before .before .before .args .sheet .now) fs (c .next .given .0 .0)
+view : (c : tie.After-next Inv-loop μ-loop) (fs : List Field) → FieldsAt (c .before .before .before .before .before .before .before .before .args .sheet .now) (c .before .before .before .before .loop .p) fs → ViewFieldsAt (c .before .before .before .before .before .before .before .before .args .sheet .now) fs (c .next .given .0 .0)
 view c = subst (λ (r : PartEnd). ViewEnds (c .before .before .before .before .before .before .before .before .args .sheet .now) (c .before .before .before .before .loop .p) r) (c .next .given .1) (c .before .before .view-end .ensures)
 
 begins-requires : tie.Need-begins-requires Inv-loop μ-loop

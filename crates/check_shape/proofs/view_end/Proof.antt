@@ -8,7 +8,7 @@ use mathlib.Core.List.{List}
 use Rattle.sheet.specs.Fields.{Field}
 use Rattle.sheet.specs.Grammar.{rest, indexRest}
 use Rattle.check_fields.specs.Fields.{FieldsAt}
-use Rattle.check_shape.specs.Shape.{Passes, PassedAt, IndexEnds, IndexAt}
+use Rattle.check_shape.specs.Shape.{Passes, PassedAt, IndexEnds, IndexFieldsAt}
 use Rattle.check_shape.specs.declared.PassedFields.{PassedFields}
 use Rattle.check_shape.specs.declared.PartEnd.{PartEnd}
 use Rattle.check_shape.proofs.Laws.Sizes.{lineKind, segmentKind}
@@ -26,7 +26,7 @@ lines-at c fs h =
     let B = first (c .before .before .before) fs h in
     subst (λ (r : PassedFields). Passes lineKind (c .before .before .before .before .before .before .args .sheet .now) (c .before .before .before .before .before .before .args .p + 11) r) (c .lines .given .1) (c .before .before .pass .ensures) (B .others) (B .behind)
 
-index-at : (c : tie.After-segments) (fs : List Field) (h : FieldsAt (c .before .before .before .before .before .before .before .before .before .before .before .args .sheet .now) (c .before .before .before .before .before .before .before .before .before .before .before .args .p) fs) → IndexAt (c .before .before .before .before .before .lines .given .0 .0) (c .before .before .before .before .before .before .before .before .before .before .before .args .sheet .now) (rest 3 (first (c .before .before .before .before .before .before .before .before) fs h .others)) (c .segments .given .0 .0)
+index-at : (c : tie.After-segments) (fs : List Field) (h : FieldsAt (c .before .before .before .before .before .before .before .before .before .before .before .args .sheet .now) (c .before .before .before .before .before .before .before .before .before .before .before .args .p) fs) → IndexFieldsAt (c .before .before .before .before .before .lines .given .0 .0) (c .before .before .before .before .before .before .before .before .before .before .before .args .sheet .now) (rest 3 (first (c .before .before .before .before .before .before .before .before) fs h .others)) (c .segments .given .0 .0)
 index-at c fs h =
     let L = lines-at (c .before .before .before .before .before) fs h in
     subst (λ (r : PartEnd). IndexEnds (c .before .before .before .before .before .lines .given .0 .0) (c .before .before .before .before .before .before .before .before .before .before .before .args .sheet .now) (c .before .before .before .before .before .lines .given .0 .1 .0) r) (c .segments .given .1) (c .before .before .index-end .ensures) (rest 3 (first (c .before .before .before .before .before .before .before .before) fs h .others)) (L .behind)

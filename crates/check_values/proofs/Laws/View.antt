@@ -21,9 +21,9 @@ use Rattle.check_fields.specs.Fields.{FieldsAt}
 use Rattle.check_fields.proofs.Laws.{field-there, its-value, fields-behind}
 use Rattle.check_shape.specs.Shape.{viewRest}
 use Rattle.check_shape.proofs.Laws.Views.{view-tests}
-use Rattle.check_blocks.specs.Run.{lineBits, segmentBytes, Lines, Segments, RunRight, RunWrong}
-use Rattle.check_blocks.specs.Index.{IndexThere, IndexRight, IndexWrong}
-use Rattle.check_values.specs.View.{ViewThere, rawIn, ViewRight, ViewWrong}
+use Rattle.check_blocks.specs.Run.{lineBits, segmentTakes, LineFields, Segments, RunRight, RunWrong}
+use Rattle.check_blocks.specs.Index.{IndexToCheck, IndexRight, IndexWrong}
+use Rattle.check_values.specs.View.{ViewToCheck, rawIn, ViewRight, ViewWrong}
 use Rattle.check_blocks.proofs.Laws.Blocks.{skeleton-bytes, segments-bytes}
 
 -- an 02 at byte p, and the fields behind it
@@ -35,11 +35,11 @@ pub record ViewParts (s : List ℕ) (p : ℕ) (fs : List Field) : Type 0 where
   pub long : length (part s (p + 3) (p + 11 - (p + 3))) ≡ 8
   pub there : p + 11 ≤ length s
   pub holds : part s (p + 3) (p + 11 - (p + 3)) ≡ head
-  pub lines : Lines s (p + 11) others
-  pub index : {i : ℕ} → FieldsAt s i (rest 3 others) → IndexThere s i (rest 3 others)
+  pub lines : LineFields s (p + 11) others
+  pub index : {i : ℕ} → FieldsAt s i (rest 3 others) → IndexToCheck s i (rest 3 others)
   pub segments : {g : ℕ} → FieldsAt s g (indexRest (rest 3 others)) → Segments s g (indexRest (rest 3 others))
 
-pub view-parts : {s : List ℕ} {p : ℕ} (fs : List Field) → ViewThere s p fs → ViewParts s p fs
+pub view-parts : {s : List ℕ} {p : ℕ} (fs : List Field) → ViewToCheck s p fs → ViewParts s p fs
 view-parts [] h = absurd (h .right)
 view-parts {s} {p} (f ∷ fs) h =
     let t = view-tests f fs (h .right) in
@@ -86,7 +86,7 @@ module _ (w : Widths) (ps : List ℕ) {s : List ℕ} {p : ℕ} {fs : List Field}
       unfolding viewFrom
       index-wrong u = record { left = u .left; refuses = ap (viewFrom w ps) (D .view) ∙ rw (head-reads, L .reads, u .refuses) }
 
-      pub view-right : {g y e x : ℕ} → IndexRight s (rest 3 others) g y → RunRight 6 (λ _. segmentValue) alike tt (indexRest (rest 3 others)) segmentBytes s e x
+      pub view-right : {g y e x : ℕ} → IndexRight s (rest 3 others) g y → RunRight 6 (λ _. segmentValue) alike tt (indexRest (rest 3 others)) segmentTakes s e x
           → ViewRight w ps fs s (record { end = e; position = h .position; bytes = 10 + (z + 7) / 8 + 2 + y + 2 + x })
       unfolding viewFrom
       view-right {e = e} {x = x} I G =

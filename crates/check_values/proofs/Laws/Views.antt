@@ -22,7 +22,7 @@ use Rattle.check_fields.proofs.Laws.{no-fields, some-fields}
 use Rattle.check_shape.specs.Shape.{viewRight, viewRest}
 use Rattle.check_shape.proofs.Laws.Parted.{parted-at, rest-behind, view-parted}
 use Rattle.check_shape.proofs.Laws.Views.{view-tests, viewsRight, views, views-on, first-right}
-use Rattle.check_values.specs.View.{ViewThere, rawIn, ViewRight, ViewWrong, SizedIs}
+use Rattle.check_values.specs.View.{ViewToCheck, rawIn, ViewRight, ViewWrong, SizedIs}
 use Rattle.check_values.specs.declared.view.Sized.{Sized}
 use Rattle.judge_heads.specs.Answers.{Seen}
 use Rattle.judge_heads.proofs.Laws.Seen.{seen-start, seen-more, seen-le}
@@ -95,7 +95,7 @@ module _ {w : Widths} {s seen : List ℕ} {p n z : ℕ} {fs : List Field} (g : G
     next-right : T (viewRight (g .left))
     next-right = some-fields (g .stand) l (λ f gs e. first-right (g .left) (omega (arith, ap length e)) (g .right))
 
-    pub next-view : ViewThere s p (g .left)
+    pub next-view : ViewToCheck s p (g .left)
     next-view = record { stand = g .stand; right = next-right }
 
     pub one-more : views fs ≤ 255 → n < 255

@@ -11,7 +11,7 @@ use Rattle.bits.specs.BitsLaws.{length-bits}
 use Rattle.bits.specs.Codec.{Codec}
 use Rattle.bits.specs.CodecLaws.{encAll, encAlong, field}
 use Rattle.outcome.specs.Refusals.{badIndex}
-use Rattle.format.specs.Differences.{diffs, diff, tell}
+use Rattle.format.specs.Differences.{diffs, diff, tellDifference}
 use Rattle.format.specs.DifferencesLaws.{length-diffs}
 use Rattle.format.specs.Index.{neighbours}
 use Rattle.find_parts.proofs.Laws.Line.{codes-long}
@@ -22,16 +22,16 @@ all-long c [] = refl
 all-long c (x ∷ xs) = length-append (c .enc x) (encAll c xs) ∙ ap (λ (n : ℕ). length (c .enc x) + n) (all-long c xs)
 
 -- where each is told of those before it, but takes as many bits whatever it is told
-pub along-long : {T A : Type 0} (c : T → Codec Bool A) (tell : T → A → T) (f : A → ℕ) → ((t : T) (x : A) → length (c t .enc x) ≡ f x) → (t : T) (xs : List A)
-    → length (encAlong c tell t xs) ≡ total f xs
-along-long c tell f h t [] = refl
-along-long c tell f h t (x ∷ xs) =
-    length-append (c t .enc x) (encAlong c tell (tell t x) xs) ∙ omega (arith, h t x, along-long c tell f h (tell t x) xs)
+pub along-long : {T A : Type 0} (c : T → Codec Bool A) (tellDifference : T → A → T) (f : A → ℕ) → ((t : T) (x : A) → length (c t .enc x) ≡ f x) → (t : T) (xs : List A)
+    → length (encAlong c tellDifference t xs) ≡ total f xs
+along-long c tellDifference f h t [] = refl
+along-long c tellDifference f h t (x ∷ xs) =
+    length-append (c t .enc x) (encAlong c tellDifference (tellDifference t x) xs) ∙ omega (arith, h t x, along-long c tellDifference f h (tellDifference t x) xs)
 
 -- what a difference is allowed to be does not change its bits
-diffs-bits : (w : ℕ) (t : ℕ × ℕ) (ds : List ℕ) → encAlong (diff w) tell t ds ≡ encAll (field badIndex w) ds
+diffs-bits : (w : ℕ) (t : ℕ × ℕ) (ds : List ℕ) → encAlong (diff w) tellDifference t ds ≡ encAll (field badIndex w) ds
 diffs-bits w t [] = refl
-diffs-bits w t (d ∷ ds) = ap (λ (s : Bits). bitsOfNumber w d ++ s) (diffs-bits w (tell t d) ds)
+diffs-bits w t (d ∷ ds) = ap (λ (s : Bits). bitsOfNumber w d ++ s) (diffs-bits w (tellDifference t d) ds)
 
 pub list-is : (w l : ℕ) (ns : List ℕ) → neighbours w l .enc ns ≡ bitsOfNumber w (length ns) ++ encAll (field badIndex w) (diffs l ns)
 list-is w l ns = ap (λ (s : Bits). bitsOfNumber w (length ns) ++ s) (diffs-bits w (0, l) (diffs l ns))

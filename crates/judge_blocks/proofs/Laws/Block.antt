@@ -14,14 +14,14 @@ use Rattle.bits.specs.Reads.{found, fault, Reads, keeping}
 use Rattle.bits.proofs.Laws.Reads.{known}
 use Rattle.bits.proofs.Laws.Parts.{part, part-length, behind-cut, behind-past, behind-bad, behind-good}
 use Rattle.outcome.specs.Refusals.{past}
-use Rattle.judge_blocks.specs.Answers.{Whole, Cut, lengthPast, blockPast, Behind}
+use Rattle.judge_blocks.specs.Answers.{WholeAt, Cut, lengthPast, blockPast, Behind}
 use Rattle.judge_blocks.specs.declared.block.WholeBlock.{WholeBlock}
 
 -- the answer of `block_at`, once its case is known
 pub told : (s : List ℕ) (a : ℕ) {r r′ : WholeBlock} → r ≡ r′ → Behind s a r → Behind s a r′
 told s a e h = subst (Behind s a) e h
 
-pub block-length : {s : List ℕ} {a b e : ℕ} → Whole s a b e → length (part s b (e - b)) ≡ e - b
+pub block-length : {s : List ℕ} {a b e : ℕ} → WholeAt s a b e → length (part s b (e - b)) ≡ e - b
 block-length {s} {b = b} {e} h = part-length s b (e - b) (omega (arith, h .ordered, h .within))
 
 -- w is the block's format, and f what is kept of its value
@@ -36,7 +36,7 @@ module _ {A B : Type 0} (w : Block A) (f : A → B) where
   block-cut {s} {a} i (lengthPast h e) = known (ap (fault past) (sym e)) (behind-cut w f s a i h)
   block-cut {s} {a} i (blockPast n k h e) = known (ap (fault past) (sym e)) (behind-past w f s a n _ k (omega arith) (omega (arith, k .within)) h)
 
-  module _ {s : List ℕ} {a b e : ℕ} (h : Whole s a b e) where
+  module _ {s : List ℕ} {a b e : ℕ} (h : WholeAt s a b e) where
     abbrev block : List ℕ
     block = part s b (e - b)
 

@@ -24,7 +24,7 @@ use Rattle.bits.proofs.Laws.Reads.{length-rest, gives, refuses, go-on, stop, ma
 use Rattle.bits.proofs.Laws.Loops.{sum-more, along-turn, along-stop, along-done}
 use Rattle.bits.proofs.Laws.Parts.{drop-end, maybe-more}
 use Rattle.outcome.specs.Refusals.{badIndex}
-use Rattle.format.specs.Differences.{undiffs, diff, tell}
+use Rattle.format.specs.Differences.{undiffs, diff, tellDifference}
 use Rattle.format.specs.DifferencesLaws.{length-undiffs}
 use Rattle.format.specs.Index.{Index, up, neighbours, index, indexBlock}
 use Rattle.format.specs.SheetSize.{listSize, indexSize}
@@ -38,7 +38,7 @@ listsFrom w s z m l p = summed listSize z (alongDec (neighbours w) up m l (drop 
 
 -- m differences at place p; i is what those before say
 abbrev pub diffsFrom : (w : ℕ) (s : List ℕ) (m : ℕ) (i : ℕ × ℕ) (p : ℕ) → Read Bool (Unit {0})
-diffsFrom w s m i p = passing (alongDec (diff w) tell m i (drop p (bitsOf s)))
+diffsFrom w s m i p = passing (alongDec (diff w) tellDifference m i (drop p (bitsOf s)))
 
 pub lists-start : (w : ℕ) (s : List ℕ) (z n p : ℕ) → listsFrom w s z (n - 0) 0 p ≡ listsFrom w s z n 0 p
 lists-start w s z n p = ap (λ (k : ℕ). listsFrom w s z k 0 p) (sub-zero n)
@@ -52,20 +52,20 @@ module _ (w l : ℕ) {s : List ℕ} {p k f : ℕ} (K : Reads (fieldDec badIndex 
   pub diffs-stop : (i : ℕ × ℕ) {j q e x : ℕ} → j < k → diffsFrom w s (k - j) i q ≡ diffsFrom w s k (0, l) f → Reads (diff w i .dec) s q (fault e x)
       → Reads (neighbours w l .dec) s p (fault e x)
   diffs-stop i {j} {q} {e} {x} t inv h =
-      let z : alongDec (diff w) tell k (0, l) (drop f (bitsOf s)) ≡ refused e (8 * length s - x) =
-      keeping-refused _ _ (sym inv ∙ ap passing (along-stop (diff w) tell k j i (drop q (bitsOf s)) t (h .is))) in
-      made _ _ (go-on _ (λ n. along (diff w) tell n (0, l)) K (refuses _ e x (h .within) z))
+      let z : alongDec (diff w) tellDifference k (0, l) (drop f (bitsOf s)) ≡ refused e (8 * length s - x) =
+      keeping-refused _ _ (sym inv ∙ ap passing (along-stop (diff w) tellDifference k j i (drop q (bitsOf s)) t (h .is))) in
+      made _ _ (go-on _ (λ n. along (diff w) tellDifference n (0, l)) K (refuses _ e x (h .within) z))
 
   pub diffs-turn : (i : ℕ × ℕ) {j q d y : ℕ} → j < k → diffsFrom w s (k - j) i q ≡ diffsFrom w s k (0, l) f → Reads (diff w i .dec) s q (found d y)
-      → diffsFrom w s (k - (j + 1)) (tell i d) y ≡ diffsFrom w s k (0, l) f
-  diffs-turn i {j} {q} t inv h = sym (along-turn (diff w) tell k j i (drop q (bitsOf s)) (λ ds. tt) t (h .is)) ∙ inv
+      → diffsFrom w s (k - (j + 1)) (tellDifference i d) y ≡ diffsFrom w s k (0, l) f
+  diffs-turn i {j} {q} t inv h = sym (along-turn (diff w) tellDifference k j i (drop q (bitsOf s)) (λ ds. tt) t (h .is)) ∙ inv
 
   pub diffs-done : {P : Type 0} (i : ℕ × ℕ) {j q : ℕ} → q ≤ 8 * length s → k ≤ j → diffsFrom w s (k - j) i q ≡ diffsFrom w s k (0, l) f
       → ((ns : List ℕ) → length ns ≡ k → Reads (neighbours w l .dec) s p (found ns q) → P) → P
   diffs-done i {j} {q} t h inv g =
-      keeping-got _ _ (sym inv ∙ ap passing (along-done (diff w) tell k j i (drop q (bitsOf s)) h)) λ ds z _.
-      g (undiffs l ds) (length-undiffs l ds ∙ along-back (diff w) tell k (0, l) _ ds _ z .0 .0)
-      (made _ _ (go-on _ (λ n. along (diff w) tell n (0, l)) K (gives _ ds q t z)))
+      keeping-got _ _ (sym inv ∙ ap passing (along-done (diff w) tellDifference k j i (drop q (bitsOf s)) h)) λ ds z _.
+      g (undiffs l ds) (length-undiffs l ds ∙ along-back (diff w) tellDifference k (0, l) _ ds _ z .0 .0)
+      (made _ _ (go-on _ (λ n. along (diff w) tellDifference n (0, l)) K (gives _ ds q t z)))
 
 pub count-small : {s : List ℕ} {w p k f : ℕ} → w ≤ 16 → Reads (fieldDec badIndex w) s p (found k f) → k ≤ 65535
 count-small {w = w} h K = let z : 2 ^ w ≤ 2 ^ 16 = pow-mono h in omega (arith, below badIndex w K)

@@ -16,7 +16,7 @@ use Rattle.bits.specs.Codec.{got, fieldDec}
 use Rattle.bits.specs.CodecLaws.{encAlong}
 use Rattle.bits.specs.Reads.{found, Reads}
 use Rattle.outcome.specs.Refusals.{badIndex}
-use Rattle.format.specs.Differences.{diffs, diff, tell}
+use Rattle.format.specs.Differences.{diffs, diff, tellDifference}
 use Rattle.format.specs.Index.{FitsList, neighbours, Index, up, FitsIndex, index, indexBlock}
 use Rattle.list_numbers.specs.Counts.{entries}
 use Rattle.find_parts.proofs.Laws.Index.{an-index, index-at, width-is}
@@ -72,10 +72,10 @@ module _ {lines : ℕ} {s : List ℕ} {l p n : ℕ} {i : Index} (h : ListsLeft l
           let w : ℕ = i .width in
           let r : Bits = encAlong (neighbours w) up (suc l) ls ++ h .after in
           let b1 : drop p (bitsOf s) ≡ neighbours w l .enc ns ++ r = b ∙ append-assoc (neighbours w l .enc ns) (encAlong (neighbours w) up (suc l) ls) (h .after) in
-          let b2 : drop p (bitsOf s) ≡ bitsOfNumber w (length ns) ++ (encAlong (diff w) tell (0, l) (diffs l ns) ++ r) = b1 ∙ append-assoc (bitsOfNumber w (length ns)) (encAlong (diff w) tell (0, l) (diffs l ns)) r in
+          let b2 : drop p (bitsOf s) ≡ bitsOfNumber w (length ns) ++ (encAlong (diff w) tellDifference (0, l) (diffs l ns) ++ r) = b1 ∙ append-assoc (bitsOfNumber w (length ns)) (encAlong (diff w) tellDifference (0, l) (diffs l ns)) r in
           record {
             value = ns;
-            count = λ d. number-there badIndex w (encAlong (diff w) tell (0, l) (diffs l ns) ++ r) (f .0 .count) b2 d;
+            count = λ d. number-there badIndex w (encAlong (diff w) tellDifference (0, l) (diffs l ns) ++ r) (f .0 .count) b2 d;
             further = record {
               index = h .index;
               lists = ls;

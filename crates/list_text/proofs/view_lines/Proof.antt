@@ -13,12 +13,12 @@ use Rattle.find_parts.proofs.Laws.View.{position-few}
 use Rattle.find_parts.proofs.Laws.Views.{Sought, sought-first, sought-on, view-in, view-end}
 use Rattle.list_numbers.specs.Counts.{ListedAt}
 use Rattle.list_numbers.specs.Listing as l
-use Rattle.list_text.specs.Views.{ViewsThere}
+use Rattle.list_text.specs.Views.{ViewsToList}
 use Rattle.list_text.proofs.view_lines.Statement.{statement}
 use Rattle.list_text.proofs.view_lines.Tie as tie
 
 abbrev Inv-loop : tie.InvT-loop
-Inv-loop s w count a₀ i₀ a i = (there : ViewsThere w count s) × Sought (there .value) s i a
+Inv-loop s w count a₀ i₀ a i = (there : ViewsToList w count s) × Sought (there .value) s i a
 
 abbrev μ-loop : tie.MeasureT-loop
 μ-loop s w count a₀ i₀ a i = count - i

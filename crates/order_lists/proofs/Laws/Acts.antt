@@ -21,7 +21,7 @@ use Rattle.order_removal.specs.Kept.{kept}
 use Rattle.order_removal.proofs.Laws.Place.{place-is}
 use Rattle.order_removal.proofs.Laws.Kept.{kept-same, kept-survivors, kept-set}
 use Rattle.order_lists.specs.Walk.{putIn, stayed}
-use Rattle.order_lists.specs.Lists.{noLine, waits, leaves, newList, newFrom}
+use Rattle.order_lists.specs.Lists.{noLineNumber, waits, leaves, newList, newFrom}
 use Rattle.order_lists.specs.declared.lists.Change.{Change}
 
 -- ---- a list that the order does not change
@@ -30,10 +30,10 @@ module _ (ch : Change) (l : ℕ) (d : l ≢ ch .high) where
   not-waiting : waits ch l ≡ 0
   not-waiting = pick-no (eqb l (ch .high)) _ _ (no-eqb d)
 
-  none-left-out : leaves ch l ≡ noLine
+  none-left-out : leaves ch l ≡ noLineNumber
   none-left-out = pick-no (eqb l (ch .high)) _ _ (no-eqb d)
 
-  other-list : (rs ns : List ℕ) → newList rs ch l ns ≡ stayed rs noLine ns
+  other-list : (rs ns : List ℕ) → newList rs ch l ns ≡ stayed rs noLineNumber ns
   other-list rs ns = ap₂ (λ (n m : ℕ). stayed rs m (putIn n (ch .low) ns)) not-waiting none-left-out
 
 -- ---- a removal
@@ -42,11 +42,11 @@ picked : (b : Bool) (x : ℕ) {S R : List ℕ} → S ≡ R → pick b S (x ∷ S
 picked true x e = e
 picked false x e = ap (λ (ys : List ℕ). x ∷ ys) e
 
-stayed-renumber : (rs : List ℕ) → RisesFrom 0 rs → (n m b : ℕ) (ns : List ℕ) → n ≤ noLine → b < n → Falls m b ns → stayed rs noLine ns ≡ renumber (survivors n rs) ns
+stayed-renumber : (rs : List ℕ) → RisesFrom 0 rs → (n m b : ℕ) (ns : List ℕ) → n ≤ noLineNumber → b < n → Falls m b ns → stayed rs noLineNumber ns ≡ renumber (survivors n rs) ns
 stayed-renumber rs h n m b [] k l f = refl
 stayed-renumber rs h n m b (x ∷ ns) k l f =
     let ih = stayed-renumber rs h n 1 x ns k (omega (arith, f .0)) (f .1) in
-    rw (eqb-false x noLine (λ e. omega (arith, f .0)), place-is rs h n x (omega (arith, f .0))) (picked (elem x rs) (x - below rs x) ih)
+    rw (eqb-false x noLineNumber (λ e. omega (arith, f .0)), place-is rs h n x (omega (arith, f .0))) (picked (elem x rs) (x - below rs x) ih)
 
 pub remove-lists : (rs : List ℕ) → RisesFrom 0 rs → (ch : Change) (ls : List (List ℕ)) → RightLists (length ls) ls → length ls ≤ 1024 → length ls ≤ ch .high
     → newFrom rs ch 0 ls ≡ newLists (remove rs) (length ls) ls
@@ -58,11 +58,11 @@ remove-lists rs h ch ls r k c =
 
 -- ---- a pair order: no line is gone
 
-stayed-all : (ns : List ℕ) → All (λ n. n < noLine) ns → stayed [] noLine ns ≡ ns
+stayed-all : (ns : List ℕ) → All (λ n. n < noLineNumber) ns → stayed [] noLineNumber ns ≡ ns
 stayed-all [] h = refl
 stayed-all (n ∷ ns) h =
     let z : n - 0 ≡ n = omega arith in
-    rw (eqb-false n noLine (λ e. omega (arith, h .0)), z) (ap (λ (ys : List ℕ). n ∷ ys) (stayed-all ns (h .1)))
+    rw (eqb-false n noLineNumber (λ e. omega (arith, h .0)), z) (ap (λ (ys : List ℕ). n ∷ ys) (stayed-all ns (h .1)))
 
 stayed-but : (low : ℕ) (ns : List ℕ) → stayed [] low ns ≡ delete low ns
 stayed-but low [] = refl
@@ -71,13 +71,13 @@ stayed-but low (n ∷ ns) =
     eq-split n low (λ e. rw (eqb-true n low e, eqb-true low n (sym e)) (stayed-but low ns))
     (λ d. rw (eqb-false n low d, eqb-false low n (λ e. d (sym e)), z) (ap (λ (ys : List ℕ). n ∷ ys) (stayed-but low ns)))
 
-falls-small : (m b : ℕ) (ns : List ℕ) → b < noLine → Falls m b ns → All (λ n. n < noLine) ns
+falls-small : (m b : ℕ) (ns : List ℕ) → b < noLineNumber → Falls m b ns → All (λ n. n < noLineNumber) ns
 falls-small m b [] l f = tt
 falls-small m b (n ∷ ns) l f = (omega (arith, f .0), falls-small 1 n ns (omega (arith, f .0)) (f .1))
 
-insert-small : (x : ℕ) (ns : List ℕ) → x < noLine → All (λ n. n < noLine) ns → All (λ n. n < noLine) (insert x ns)
+insert-small : (x : ℕ) (ns : List ℕ) → x < noLineNumber → All (λ n. n < noLineNumber) ns → All (λ n. n < noLineNumber) (insert x ns)
 insert-small x [] l h = (l, tt)
-insert-small x (n ∷ ns) l h = pick-case (All (λ k. k < noLine)) (ltb n x) _ _ (λ t. (l, h)) (λ t. (h .0, insert-small x ns l (h .1)))
+insert-small x (n ∷ ns) l h = pick-case (All (λ k. k < noLineNumber)) (ltb n x) _ _ (λ t. (l, h)) (λ t. (h .0, insert-small x ns l (h .1)))
 
 -- what becomes of line l's list, where f changes that of line hi
 abbrev one : (List ℕ → List ℕ) → ℕ → ℕ → List ℕ → List ℕ

@@ -22,7 +22,7 @@ use Rattle.find_parts.proofs.Laws.Lists.{list-is}
 use Rattle.orders.specs.Least.{maxOf}
 use Rattle.orders.specs.Listed.{removalLines}
 use Rattle.order_removal.specs.Rank.{below}
-use Rattle.order_lists.specs.Walk.{putIn, gone, stayed, WalkAt, StepTo, Steps}
+use Rattle.order_lists.specs.Walk.{putIn, gone, stayed, WalkAt, StepTo, StepsOn}
 use Rattle.order_lists.specs.List.{become, Numbered, ListPut}
 use Rattle.order_lists.specs.declared.walk.ListWalk.{ListWalk}
 use Rattle.order_lists.specs.declared.walk.Step.{Step}
@@ -69,7 +69,7 @@ module _ {w : ℕ} {s : List ℕ} {x : OldList} {removal : List ℕ} where
   pub measuring-first : MeasuringAll w s x removal (x .walk) (x .own) 0 0
   measuring-first ns u h f = record { ms = ns; at = h; least = 0; falls = f; counts = omega arith; largest = omega arith }
 
-  module _ {k : ListWalk} {before count most : ℕ} {r : Step} (M : MeasuringAll w s x removal k before count most) (S : Steps w s k (x .low) r) where
+  module _ {k : ListWalk} {before count most : ℕ} {r : Step} (M : MeasuringAll w s x removal k before count most) (S : StepsOn w s k (x .low) r) where
     pub measuring-gone : T (gone (removalLines removal) (x .drop) (r .line)) → MeasuringAll w s x removal (r .next) before count most
     measuring-gone g ns u h f =
         let m = M ns u h f in
@@ -133,7 +133,7 @@ module _ {w : ℕ} {s : List ℕ} {x : OldList} {removal : List ℕ} {width : �
   pub putting-first : PuttingAll w s x removal width (x .walk) (x .own) 0 old q old q
   putting-first ns u h f = record { ms = ns; at = h; least = 0; falls = f .falls; small = f .diffs; counts = omega arith; bits = putting-none _ old q }
 
-  module _ {k : ListWalk} {before count : ℕ} {now : List ℕ} {p : ℕ} {r : Step} (S : Steps w s k (x .low) r) where
+  module _ {k : ListWalk} {before count : ℕ} {now : List ℕ} {p : ℕ} {r : Step} (S : StepsOn w s k (x .low) r) where
     pub putting-gone : PuttingAll w s x removal width k before count old q now p → T (gone (removalLines removal) (x .drop) (r .line))
         → PuttingAll w s x removal width (r .next) before count old q now p
     putting-gone M g ns u h f =

@@ -60,7 +60,7 @@ module _ {w : Widths} {s : List ℕ} {lines : ℕ} {removal : List ℕ} (t : Old
   the-lines : {ls : List Line} → skeleton w .dec (bitsOf s) ≡ got ls [] → ls ≡ t .value
   the-lines {ls} e = let z : got ls [] ≡ got (t .value) [] = sym e ∙ t .reads in cc
 
-  pub lines-there : l.LinesThere w s lines removal
+  pub lines-there : l.LinesToKeep w s lines removal
   lines-there =
       record { narrow = t .narrow; short = t .short; rising = t .rising; few = omega (arith, t .count, lines-few w s (t .reads)); value = t .value; behind = _; at = lines-at w s (t .reads); counts = sym (t .count) }
 

@@ -1,7 +1,7 @@
 -- Made by tools/proof fill from answers/named_view.ans: change it there.
 -- The view, and then its count.
 use mathlib.Core.Path.{subst}
-use Rattle.find_view.specs.Found.{ViewFound, Stands}
+use Rattle.find_view.specs.Found.{FindsView, Stands}
 use Rattle.find_view.specs.declared.FoundView.{FoundView}
 use Rattle.order_view.proofs.Laws.{not-found, site-there, is-named, other-count}
 use borrow.Author.Needs.{needs}
@@ -9,7 +9,7 @@ use Rattle.order_view.proofs.named_view.Statement.{statement}
 use Rattle.order_view.proofs.named_view.Tie as tie
 
 stands : (c : tie.After-scale) → Stands (c .before .before .before .before .args .bytes .now) (c .before .before .before .before .args .view) (c .scale .given .0 .0) (c .scale .given .0 .1 .0)
-stands c = subst (λ (r : FoundView). ViewFound (c .before .before .before .before .args .bytes .now) (c .before .before .before .before .args .view) r) (c .scale .given .1) (c .before .before .find-view .ensures)
+stands c = subst (λ (r : FoundView). FindsView (c .before .before .before .before .args .bytes .now) (c .before .before .before .before .args .view) r) (c .scale .given .1) (c .before .before .find-view .ensures)
 
 find-view-requires : tie.Need-find-view-requires
 find-view-requires c κs = search needs
@@ -26,7 +26,7 @@ site-at-requires c κs =
 
 returns : tie.Need-returns
 returns c =
-    not-found (c .before .before .before .before .before .args .count) (subst (λ (r : FoundView). ViewFound (c .before .before .before .before .before .args .bytes .now) (c .before .before .before .before .before .args .view) r) (c .before .number .given .1) (c .before .before .before .find-view .ensures))
+    not-found (c .before .before .before .before .before .args .count) (subst (λ (r : FoundView). FindsView (c .before .before .before .before .before .args .bytes .now) (c .before .before .before .before .before .args .view) r) (c .before .number .given .1) (c .before .before .before .find-view .ensures))
 
 returns-2 : tie.Need-returns-2
 returns-2 c =

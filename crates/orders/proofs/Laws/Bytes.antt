@@ -20,7 +20,7 @@ use Rattle.format.specs.declared.Header.{Header}
 use Rattle.find_parts.specs.Stored.{headBytes, scaleBytes, sizedOut, blocksOut, viewOut, headerOut, recordOut}
 use Rattle.find_parts.proofs.Laws.Blocks.{block-long}
 use Rattle.find_parts.proofs.Laws.Written.{view-blocks, views-long, written}
-use Rattle.orders.specs.Bytes.{viewStart, extendedStart, viewBytes, viewHeaderBytes, extendedBytes}
+use Rattle.orders.specs.Bytes.{viewStart, extendedStart, viewPart, viewHeaderPart, extendedPart}
 
 -- the middle one of three
 slice-at : (a b c : List ℕ) (from to : ℕ) → length a ≡ from → length a + length b ≡ to → slice from to (a ++ (b ++ c)) ≡ b
@@ -83,16 +83,16 @@ module _ (r : Record) (i : ℕ) where
         ap (joined (viewOut w)) (take-suc (r .views) i noViewThere l) ∙ joined-snoc (viewOut w) vs v in
         omega (arith, start-is, views-long w vs, views-long w (take (suc i) (r .views)), ap length e, length-append (joined (viewOut w) vs) (viewOut w v))
 
-    pub view-is : viewBytes r i (write r) ≡ viewOut w v
+    pub view-is : viewPart r i (write r) ≡ viewOut w v
     view-is = ap (slice (viewStart r i) (viewStart r (suc i))) apart ∙ slice-at before (viewOut w v) behind _ _ start-is end-is
 
-    pub header-is : viewHeaderBytes r i (write r) ≡ headBytes (v .head)
+    pub header-is : viewHeaderPart r i (write r) ≡ headBytes (v .head)
     header-is =
         let e : write r ≡ before ++ (headBytes (v .head) ++ (blocksOut w v ++ behind)) =
         apart ∙ ap (λ (s : List ℕ). before ++ s) (append-assoc (headBytes (v .head)) (blocksOut w v) behind) in
         ap (slice (viewStart r i) (viewStart r i + 8)) e ∙ slice-at before (headBytes (v .head)) (blocksOut w v ++ behind) (viewStart r i) (viewStart r i + 8) start-is (omega (arith, start-is))
 
-    pub extended-is : extendedBytes r i (write r) ≡ sizedOut segments (v .segments)
+    pub extended-is : extendedPart r i (write r) ≡ sizedOut segments (v .segments)
     extended-is =
         let front : List ℕ = (before ++ headBytes (v .head)) ++ (sizedOut (skeleton w) (v .lines) ++ sizedOut (indexBlock (length (v .lines))) (v .index)) in
         let x : List ℕ = sizedOut segments (v .segments) in
@@ -117,11 +117,11 @@ module _ (r x : Record) (a : Allowed r) (b : Allowed x) (h : x .head ≡ r .head
     there : i < length (x .views)
     there = omega (arith, c)
 
-    pub same-view : viewAt x i ≡ viewAt r i → viewBytes x i (write x) ≡ viewBytes r i (write r)
+    pub same-view : viewAt x i ≡ viewAt r i → viewPart x i (write x) ≡ viewPart r i (write r)
     same-view e = view-is x i b there ∙ ap₂ (λ (k : Header) (u : View). viewOut (k .scale .widths) u) h e ∙ sym (view-is r i a l)
 
-    pub same-header : viewAt x i .head ≡ viewAt r i .head → viewHeaderBytes x i (write x) ≡ viewHeaderBytes r i (write r)
+    pub same-header : viewAt x i .head ≡ viewAt r i .head → viewHeaderPart x i (write x) ≡ viewHeaderPart r i (write r)
     same-header e = header-is x i b there ∙ ap headBytes e ∙ sym (header-is r i a l)
 
-    pub same-extended : viewAt x i .segments ≡ viewAt r i .segments → extendedBytes x i (write x) ≡ extendedBytes r i (write r)
+    pub same-extended : viewAt x i .segments ≡ viewAt r i .segments → extendedPart x i (write x) ≡ extendedPart r i (write r)
     same-extended e = extended-is x i b there ∙ ap (sizedOut segments) e ∙ sym (extended-is r i a l)

@@ -25,7 +25,7 @@ use Rattle.format.specs.Places.{count, viewAt}
 use Rattle.orders.specs.Act.{remove}
 use Rattle.orders.specs.Order.{Order, edited, verdict, Accepted, ordered, order}
 use Rattle.orders.specs.History.{Call, outcome, nowHolds, run, History, fresh, history, Follows}
-use Rattle.orders.specs.Bytes.{viewBytes, viewHeaderBytes, extendedBytes}
+use Rattle.orders.specs.Bytes.{viewPart, viewHeaderPart, extendedPart}
 use Rattle.orders.specs.Kept.{Kept}
 use Rattle.orders.proofs.Laws.Accept.{accepted, verdict-count}
 use Rattle.orders.proofs.Laws.Keep.{edited-head, edited-count, edited-here, edited-other, order-keeps, allowed-right}
@@ -153,9 +153,9 @@ orders-follow cs bytes r h p =
       follows = f;
       front = ap (slice 0 8) d ∙ same-front r x a (m .allowed) (m .head) (m .count) ∙ ap (slice 0 8) (sym e);
       fields = ap (slice 12 24) d ∙ same-fields r x a (m .allowed) (m .head) (m .count) ∙ ap (slice 12 24) (sym e);
-      spared = λ i l z. ap (viewBytes x i) d ∙ same-view r x a (m .allowed) (m .head) (m .count) i l (f i l .spared z) ∙ ap (viewBytes r i) (sym e);
-      headers = λ i l. ap (viewHeaderBytes x i) d ∙ same-header r x a (m .allowed) (m .head) (m .count) i l (f i l .head) ∙ ap (viewHeaderBytes r i) (sym e);
-      extended = λ i l. ap (extendedBytes x i) d ∙ same-extended r x a (m .allowed) (m .head) (m .count) i l (f i l .segments) ∙ ap (extendedBytes r i) (sym e);
+      spared = λ i l z. ap (viewPart x i) d ∙ same-view r x a (m .allowed) (m .head) (m .count) i l (f i l .spared z) ∙ ap (viewPart r i) (sym e);
+      headers = λ i l. ap (viewHeaderPart x i) d ∙ same-header r x a (m .allowed) (m .head) (m .count) i l (f i l .head) ∙ ap (viewHeaderPart r i) (sym e);
+      extended = λ i l. ap (extendedPart x i) d ∙ same-extended r x a (m .allowed) (m .head) (m .count) i l (f i l .segments) ∙ ap (extendedPart r i) (sym e);
     }
 
 -- ---- a removal comes only once

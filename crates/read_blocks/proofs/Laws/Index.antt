@@ -24,7 +24,7 @@ use Rattle.bits.specs.Reads.{Reads, found, keeping}
 use Rattle.bits.proofs.Laws.Reads.{length-rest, known, go-on, made, keeping-got, unkept}
 use Rattle.bits.proofs.Laws.Parts.{maybe-more}
 use Rattle.outcome.specs.Refusals.{badIndex}
-use Rattle.format.specs.Differences.{undiffs, diff, tell}
+use Rattle.format.specs.Differences.{undiffs, diff, tellDifference}
 use Rattle.format.specs.DifferencesLaws.{length-undiffs, falls-count}
 use Rattle.format.specs.Index.{Index, neighbours, up, index, indexBlock}
 use Rattle.read_blocks.specs.ListOuts.{numbersDec}
@@ -70,8 +70,8 @@ pub number-at : (w n i m number : ℕ) (s : List ℕ) (p : ℕ) {rest : List ℕ
     → numbersDec w (n - i) m number (drop p (bitsOf s)) ≡ got rest left → NumberAt w n i number s p rest left
 unfolding onlyDec
 number-at w n i m number s p h k e =
-    keeping-got (undiffs number) (alongDec (diff w) tell (n - i) (m, number) (drop p (bitsOf s))) e λ ds e1 e2.
-    along-next (diff w) tell n i (m, number) (drop p (bitsOf s)) h e1 λ d ds′ r e3 e4 e5.
+    keeping-got (undiffs number) (alongDec (diff w) tellDifference (n - i) (m, number) (drop p (bitsOf s))) e λ ds e1 e2.
+    along-next (diff w) tellDifference n i (m, number) (drop p (bitsOf s)) h e1 λ d ds′ r e3 e4 e5.
     next-got (fieldDec badIndex w (drop p (bitsOf s))) _ e3 λ v q e6 e7.
     let (t, y, z) = pick-got (within m number v) v q badIndex _ e7 in
     let (there, behind) = field-reads w k (e6 ∙ ap (λ (x : ℕ). got x q) y) in
@@ -89,8 +89,8 @@ numbers-end w n i m number s h = let z : n - i ≡ 0 = omega arith in ap (λ (k 
 
 pub numbers-length : (w n m l : ℕ) (s : Bits) {ns : List ℕ} {u : Bits} → numbersDec w n m l s ≡ got ns u → length ns ≡ n
 numbers-length w n m l s e =
-    keeping-got (undiffs l) (alongDec (diff w) tell n (m, l) s) e λ ds e1 e2.
-    ap length (sym e2) ∙ length-undiffs l ds ∙ along-back (diff w) tell n (m, l) s ds _ e1 .0 .0
+    keeping-got (undiffs l) (alongDec (diff w) tellDifference n (m, l) s) e λ ds e1 e2.
+    ap length (sym e2) ∙ length-undiffs l ds ∙ along-back (diff w) tellDifference n (m, l) s ds _ e1 .0 .0
 
 pub twos : (ns : List ℕ) → total (λ n. 2) ns ≡ 2 * length ns
 twos [] = refl
@@ -109,9 +109,9 @@ pub list-parts : (w l : ℕ) (s : List ℕ) (p : ℕ) {ns : List ℕ} {left : Bi
 unfolding viaDec thenDec
 list-parts w l s p {ns} {left} h e =
     let x : Bits = drop p (bitsOf s) in
-    next-got (thenDec (field badIndex w) (λ n. along (diff w) tell n (0, l)) x) _ e λ t u e1 e2.
+    next-got (thenDec (field badIndex w) (λ n. along (diff w) tellDifference n (0, l)) x) _ e λ t u e1 e2.
     next-got (fieldDec badIndex w x) _ e1 λ n r e3 e4.
-    next-got (alongDec (diff w) tell n (0, l) r) _ e4 λ ds q e5 e6.
+    next-got (alongDec (diff w) tellDifference n (0, l) r) _ e4 λ ds q e5 e6.
     let (there, behind) = field-reads w h e3 in
     let z : undiffs l ds ≡ ns = cc in
     let y : q ≡ left = cc in
@@ -128,8 +128,8 @@ list-parts w l s p {ns} {left} h e =
 pub list-reads : (w l : ℕ) {s : List ℕ} {p q r n : ℕ} {ns : List ℕ} → Reads (fieldDec badIndex w) s p (found n q) → Reads (numbersDec w n 0 l) s q (found ns r)
     → Reads (neighbours w l .dec) s p (found ns r)
 list-reads w l {r = r} {n = n} h k =
-    unkept {d = alongDec (diff w) tell n (0, l)} (undiffs l) k λ ds e z.
-    known (ap (λ (xs : List ℕ). found xs r) e) (made _ _ (go-on (field badIndex w) (λ n. along (diff w) tell n (0, l)) h z))
+    unkept {d = alongDec (diff w) tellDifference n (0, l)} (undiffs l) k λ ds e z.
+    known (ap (λ (xs : List ℕ). found xs r) e) (made _ _ (go-on (field badIndex w) (λ n. along (diff w) tellDifference n (0, l)) h z))
 
 -- ---- the lists of all lines
 

@@ -22,7 +22,7 @@ use Rattle.format.specs.Line.{Line, end, line}
 use Rattle.format.specs.SheetSize.{lineSize}
 use Rattle.format.specs.declared.End.{End}
 use Rattle.format.specs.declared.Widths.{Widths}
-use Rattle.sheet.specs.Code.{extended}
+use Rattle.sheet.specs.Code.{signExtended}
 use Rattle.put_bytes.specs.HighFirst.{start}
 use Rattle.sheet_bytes.specs.Bytes.{endBytes, lineBytes}
 use Rattle.read_blocks.specs.LineParts.{SmallEnd, PartsThere, PartsOut}
@@ -30,7 +30,7 @@ use Rattle.format.specs.Record.{Narrow}
 use Rattle.find_parts.specs.Stands.{endBits}
 use Rattle.find_parts.proofs.Laws.Line.{line-at}
 use Rattle.read_blocks.specs.LineOuts.{LineOut}
-use Rattle.read_blocks.specs.declared.line.Parts.{Parts}
+use Rattle.read_blocks.specs.declared.line.LineParts.{LineParts}
 use Rattle.bits.proofs.Laws.Apart.{same, times-snoc}
 
 -- ---- an end
@@ -52,12 +52,12 @@ end-small {w} {s} {p} {q} {x} n h =
 -- ---- the byte of a code
 
 -- of one without a sign, and of one with
-pub code-low : (k n : ℕ) → n < 2 ^ (k - 1) → n ≡ extended k n
-unfolding extended
+pub code-low : (k n : ℕ) → n < 2 ^ (k - 1) → n ≡ signExtended k n
+unfolding signExtended
 code-low k n h = sym (pick-yes (ltb n (2 ^ (k - 1))) _ _ (yes-ltb {a = n} (omega arith)))
 
-pub code-high : (k n : ℕ) → 2 ^ (k - 1) ≤ n → n + (256 - 2 ^ k) ≡ extended k n
-unfolding extended
+pub code-high : (k n : ℕ) → 2 ^ (k - 1) ≤ n → n + (256 - 2 ^ k) ≡ signExtended k n
+unfolding signExtended
 code-high k n h = sym (pick-no (ltb n (2 ^ (k - 1))) _ _ (no-ltb {a = n} (omega arith)))
 
 -- ---- the same line, as code reads it: x and y are the ends that it finds, n the count
@@ -93,7 +93,7 @@ module _ (w : Widths) {s : List ℕ} {p : ℕ} {l : Line} {q : ℕ} (h : Reads (
         finish-is : (y ≡ l .finish) × (p3 ≡ q)
         finish-is = same (at-place codes-end Y) (line-at w h .finish)
 
-        abbrev parts : Parts
+        abbrev parts : LineParts
         parts = record { start = x; finish = y; codes = record { at = p2 }; count = n }
 
         pub parts-there : {m : ℕ} → Narrow w → length s ≤ 65535 → lineSize l ≤ m → PartsThere (w .k) s parts m
@@ -119,15 +119,15 @@ module _ (w : Widths) {s : List ℕ} {p : ℕ} {l : Line} {q : ℕ} (h : Reads (
             }
 
 -- its field, where the codes are laid behind the ends
-pub parts-laid : {k : ℕ} {s : List ℕ} {l : Parts} {before after : List ℕ} {r : ℕ}
+pub parts-laid : {k : ℕ} {s : List ℕ} {l : LineParts} {before after : List ℕ} {r : ℕ}
     → ((cs : List ℕ) (q : ℕ) → Reads (timesDec (field badLine k) (l .count)) s (l .codes .at) (found cs q)
-    → Laid (((start 3 (12 + l .count) ++ endBytes (l .start)) ++ endBytes (l .finish)) ++ map (extended k) cs) before after r)
+    → Laid (((start 3 (12 + l .count) ++ endBytes (l .start)) ++ endBytes (l .finish)) ++ map (signExtended k) cs) before after r)
     → PartsOut k s l before after r
 parts-laid {k} {s} {l} {before} {after} {r} f =
     record {
       is = λ cs q h.
           let n : l .count ≡ length cs = sym (times-back (field badLine k) (l .count) (drop (l .codes .at) (bitsOf s)) cs (drop q (bitsOf s)) (h .is) .0 .0) in
-          subst (λ (m : ℕ). Laid (start 3 (12 + m) ++ (endBytes (l .start) ++ (endBytes (l .finish) ++ map (extended k) cs))) before after r) n (f cs q h);
+          subst (λ (m : ℕ). Laid (start 3 (12 + m) ++ (endBytes (l .start) ++ (endBytes (l .finish) ++ map (signExtended k) cs))) before after r) n (f cs q h);
     }
 
 -- ---- codes, of which i are laid
@@ -140,21 +140,21 @@ code-there k {i} {n} l = omega (arith, mul-le-mul-right k l, suc-mul i k)
 pub record CodesDone (k : ℕ) (s : List ℕ) (p : ℕ) (before now : List ℕ) (q i : ℕ) : Type 0 where
   pub done : List ℕ
   pub reads : Reads (timesDec (field badLine k) i) s p (found done q)
-  pub laid : Laid (map (extended k) done) before now i
+  pub laid : Laid (map (signExtended k) done) before now i
 
 pub codes-none : (k : ℕ) {s : List ℕ} {p : ℕ} (d : List ℕ) → p ≤ 8 * length s → CodesDone k s p d d p 0
 codes-none k d i = record { done = []; reads = record { is = refl; within = i }; laid = laid-none d }
 
 module _ {k : ℕ} {s : List ℕ} {p : ℕ} {d o : List ℕ} {q i : ℕ} (h : CodesDone k s p d o q i) where
-  pub codes-more : {v q′ b : ℕ} → i < length d → Reads (fieldDec badLine k) s q (found v q′) → b ≡ extended k v → CodesDone k s p d (set o i b) q′ (i + 1)
+  pub codes-more : {v q′ b : ℕ} → i < length d → Reads (fieldDec badLine k) s q (found v q′) → b ≡ signExtended k v → CodesDone k s p d (set o i b) q′ (i + 1)
   codes-more {v} {q′} {b} l r e =
       record {
         done = h .done ++ v ∷ [];
         reads = record { is = ap (λ (j : ℕ). timesDec (field badLine k) j (drop p (bitsOf s))) (add-one i) ∙ times-snoc (field badLine k) i (drop p (bitsOf s)) (h .reads .is) (r .is); within = r .within };
-        laid = rw (map-append (extended k) (h .done) (v ∷ []), e) (laid-one (extended k v) (h .laid) (omega (arith, laid-same (h .laid) (omega arith))));
+        laid = rw (map-append (signExtended k) (h .done) (v ∷ []), e) (laid-one (signExtended k v) (h .laid) (omega (arith, laid-same (h .laid) (omega arith))));
       }
 
-  pub codes-all : {n : ℕ} {cs : List ℕ} {q′ : ℕ} → i ≡ n → Reads (timesDec (field badLine k) n) s p (found cs q′) → Laid (map (extended k) cs) d o i
+  pub codes-all : {n : ℕ} {cs : List ℕ} {q′ : ℕ} → i ≡ n → Reads (timesDec (field badLine k) n) s p (found cs q′) → Laid (map (signExtended k) cs) d o i
   codes-all {n} {cs} {q′} e r =
       let f = same (h .reads) (subst (λ (j : ℕ). Reads (timesDec (field badLine k) j) s p (found cs q′)) (sym e) r) .0 in
-      subst (λ (x : List ℕ). Laid (map (extended k) x) d o i) f (h .laid)
+      subst (λ (x : List ℕ). Laid (map (signExtended k) x) d o i) f (h .laid)

@@ -13,7 +13,7 @@ use Rattle.format.specs.declared.Widths.{Widths}
 use Rattle.find_parts.proofs.Laws.Views.{ViewsLeft, ViewNext, views-first, views-none}
 use Rattle.sheet_bytes.specs.Bytes.{viewBytes}
 use Rattle.read_views.specs.ViewOuts.{ViewWritten}
-use Rattle.read_views.specs.SheetOuts.{ViewsThere, ViewsOut}
+use Rattle.read_views.specs.SheetOuts.{ViewsToRead, ViewsOut}
 use Rattle.read_views.specs.declared.view.ViewOut.{ViewOut}
 use Rattle.sheet_bytes.proofs.Laws.Sizes.{view-size}
 use Rattle.read_blocks.proofs.Laws.Laying.{Laying, laying-none, laying-room, laying-more, laying-all}
@@ -28,7 +28,7 @@ pub record ViewsDone (w : Widths) (count : ℕ) (s before now : List ℕ) (p i a
   pub left : ViewsLeft w count s i p rest
   pub laying : Laying (viewBytes (w .k)) viewSize (value .views) rest before now at
 
-pub views-start : {w : Widths} {count : ℕ} {s d : List ℕ} → ViewsThere w count s (length d) → ViewsDone w count s d d 24 0 0
+pub views-start : {w : Widths} {count : ℕ} {s d : List ℕ} → ViewsToRead w count s (length d) → ViewsDone w count s d d 24 0 0
 views-start {w} {count} {s} {d} h =
     record {
       value = h .value;

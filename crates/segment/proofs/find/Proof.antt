@@ -8,7 +8,7 @@ use Rattle.bits.specs.Bytes.{Byte}
 use Rattle.bits.proofs.Laws.Place.{all-bytes}
 use Rattle.outcome.specs.Refusals.{badSegment}
 use Rattle.find_parts.proofs.Laws.Blocks.{block-there}
-use Rattle.find_view.specs.Found.{ViewFound, Stands}
+use Rattle.find_view.specs.Found.{FindsView, Stands}
 use Rattle.find_view.specs.declared.FoundView.{FoundView}
 use Rattle.find_view.proofs.Laws.{short}
 use Rattle.segment.specs.Found.{PayloadAt}
@@ -21,7 +21,7 @@ bytes : (c : tie.After-shared-slice-known) → All Byte (c .before .args .bytes 
 bytes c = all-bytes (c .before .args .bytes .now) (λ i. c .shared-slice-known .given i .fits)
 
 stands : (c : tie.After-blocks2) → Stands (c .before .before .before .before .args .bytes .now) (c .before .before .before .before .args .view) (c .blocks2 .given .0 .0) (c .blocks2 .given .0 .1 .0)
-stands c = subst (λ (r : FoundView). ViewFound (c .before .before .before .before .args .bytes .now) (c .before .before .before .before .args .view) r) (c .blocks2 .given .1) (c .before .before .find-view .ensures)
+stands c = subst (λ (r : FoundView). FindsView (c .before .before .before .before .args .bytes .now) (c .before .before .before .before .args .view) r) (c .blocks2 .given .1) (c .before .before .find-view .ensures)
 
 there : (c : tie.After-sure) → PayloadAt (c .before .before .before .before .before .before .before .before .before .before .before .args .view) (c .before .before .before .before .before .before .before .before .before .before .before .args .place) (c .before .before .before .before .before .before .before .before .before .before .before .args .bytes .now) (c .before .before .before .before .before .before .before .blocks2 .given .0 .1 .0 .extended .from + c .before .before .before .before .pass-segments .result .next + 4) (c .before .before .before .before .before .before .before .blocks2 .given .0 .1 .0 .extended .from + c .before .before .before .before .pass-segments .result .next + c .sure .result .value)
 there c = payload-there (stands (c .before .before .before .before .before .before .before)) (c .before .before .before .before .pass-segments .ensures) (bytes (c .before .before .before .before .before .before .before .before .before .before)) (c .before .before .if1 .taken) (c .sure .ensures .0 badSegment)
@@ -78,7 +78,7 @@ add-t21-2 c =
 
 returns : tie.Need-returns
 returns c =
-    no-view (c .before .before .before .before .before .args .place) (subst (λ (r : FoundView). ViewFound (c .before .before .before .before .before .args .bytes .now) (c .before .before .before .before .before .args .view) r) (c .before .number .given .1) (c .before .before .before .find-view .ensures))
+    no-view (c .before .before .before .before .before .args .place) (subst (λ (r : FoundView). FindsView (c .before .before .before .before .before .args .bytes .now) (c .before .before .before .before .before .args .view) r) (c .before .number .given .1) (c .before .before .before .find-view .ensures))
 
 returns-2 : tie.Need-returns-2
 returns-2 c =

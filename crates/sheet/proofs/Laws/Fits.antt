@@ -22,7 +22,7 @@ use Rattle.format.specs.Index.{Index, FitsList, index, indexBlock, up}
 use Rattle.format.specs.Record.{Narrow}
 use Rattle.format.specs.declared.Widths.{Widths}
 use Rattle.format.specs.declared.End.{End}
-use Rattle.sheet.specs.Code.{extended}
+use Rattle.sheet.specs.Code.{signExtended}
 use Rattle.sheet.specs.Grammar.{indexShape}
 use Rattle.sheet.specs.Values.{Below, EndValue, CodeValue, lineValue, widthValue, fallsOk, listValue}
 use Rattle.sheet.specs.Sheet.{alike, eachEnc, rawIndex}
@@ -56,8 +56,8 @@ end-fits w p v =
       y = yes-below 16 (w .c) (p .y) (v .y);
     }
 
-code-byte : (k n : ℕ) → k ≤ 8 → n < 2 ^ k → Byte (extended k n)
-unfolding extended
+code-byte : (k n : ℕ) → k ≤ 8 → n < 2 ^ k → Byte (signExtended k n)
+unfolding signExtended
 code-byte k n l h =
     let p : 2 ^ k ≤ 2 ^ 8 = pow-mono l in
     pick-case Byte (ltb n (2 ^ (k - 1))) _ _ (λ t. omega arith) (λ t. omega arith)

@@ -14,7 +14,7 @@ use Rattle.bits.specs.ChoiceLaws.{pick-no, pick-case, T-true, eqb-true, eqb-fal
 use Rattle.bits.specs.Lists.{All, every, empty?}
 use Rattle.bits.specs.ListsLaws.{all-true, true-all, all-append, empty-is}
 use Rattle.sheet.specs.Fields.{Field}
-use Rattle.sheet.specs.Grammar.{RawView, RawSheet, Parts, one, indexFields, bodyFields, viewsFields, sheetFields, parted, front, rest, indexIn, indexRest, viewIn, usedUp, sheetIn, sheetShape, ordered, grammar}
+use Rattle.sheet.specs.Grammar.{RawView, RawSheet, Parts, one, indexFields, bodyFields, viewsFields, sheetFields, parted, front, rest, indexIn, indexRest, viewIn, usedUp, sheetIn, sheetShape, inOrder, grammar}
 
 retag : (t : ℕ) (f : Field) → f .tag ≡ t → f ≡ one t (f .value)
 retag t f e = λ i. record { tag = e i; value = f .value }
@@ -177,14 +177,14 @@ sheet-there s =
 pub grammar-there : (s : RawSheet) → T (sheetShape s) → T (grammar (sheetFields s))
 unfolding grammar
 grammar-there s t =
-    yes-and (ordered (sheetFields s)) _
+    yes-and (inOrder (sheetFields s)) _
     (rw (parted-views (s .views)) (true-all (true ∷ true ∷ every usedUp (map piece (s .views)) ∷ []) (tt, (tt, (all-used-up (s .views), tt))))) (subst (λ (x : RawSheet). T (sheetShape x)) (sym (sheet-there s)) t)
 
 pub grammar-back : (fs : List Field) → T (grammar fs) → (fs ≡ sheetFields (sheetIn fs)) × T (sheetShape (sheetIn fs))
 unfolding grammar
 grammar-back [] t = absurd t
 grammar-back (f ∷ fs) t =
-    let (o, sh) = and-yes (ordered (f ∷ fs)) (sheetShape (sheetIn (f ∷ fs))) t in
+    let (o, sh) = and-yes (inOrder (f ∷ fs)) (sheetShape (sheetIn (f ∷ fs))) t in
     let (a, (b, (u, k))) = all-true (eqb (f .tag) 1 ∷ empty? (parted fs .0) ∷ every usedUp (parted fs .1) ∷ []) o in
     let z : parted fs .0 ≡ [] = empty-is (parted fs .0) (T-true (empty? (parted fs .0)) b) in (
       ap₂ (λ (x : Field) (y : List Field). x ∷ y) (retag 1 f (eqb→eq (f .tag) 1 a))

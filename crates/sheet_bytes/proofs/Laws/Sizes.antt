@@ -13,7 +13,7 @@ use Rattle.format.specs.Segments.{Segment}
 use Rattle.format.specs.View.{View}
 use Rattle.format.specs.Record.{Record}
 use Rattle.format.specs.SheetSize.{lineSize, listSize, indexSize, segmentSize, viewSize, sheetSize}
-use Rattle.sheet.specs.Code.{extended}
+use Rattle.sheet.specs.Code.{signExtended}
 use Rattle.put_bytes.proofs.Laws.{twos-length}
 use Rattle.put_bytes.specs.HighFirst.{joined}
 use Rattle.sheet_bytes.specs.Bytes.{lineBytes, listBytes, indexBytes, segmentBytes, viewBytes, recordBytes}
@@ -23,7 +23,7 @@ joined-size f g h [] = refl
 joined-size f g h (x ∷ xs) = length-append (f x) (joined f xs) ∙ ap₂ (λ (m n : ℕ). m + n) (h x) (joined-size f g h xs)
 
 pub line-size : (k : ℕ) (l : Line) → length (lineBytes k l) ≡ lineSize l
-line-size k l = omega (arith, length-map (l .codes) (extended k))
+line-size k l = omega (arith, length-map (l .codes) (signExtended k))
 
 pub list-size : (ns : List ℕ) → length (listBytes ns) ≡ listSize ns
 list-size ns = omega (arith, twos-length ns)

@@ -12,7 +12,7 @@ use Rattle.format.specs.declared.Widths.{Widths}
 use Rattle.format.specs.declared.End.{End}
 use Rattle.format.specs.declared.Header.{Header}
 use Rattle.format.specs.declared.ViewHeader.{ViewHeader}
-use Rattle.sheet.specs.Code.{extended}
+use Rattle.sheet.specs.Code.{signExtended}
 use Rattle.sheet.specs.Values.{headerValue, viewHeadValue, endValue, EndValue, codeValue, lineValue, widthValue, listValue, segmentValue}
 use Rattle.put_bytes.specs.HighFirst.{two, joined}
 use Rattle.find_parts.specs.Stored.{headBytes}
@@ -32,11 +32,11 @@ module _ (w : Widths) where
   end-spells : (p : End) → EndValue w p → Spells (endBytes p) (endValue w .enc p)
   end-spells p f = spells-byte (f .kind .0) ⊕ spells-byte (f .direction .0) ⊕ spells-two (f .x .0) ⊕ spells-two (f .y .0)
 
-  pub line-bytes : (l : Line) → lineValue w .Fits l → inBytes (lineValue w .enc l) ≡ endBytes (l .start) ++ (endBytes (l .finish) ++ map (extended (w .k)) (l .codes))
+  pub line-bytes : (l : Line) → lineValue w .Fits l → inBytes (lineValue w .enc l) ≡ endBytes (l .start) ++ (endBytes (l .finish) ++ map (signExtended (w .k)) (l .codes))
   unfolding lineValue
   line-bytes l f =
       in-spelled ((end-spells (l .start) (f .start) ⊕ end-spells (l .finish) (f .finish))
-      ⊕ spells-map (codeValue (w .k)) (extended (w .k)) (λ n h. spells-byte (h .1)) (l .codes) (f .codes))
+      ⊕ spells-map (codeValue (w .k)) (signExtended (w .k)) (λ n h. spells-byte (h .1)) (l .codes) (f .codes))
 
 pub width-bytes : (w : ℕ) → widthValue .Fits w → inBytes (widthValue .enc w) ≡ w ∷ []
 unfolding widthValue

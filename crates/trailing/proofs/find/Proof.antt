@@ -8,7 +8,7 @@ use Rattle.format.specs.Places.{viewAt, lineAt}
 use Rattle.trail.specs.Trail.{trail}
 use Rattle.find_parts.proofs.Laws.Blocks.{cut}
 use Rattle.find_parts.proofs.Laws.Lines.{passed-within, passed-all, passed-next, passed-there}
-use Rattle.find_view.specs.Found.{ViewFound, Stands}
+use Rattle.find_view.specs.Found.{FindsView, Stands}
 use Rattle.find_view.specs.declared.FoundView.{FoundView}
 use Rattle.find_view.proofs.Laws.{lines-read, lines-there}
 use Rattle.trailing.specs.Trace.{Draws}
@@ -18,7 +18,7 @@ use Rattle.trailing.proofs.find.Statement.{statement}
 use Rattle.trailing.proofs.find.Tie as tie
 
 stands : (c : tie.After-scale) → Stands (c .before .before .before .before .args .bytes .now) (c .before .before .before .before .args .view) (c .scale .given .0 .0) (c .scale .given .0 .1 .0)
-stands c = subst (λ (r : FoundView). ViewFound (c .before .before .before .before .args .bytes .now) (c .before .before .before .before .args .view) r) (c .scale .given .1) (c .before .before .find-view .ensures)
+stands c = subst (λ (r : FoundView). FindsView (c .before .before .before .before .args .bytes .now) (c .before .before .before .before .args .view) r) (c .scale .given .1) (c .before .before .find-view .ensures)
 
 find-view-requires : tie.Need-find-view-requires
 find-view-requires c κs = search needs
@@ -67,7 +67,7 @@ walk-at-requires c κs =
 
 returns-2 : tie.Need-returns-2
 returns-2 c =
-    refused-is (c .before .before .before .before .before .args .line) (subst (λ (r : FoundView). ViewFound (c .before .before .before .before .before .args .bytes .now) (c .before .before .before .before .before .args .view) r) (c .before .number .given .1) (c .before .before .before .find-view .ensures))
+    refused-is (c .before .before .before .before .before .args .line) (subst (λ (r : FoundView). FindsView (c .before .before .before .before .before .args .bytes .now) (c .before .before .before .before .before .args .view) r) (c .before .number .given .1) (c .before .before .before .find-view .ensures))
 
 returns-3 : tie.Need-returns-3
 returns-3 c =

@@ -18,7 +18,7 @@ use Rattle.find_parts.proofs.Laws.Line.{codes-long}
 use Rattle.find_parts.proofs.Laws.Lists.{list-is}
 use Rattle.put_bits.specs.Put.{PutMore}
 use Rattle.put_bits.specs.Put.{Puts}
-use Rattle.write_blocks.specs.Lists.{ListPut}
+use Rattle.write_blocks.specs.Lists.{ListWritten}
 use Rattle.put_bits.proofs.Chain.{puts-one, puts-none, _then_, puts-as, enc-snoc}
 
 -- ---- a list's bytes
@@ -106,7 +106,7 @@ list-next w l {before = before} {i = i} {n = n} k z G h ns f e =
 
 -- behind the count
 pub list-all : (w l : ℕ) {s old mid now : List ℕ} {at n q p before i : ℕ} → n ≡ length s / 2 → PutMore old at n w mid q → length s / 2 ≤ i → ListSoFar w l s mid q now p before i
-    → ListPut w l s old at now p
+    → ListWritten w l s old at now p
 list-all w l {i = i} m h k G =
     record {
       is = λ ns f e.

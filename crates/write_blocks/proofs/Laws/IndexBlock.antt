@@ -20,7 +20,7 @@ use Rattle.put_bits.proofs.Laws.{put-none, put-laid}
 use Rattle.sheet_bytes.specs.Bytes.{listBytes, indexBytes}
 use Rattle.write_blocks.specs.Run.{Other, fieldOf, RunAt}
 use Rattle.put_bits.specs.Put.{Room}
-use Rattle.write_blocks.specs.Lists.{ListsPut, IndexAt, IndexThere, IndexPut}
+use Rattle.write_blocks.specs.Lists.{ListsWritten, IndexAt, IndexToWrite, IndexWritten}
 use Rattle.write_blocks.specs.declared.Done.{Done}
 
 -- ---- whether there is one
@@ -77,7 +77,7 @@ module _ {lines : ℕ} {s : List ℕ} {a : ℕ} {i : Index} {rest : List ℕ} (h
 
 -- ---- what is laid
 
-pub index-none : {lines : ℕ} {s : List ℕ} {a : ℕ} {before : List ℕ} → (a < length s → getD s a 0 ≡ 4 → ⊥) → IndexPut lines s a before before (record { next = a; bytes = 0 })
+pub index-none : {lines : ℕ} {s : List ℕ} {a : ℕ} {before : List ℕ} → (a < length s → getD s a 0 ≡ 4 → ⊥) → IndexWritten lines s a before before (record { next = a; bytes = 0 })
 unfolding bytesOf
 index-none {lines} {s} {a} {before} k =
     record {
@@ -90,7 +90,7 @@ index-none {lines} {s} {a} {before} k =
     nothing before = laid-none before
 
 pub index-some : {lines : ℕ} {s : List ℕ} {a : ℕ} {before mid now : List ℕ} {w p : ℕ} {r : Done} → lines ≤ 1024 → a < length s → getD s a 0 ≡ 4 → w ≡ getD s (a + 3) 0
-    → PutMore before 0 w 8 mid p → ListsPut w lines s (a + 4) mid p now r → IndexPut lines s a before now r
+    → PutMore before 0 w 8 mid p → ListsWritten w lines s (a + 4) mid p now r → IndexWritten lines s a before now r
 index-some {lines} {s} {a} {before} {w = w} few l t e h L =
     record {
       is = λ o rest j.
@@ -114,7 +114,7 @@ pub record IndexHere (lines : ℕ) (s : List ℕ) (a : ℕ) (out : List ℕ) : T
   pub lists : RunAt 5 (joined two) s (a + 4) (value .lists) rest
   pub room : Room out 0 (8 + length (encAlong (neighbours (value .width)) up 0 (value .lists)))
 
-pub index-here : {lines : ℕ} {s : List ℕ} {a : ℕ} {out : List ℕ} → IndexThere lines s a out → a < length s → getD s a 0 ≡ 4 → IndexHere lines s a out
+pub index-here : {lines : ℕ} {s : List ℕ} {a : ℕ} {out : List ℕ} → IndexToWrite lines s a out → a < length s → getD s a 0 ≡ 4 → IndexHere lines s a out
 index-here {lines} {s} {a} {out} h l t =
     an-index s a (h .rest) (h .value) (h .at .is) (h .at .behind .0) l t λ i z.
     let I = rw z at (h .at) in

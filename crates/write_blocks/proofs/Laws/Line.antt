@@ -15,13 +15,13 @@ use Rattle.put_bits.specs.Put.{Put, PutMore}
 use Rattle.put_bits.proofs.Laws.{put-none, put-laid}
 use Rattle.format.specs.Line.{Line, FitsLine, end, line, line-long}
 use Rattle.format.specs.declared.Widths.{Widths}
-use Rattle.sheet.specs.Code.{extended}
+use Rattle.sheet.specs.Code.{signExtended}
 use Rattle.find_parts.specs.Stands.{endBits}
 use Rattle.find_parts.proofs.Laws.Line.{end-long, codes-long, line-bits}
 use Rattle.find_parts.proofs.Laws.Lists.{all-long}
 use Rattle.sheet_bytes.specs.Bytes.{endBytes}
 use Rattle.put_bits.specs.Put.{Puts, Room}
-use Rattle.write_blocks.specs.Puts.{EndPut, CodesPut, lineHeld, LinePut, LinesAt, LinesPut}
+use Rattle.write_blocks.specs.Puts.{EndPut, CodesPut, lineHeld, LinePut, LineFieldsAt, LinesWritten}
 use Rattle.put_bits.proofs.Chain.{puts-one, _then_, enc-snoc}
 use Rattle.write_blocks.proofs.Laws.Run.{FieldNext, run-next, Going, going-first, going-fits, going-next, going-ends}
 
@@ -29,7 +29,7 @@ use Rattle.write_blocks.proofs.Laws.Run.{FieldNext, run-next, Going, go
 
 module _ (k : ℕ) (l : Line) {s : List ℕ} (h : s ≡ lineHeld k l) where
   pub held-long : length s ≡ 12 + length (l .codes)
-  held-long = omega (arith, ap length h, length-map (l .codes) (extended k))
+  held-long = omega (arith, ap length h, length-map (l .codes) (signExtended k))
 
   pub held-start : take 6 (drop 0 s) ≡ endBytes (l .start)
   held-start = ap (λ (x : List ℕ). take 6 (drop 0 x)) h
@@ -37,10 +37,10 @@ module _ (k : ℕ) (l : Line) {s : List ℕ} (h : s ≡ lineHeld k l) where
   pub held-finish : take 6 (drop 6 s) ≡ endBytes (l .finish)
   held-finish = ap (λ (x : List ℕ). take 6 (drop 6 x)) h
 
-  pub held-codes : part s 12 (length s - 12) ≡ map (extended k) (l .codes)
+  pub held-codes : part s 12 (length s - 12) ≡ map (signExtended k) (l .codes)
   held-codes =
-      let e : drop 12 s ≡ map (extended k) (l .codes) = ap (drop 12) h in
-      ap (take (length s - 12)) e ∙ take-all (length s - 12) (map (extended k) (l .codes)) (omega (arith, held-long, length-map (l .codes) (extended k)))
+      let e : drop 12 s ≡ map (signExtended k) (l .codes) = ap (drop 12) h in
+      ap (take (length s - 12)) e ∙ take-all (length s - 12) (map (signExtended k) (l .codes)) (omega (arith, held-long, length-map (l .codes) (signExtended k)))
 
 -- room for the line is room for its parts
 module _ (w : Widths) (l : Line) {out : List ℕ} {at : ℕ} (r : Room out at (length (line w .enc l))) where
@@ -80,7 +80,7 @@ GoingOn w s p before now at n ls rest = Going 3 (lineHeld (w .k)) (FitsLine w) (
 
 -- whatever lines they are
 abbrev pub LinesGoing : Widths → List ℕ → ℕ → List ℕ → ℕ → List ℕ → ℕ → ℕ → Type 0
-LinesGoing w s a before p now at n = (ls : List Line) (rest : List ℕ) → LinesAt w s a ls rest → GoingOn w s p before now at n ls rest
+LinesGoing w s a before p now at n = (ls : List Line) (rest : List ℕ) → LineFieldsAt w s a ls rest → GoingOn w s p before now at n ls rest
 
 pub lines-first : (w : Widths) (s : List ℕ) (a : ℕ) (before : List ℕ) → LinesGoing w s a before a before 0 0
 lines-first w s a before ls rest h = going-first (h .run) (h .fits) (put-none before, refl)
@@ -127,7 +127,7 @@ module _ (w : Widths) {s : List ℕ} {p : ℕ} {before now : List ℕ} {at n : �
       (omega (arith, g .holds .1, g .holds .0 .count, few-lines w (g .done)), omega (arith, r .near))
 
 pub lines-end : (w : Widths) {s : List ℕ} {a : ℕ} {before now : List ℕ} {p at n : ℕ} → LinesGoing w s a before p now at n → (p < length s → getD s p 0 ≡ 3 → ⊥)
-    → LinesPut w s a before now (record { next = p; count = n; bytes = (at + 7) / 8 })
+    → LinesWritten w s a before now (record { next = p; count = n; bytes = (at + 7) / 8 })
 lines-end w G k =
     record {
       is = λ ls rest x.

@@ -16,7 +16,7 @@ use Rattle.put_bytes.specs.HighFirst.{two, joined}
 use Rattle.format.specs.Index.{FitsList, neighbours, up}
 use Rattle.write_blocks.specs.Run.{RunAt}
 use Rattle.put_bits.specs.Put.{Puts, Room}
-use Rattle.write_blocks.specs.Lists.{ListPut, ListsPut}
+use Rattle.write_blocks.specs.Lists.{ListWritten, ListsWritten}
 use Rattle.put_bits.proofs.Chain.{puts-none, _then_, puts-as}
 use Rattle.write_blocks.proofs.Laws.Run.{FieldNext, field-here}
 
@@ -106,7 +106,7 @@ module _ (w lines : ℕ) {s : List ℕ} {nss : List (List ℕ)} {rest old : List
       go (ns ∷ more) e r n = absurd (omega arith)
 
 pub lists-next : (w lines : ℕ) {s : List ℕ} {a : ℕ} {old : List ℕ} {at q : ℕ} {now now′ : List ℕ} {p l m r : ℕ} → l < lines → m ≡ getD s (q + 1) 0 * 256 + getD s (q + 1 + 1) 0
-    → ListsSoFar w lines s a old at q now p l → ListPut w l (part s (q + 3) (q + 3 + m - (q + 3))) now p now′ r → ListsSoFar w lines s a old at (q + 3 + m) now′ r (l + 1)
+    → ListsSoFar w lines s a old at q now p l → ListWritten w l (part s (q + 3) (q + 3 + m - (q + 3))) now p now′ r → ListsSoFar w lines s a old at (q + 3 + m) now′ r (l + 1)
 lists-next w lines {m = m} k e G h nss rest run n f =
     let g = G nss rest run n f in
     let N = list-here w lines g k in
@@ -123,7 +123,7 @@ lists-next w lines {m = m} k e G h nss rest run n f =
     }
 
 pub lists-end : (w lines : ℕ) {s : List ℕ} {a : ℕ} {old : List ℕ} {at q : ℕ} {now : List ℕ} {p l : ℕ} → lines ≤ l → ListsSoFar w lines s a old at q now p l
-    → ListsPut w lines s a old at now (record { next = q; bytes = (p + 7) / 8 })
+    → ListsWritten w lines s a old at now (record { next = q; bytes = (p + 7) / 8 })
 lists-end w lines {p = p} k G =
     record {
       is = λ nss rest run n f.

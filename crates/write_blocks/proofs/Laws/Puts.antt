@@ -10,7 +10,7 @@ use Rattle.bits.specs.Lists.{All}
 use Rattle.bits.specs.ListsLaws.{all-at, map-at}
 use Rattle.bits.specs.CodecLaws.{encAll, field}
 use Rattle.outcome.specs.Refusals.{badLine}
-use Rattle.sheet.specs.Code.{extended}
+use Rattle.sheet.specs.Code.{signExtended}
 use Rattle.sheet.specs.CodeLaws.{extended-low}
 use Rattle.find_parts.proofs.Laws.Line.{codes-long}
 use Rattle.put_bits.specs.Put.{PutMore, Puts}
@@ -46,14 +46,14 @@ end-put w e ek ed ex ey hk hd hx hy = puts-one (rw ek at hk) then puts-one (rw e
 
 -- codes of k bits, of which i are put; s has their bytes
 abbrev pub CodesSoFar : ℕ → List ℕ → List ℕ → ℕ → List ℕ → ℕ → ℕ → Type 0
-CodesSoFar k s old at now p i = (cs : List ℕ) → All (λ n. n < 2 ^ k) cs → s ≡ map (extended k) cs → Puts (encAll (field badLine k) (take i cs)) old at now p
+CodesSoFar k s old at now p i = (cs : List ℕ) → All (λ n. n < 2 ^ k) cs → s ≡ map (signExtended k) cs → Puts (encAll (field badLine k) (take i cs)) old at now p
 
 pub codes-none : (k : ℕ) (s old : List ℕ) (at : ℕ) → CodesSoFar k s old at old at 0
 codes-none k s old at cs f e = puts-none old at
 
-module _ (k : ℕ) {s : List ℕ} {i : ℕ} (l : i < length s) (cs : List ℕ) (f : All (λ n. n < 2 ^ k) cs) (e : s ≡ map (extended k) cs) where
+module _ (k : ℕ) {s : List ℕ} {i : ℕ} (l : i < length s) (cs : List ℕ) (f : All (λ n. n < 2 ^ k) cs) (e : s ≡ map (signExtended k) cs) where
   codes-many : length s ≡ length cs
-  codes-many = ap length e ∙ length-map cs (extended k)
+  codes-many = ap length e ∙ length-map cs (signExtended k)
 
   pub code-below : getD cs i 0 < 2 ^ k
   code-below = all-at (λ n. n < 2 ^ k) 0 cs i (omega (arith, codes-many)) f
@@ -61,7 +61,7 @@ module _ (k : ℕ) {s : List ℕ} {i : ℕ} (l : i < length s) (cs : List ℕ) (
   -- the byte's lowest k bits are the code
   pub code-is : getD s i 0 % 2 ^ k ≡ getD cs i 0
   code-is =
-      ap (λ (x : List ℕ). getD x i 0 % 2 ^ k) e ∙ ap (λ (n : ℕ). n % 2 ^ k) (map-at (extended k) cs i 0 0 (omega (arith, codes-many)))
+      ap (λ (x : List ℕ). getD x i 0 % 2 ^ k) e ∙ ap (λ (n : ℕ). n % 2 ^ k) (map-at (signExtended k) cs i 0 0 (omega (arith, codes-many)))
       ∙ extended-low k (getD cs i 0) code-below
 
 pub codes-next : (k : ℕ) {s old now now′ : List ℕ} {at p i v top r : ℕ} → i < length s → v ≡ getD s i 0 → top ≡ 2 ^ k → CodesSoFar k s old at now p i
@@ -72,13 +72,13 @@ codes-next k {s} {i = i} {v = v} {top = top} l ev et g h cs f e =
     puts-as (sym (ap (encAll (field badLine k)) y ∙ enc-snoc (field badLine k) (take i cs) (getD cs i 0))) (g cs f e then puts-one (rw z at h))
 
 -- their place
-pub codes-place : (k : ℕ) (cs : List ℕ) {s old now : List ℕ} {at p i : ℕ} → CodesSoFar k s old at now p i → All (λ n. n < 2 ^ k) cs → s ≡ map (extended k) cs → i ≤ length s
+pub codes-place : (k : ℕ) (cs : List ℕ) {s old now : List ℕ} {at p i : ℕ} → CodesSoFar k s old at now p i → All (λ n. n < 2 ^ k) cs → s ≡ map (signExtended k) cs → i ≤ length s
     → (p ≡ at + i * k) × (length now ≡ length old)
 codes-place k cs {s} {at = at} {i = i} g f e l =
     let h = g cs f e in
-    let m : length (take i cs) ≡ i = length-take-le i cs (omega (arith, ap length e ∙ length-map cs (extended k))) in
+    let m : length (take i cs) ≡ i = length-take-le i cs (omega (arith, ap length e ∙ length-map cs (signExtended k))) in
     (h .place ∙ ap (λ (n : ℕ). at + n) (codes-long badLine k (take i cs) ∙ ap (λ (n : ℕ). n * k) m), h .same)
 
 pub codes-all : (k : ℕ) {s old now : List ℕ} {at p i : ℕ} → CodesSoFar k s old at now p i → length s ≤ i → CodesPut k s old at now p
 codes-all k {i = i} g l =
-    record { is = λ cs f e. puts-as (ap (encAll (field badLine k)) (take-all i cs (omega (arith, ap length e ∙ length-map cs (extended k))))) (g cs f e) }
+    record { is = λ cs f e. puts-as (ap (encAll (field badLine k)) (take-all i cs (omega (arith, ap length e ∙ length-map cs (signExtended k))))) (g cs f e) }

@@ -13,7 +13,7 @@ use Rattle.put_bytes.proofs.Laws.{laid-none, laid-next, joined-snoc, lent, back
 use Rattle.format.specs.Segments.{Segment, FitsSegment}
 use Rattle.sheet_bytes.proofs.Laws.Sizes.{joined-size}
 use Rattle.find_parts.specs.Finds.{segmentStored}
-use Rattle.write_blocks.specs.Outs.{segmentHeld, SegmentsAt, SegmentsOut}
+use Rattle.write_blocks.specs.Outs.{segmentHeld, SegmentsAt, SegmentsWritten}
 use Rattle.write_blocks.proofs.Laws.Run.{FieldNext, run-next, Going, going-first, going-fits, going-next, going-ends}
 
 -- those of the segments gs that the loop has passed are laid
@@ -77,5 +77,5 @@ module _ {s : List ℕ} {p : ℕ} (l : p < length s) (t : getD s p 0 ≡ 6) wher
       rw z (going-next g N (rw (joined-snoc segmentStored (g .done) (N .one)) (laid-next (g .holds) (segment-laid g e h))))
 
 pub segments-end : {s : List ℕ} {a : ℕ} {before now : List ℕ} {p at : ℕ} → SegmentsGoing s a before p now at → (p < length s → getD s p 0 ≡ 6 → ⊥)
-    → SegmentsOut s a before now (record { next = p; bytes = at })
+    → SegmentsWritten s a before now (record { next = p; bytes = at })
 segments-end G k = record { is = λ gs rest x. going-ends (G gs rest x) k }

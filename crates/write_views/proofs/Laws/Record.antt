@@ -22,7 +22,7 @@ use Rattle.format.proofs.Laws.Record.{narrow}
 use Rattle.sheet_bytes.specs.Bytes.{viewBytes, recordBytes}
 use Rattle.find_parts.specs.Stored.{viewOut, headerOut, recordOut}
 use Rattle.write_views.specs.Views.{NextView, RightView, ViewPut}
-use Rattle.write_views.specs.Records.{deviceFrom, scaleFrom, ViewsThere, ViewsPut}
+use Rattle.write_views.specs.Records.{deviceFrom, scaleFrom, ViewsToWrite, ViewsPut}
 use Rattle.write_blocks.specs.declared.Done.{Done}
 use Rattle.find_parts.proofs.Laws.Written.{stored-long}
 
@@ -156,9 +156,9 @@ module _ {s : List ℕ} (r : Record) (a : Allowed r) (e : s ≡ recordBytes r) w
   pub views-small : length (r .views) < 256
   views-small = omega (arith, within-high 1 255 (length (r .views)) (a .fits .count .1))
 
-  pub views-there : {w : Widths} {out : List ℕ} → w ≡ r .head .scale .widths → length (joined (viewOut (r .head .scale .widths)) (r .views)) ≤ length out → ViewsThere w s out
+  pub views-there : {w : Widths} {out : List ℕ} → w ≡ r .head .scale .widths → length (joined (viewOut (r .head .scale .widths)) (r .views)) ≤ length out → ViewsToWrite w s out
   views-there {w} {out} z l =
-      subst (λ (x : Widths). ViewsThere x s out) (sym z)
+      subst (λ (x : Widths). ViewsToWrite x s out) (sym z)
       (record { narrow = narrow (a .fits .head); value = r .views; is = views-at; right = views-right (r .head .scale .widths) [] (r .views) (a .fits .views); room = l })
 
   -- ---- the record, where its parts are laid one behind the other

@@ -27,10 +27,10 @@ use Rattle.sheet_bytes.proofs.Laws.Sizes.{joined-size}
 use Rattle.sheet_bytes.specs.Bytes.{lineBytes, indexBytes, segmentBytes, viewBytes}
 use Rattle.find_parts.specs.Finds.{segmentStored}
 use Rattle.write_blocks.specs.Run.{Other, fieldOf, RunAt}
-use Rattle.write_blocks.specs.Puts.{lineHeld, LinesAt}
+use Rattle.write_blocks.specs.Puts.{lineHeld, LineFieldsAt}
 use Rattle.write_blocks.specs.Outs.{segmentHeld, SegmentsAt}
 use Rattle.write_blocks.specs.Lists.{IndexAt}
-use Rattle.write_views.specs.Views.{SkeletonOut, IndexSized, SegmentsSized, NextView, RightView}
+use Rattle.write_views.specs.Views.{SkeletonOut, IndexBehindLength, SegmentsSized, NextView, RightView}
 use Rattle.find_parts.specs.Stored.{headBytes, sizedOut, viewOut}
 use Rattle.write_blocks.specs.declared.Done.{Done}
 use Rattle.write_blocks.specs.declared.line.Lines.{Lines}
@@ -129,7 +129,7 @@ module _ (w : Widths) (s : List ℕ) (a : ℕ) (v : View) (rest : List ℕ) (e :
         other = index-other (v .index) (v .segments) rest n;
       }
 
-  pub lines-at : LinesAt w s (a + 11) (v .lines) behindLines
+  pub lines-at : LineFieldsAt w s (a + 11) (v .lines) behindLines
   lines-at = record { run = lines-run; fits = r .lines }
 
   index-behind : Other 4 (joined segmentBytes (v .segments) ++ rest) × Other 5 (joined segmentBytes (v .segments) ++ rest)
@@ -165,7 +165,7 @@ module _ (w : Widths) (s : List ℕ) (a : ℕ) (v : View) (rest : List ℕ) (e :
       pub index-at : IndexAt (x .count) s (x .next) (v .index) (joined segmentBytes (v .segments) ++ rest)
       index-at = record { is = lines-laid .2; behind = index-behind; fits = rw (lines-laid .1) (r .index) }
 
-      module _ {o3 : List ℕ} {y : Done} (I : IndexSized (x .count) s (x .next) (lent (back o1 h o2) (h + x .bytes)) o3 y) where
+      module _ {o3 : List ℕ} {y : Done} (I : IndexBehindLength (x .count) s (x .next) (lent (back o1 h o2) (h + x .bytes)) o3 y) where
         pub index-laid : Laid (sizedOut (indexBlock (length (v .lines))) (v .index)) (lent (back o1 h o2) (h + x .bytes)) o3 (y .bytes) × (drop (y .next) s ≡ joined segmentBytes (v .segments) ++ rest)
         index-laid =
             let (l, d) = I .is (v .index) (joined segmentBytes (v .segments) ++ rest) index-at in

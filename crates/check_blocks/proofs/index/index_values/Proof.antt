@@ -14,14 +14,14 @@ use Rattle.check_shape.proofs.Laws.Stand.{told, denied}
 use Rattle.check_value.specs.Worth.{Told, widthIs}
 use Rattle.check_value.specs.declared.list.WidthWorth.{WidthWorth}
 use Rattle.check_blocks.specs.Run.{ListsAre}
-use Rattle.check_blocks.specs.Index.{IndexThere}
+use Rattle.check_blocks.specs.Index.{IndexToCheck}
 use Rattle.check_blocks.specs.declared.run.Counted.{Counted}
 use Rattle.check_blocks.proofs.Laws.Index.{IndexParts, no-index, index-parts, width-most, width-wrong, lists-wrong, index-right}
 use borrow.Author.Needs.{needs}
 use Rattle.check_blocks.proofs.index.index_values.Statement.{statement}
 use Rattle.check_blocks.proofs.index.index_values.Tie as tie
 
-parts : (c : tie.Else1) (fs : List Field) → IndexThere (c .before .before .before .args .sheet .now) (c .before .before .before .args .p) fs → IndexParts (c .before .before .before .args .sheet .now) (c .before .before .before .args .p) fs
+parts : (c : tie.Else1) (fs : List Field) → IndexToCheck (c .before .before .before .args .sheet .now) (c .before .before .before .args .p) fs → IndexParts (c .before .before .before .args .sheet .now) (c .before .before .before .args .p) fs
 parts c fs h = index-parts fs h (told (not-false _ (c .if1 .left)) (c .before .starts .ensures .is fs (h .stand)))
 
 width : (c : tie.After-w) → widthValue .dec (bitsOf (part (c .before .before .before .before .before .before .before .args .sheet .now) (c .before .before .before .before .before .before .before .args .p + 3) (c .before .before .before .before .before .before .before .args .p + 4 - (c .before .before .before .before .before .before .before .args .p + 3)))) ≡ got (c .w .given .0 .0) []

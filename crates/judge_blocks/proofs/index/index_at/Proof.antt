@@ -9,14 +9,14 @@ use Rattle.bits.proofs.Laws.Reads.{known}
 use Rattle.bits.proofs.Laws.Parts.{part}
 use Rattle.format.specs.Index.{indexBlock}
 use Rattle.format.specs.SheetSize.{indexSize}
-use Rattle.judge_blocks.specs.Answers.{judged, Whole, indexDec, indexAtDec}
+use Rattle.judge_blocks.specs.Answers.{judged, WholeAt, indexDec, indexAtDec}
 use Rattle.judge_blocks.proofs.Laws.Block.{told, block-length, block-cut, block-bad, block-good}
 use borrow.Author.Needs.{needs}
 use Rattle.judge_blocks.proofs.index.index_at.Statement.{statement}
 use Rattle.judge_blocks.proofs.index.index_at.Tie as tie
 
 -- the block is found whole
-whole : (c : tie.After-b) → Whole (c .before .before .before .before .args .bytes .now) (c .before .before .before .before .args .a) (c .b .given .0 .0) (c .b .given .0 .1 .0)
+whole : (c : tie.After-b) → WholeAt (c .before .before .before .before .args .bytes .now) (c .before .before .before .before .args .a) (c .b .given .0 .0) (c .b .given .0 .1 .0)
 whole c = told _ _ (c .b .given .1) (c .before .before .block-at .ensures)
 
 -- its bytes, as the code cuts them out

@@ -6,7 +6,7 @@ use lib.Dec.{eqb}
 use mir.Facts.{yes-eqb, no-eqb}
 use Rattle.bits.specs.Choice.{pick}
 use Rattle.bits.specs.ChoiceLaws.{pick-yes, pick-no}
-use Rattle.order_lists.specs.Lists.{noLine}
+use Rattle.order_lists.specs.Lists.{noLineNumber}
 use Rattle.order_lists.proofs.lists.left_out_at.Statement.{statement}
 use Rattle.order_lists.proofs.lists.left_out_at.Tie as tie
 
@@ -16,11 +16,11 @@ returns c =
 
 returns-2 : tie.Need-returns-2
 returns-2 c =
-    sym (pick-yes (eqb (c .before .before .before .args .l) (c .before .before .before .args .change .high)) _ _ (yes-eqb (c .before .if1 .left)) ∙ ap (λ (b : Bool). pick b noLine (c .before .before .before .args .change .low)) (c .if2 .taken))
+    sym (pick-yes (eqb (c .before .before .before .args .l) (c .before .before .before .args .change .high)) _ _ (yes-eqb (c .before .if1 .left)) ∙ ap (λ (b : Bool). pick b noLineNumber (c .before .before .before .args .change .low)) (c .if2 .taken))
 
 returns-3 : tie.Need-returns-3
 returns-3 c =
-    sym (pick-yes (eqb (c .before .before .before .args .l) (c .before .before .before .args .change .high)) _ _ (yes-eqb (c .before .if1 .left)) ∙ ap (λ (b : Bool). pick b noLine (c .before .before .before .args .change .low)) (c .if2 .left))
+    sym (pick-yes (eqb (c .before .before .before .args .l) (c .before .before .before .args .change .high)) _ _ (yes-eqb (c .before .if1 .left)) ∙ ap (λ (b : Bool). pick b noLineNumber (c .before .before .before .args .change .low)) (c .if2 .left))
 
 pub left-out-at-spec : {M : Type 1} → statement M
 left-out-at-spec = tie.close (tie.spec returns returns-2 returns-3)

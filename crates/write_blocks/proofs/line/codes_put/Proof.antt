@@ -6,7 +6,7 @@ use mathlib.Core.Path.{_≡_, refl, ap, _∙_}
 use Prim.Native.Nat.{suc, _+_, _-_, _*_, _≤_}
 use lib.ListN.{length, length-map}
 use lib.Pow.{pow-pos}
-use Rattle.sheet.specs.Code.{extended}
+use Rattle.sheet.specs.Code.{signExtended}
 use Rattle.write_blocks.proofs.Laws.Puts.{CodesSoFar, codes-none, codes-next, codes-place, codes-all}
 use borrow.Author.Needs.{needs}
 use Rattle.write_blocks.proofs.line.codes_put.Statement.{statement}
@@ -26,7 +26,7 @@ fits c =
     let i = c .before .loop .i in
     let k = c .before .before .before .before .before .args .k in
     let (e, z) = codes-place k (pre .value) (c .before .loop .inv .2) (pre .fits) (pre .held) (c .before .loop .inv .1) in
-    let n : length (c .before .before .before .before .before .args .value .now) ≡ length (pre .value) = ap length (pre .held) ∙ length-map (pre .value) (extended k) in
+    let n : length (c .before .before .before .before .before .args .value .now) ≡ length (pre .value) = ap length (pre .held) ∙ length-map (pre .value) (signExtended k) in
     let m : suc i * k ≤ length (pre .value) * k = mul-le-mul-right k (omega (arith, c .loop-test .taken)) in
     (omega (arith, e, suc-mul i k), z)
 
