@@ -1,4 +1,5 @@
--- Blocks of values. For a reader: the lines of `many`, `ended`, `maybe`, `fill` say which values fit and what is written; all else are laws.
+-- Blocks of values. For a reader: the lines of `many`, `ended`, `maybe`, `fill` say which values fit and what is written. All else are
+-- laws.
 use mathlib.Core.Path.{_≡_, refl, sym, ap, _∙_}
 use Prim.Native.Nat.{ℕ, zero, suc, _+_, _%_, _≤_, _<_}
 use native.Mathlib.Omega.{arith}

@@ -33,7 +33,7 @@ pub record BlockAt {A : Type 0} (w : Block A) (s : List ℕ) (a e : ℕ) (v : A)
   pub within : e ≤ length s
   pub value : w .dec (bitsOf (take (e - a) (drop a s))) ≡ got v []
 
--- ---- the blocks of a view, with their lengths from byte b up to byte d: the index's length is at byte i, the extended data's at byte j
+-- ---- the blocks of a view, with their lengths, from byte b up to byte d: the index's length is at byte i, the extended length at j
 
 pub record BlocksAt (w : Widths) (s : List ℕ) (b : ℕ) (v : View) (d : ℕ) : Type 0 where
   pub i : ℕ

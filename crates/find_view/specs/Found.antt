@@ -21,7 +21,7 @@ pub record Stands (s : List ℕ) (view : ℕ) (c : Scale) (x : Blocks) : Type 0 
   pub scale : c ≡ value .head .scale
   pub blocks : BlocksIn value s view x
 
--- whatever is asked of the view
+-- every call on the view is refused with the number e at the place p, whatever it asks
 pub record Refuses (s : List ℕ) (view e p : ℕ) : Type 0 where
   pub is : (f : ℕ → Record → Outcome ℕ) → onView view f s ≡ refused e p
 

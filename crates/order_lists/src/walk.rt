@@ -27,7 +27,7 @@ pub enum Fate {
     Gone,
 }
 
-// The next line of the list at `k`, which is not at its end. Its differences stand in the index block `block` and have w bits; `low` is the
+// The next line of the list at `k`, which is not at its end. Its differences stand in the index block and have w bits; `low` is the
 // line to be put in.
 pub fn step_on(block: &[u8], w: usize, k: ListWalk, low: usize) -> Step
     requires { ⌜ WalkThere w (now block) k ⌝ }

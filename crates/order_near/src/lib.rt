@@ -38,7 +38,7 @@ fn list_of(block: &[u8], w: usize, line: usize) -> ListWalk
     list.walk
 }
 
-// Whether line `low` is a neighbour of line `high`, which is not below it, by the index block `block`: being neighbours is written once, at
+// Whether line `low` is a neighbour of line `high`, which is not below it, by the index block: being neighbours is written once, at
 // the higher line.
 pub fn are_near(block: &[u8], high: usize, low: usize) -> bool
     requires { ⌜ NearThere (now block) high ⌝ }

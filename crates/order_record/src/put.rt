@@ -41,7 +41,8 @@ fn skeleton_put(
     }
 }
 
-// The length `bytes`, and behind it the new index block, with numbers of `width` bits. The old one is `block`, of a view with `lines` lines.
+// The length `bytes`, and behind it the new index block, with numbers of `width` bits. The old one is `block`, of a view with `lines`
+// lines.
 fn lists_put(
     out: &mut [u8],
     block: &[u8],

@@ -7,9 +7,9 @@ use Rattle.orders.specs.Listed.{removalLines}
 use Rattle.orders.specs.Act.{Act, remove, join, part}
 use Rattle.orders.specs.Order.{Order}
 
--- lines: the removal list's bytes
-abbrev pub removalOrder : (view count : ℕ) → (lines : List ℕ) → Order
-removalOrder view count lines = record { view = view; count = count; act = remove (removalLines lines) }
+-- removal: the bytes of the removal list
+abbrev pub removalOrder : (view count : ℕ) → (removal : List ℕ) → Order
+removalOrder view count removal = record { view = view; count = count; act = remove (removalLines removal) }
 
 abbrev pub pairAct : Bool → ℕ → ℕ → Act
 pairAct joins a b = pick joins (join a b) (part a b)

@@ -1,5 +1,5 @@
--- An order on a record: when it is refused (14 to 19; 13 is for the view that it names), the record it leaves, the outcome of the call, and the record that then
--- holds. "An order names a view by its place (from 0) and the line count it was made for."
+-- An order on a record: when it is refused (14 to 19; 13 is for the view that it names), the record it leaves, the outcome of the
+-- call, and the record that then holds. "An order names a view by its place (from 0) and the line count it was made for."
 use mathlib.Core.Path.{_≡_}
 use Prim.Native.Nat.{ℕ, suc, _≤_, _<_}
 use mathlib.Core.Bool.{Bool, true, not, _&&_}

@@ -139,8 +139,8 @@ refused-stays = SequenceLaws.refused-stays
 pub orders-follow : (cs : List Call) (bytes : List ℕ) (r : Record) → All Byte bytes → read bytes ≡ Codec.got r [] → Kept cs r bytes (run cs bytes)
 orders-follow = SequenceLaws.orders-follow
 
--- the calls themselves, whose contracts are `Answers (order o record)` (ordering/src) and `holds` (order_holds/src): made one behind the other,
--- each lent the record that then holds, they come to the record of the sequence
+-- the calls themselves, whose contracts are `Answers (order o record)` (ordering/src) and `holds` (order_holds/src): made one behind
+-- the other, each lent the record that then holds, they come to the record of the sequence
 pub calls-run : (cs : List Call) (bytes last : List ℕ) → MadeAll cs bytes last → last ≡ run cs bytes
 calls-run = CallLaws.calls-run
 

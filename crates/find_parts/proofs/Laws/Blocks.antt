@@ -19,9 +19,9 @@ use Rattle.format.specs.Index.{Index, indexBlock}
 use Rattle.format.specs.Segments.{segments}
 use Rattle.format.specs.View.{View}
 use Rattle.format.specs.declared.Widths.{Widths}
-use Rattle.format.specs.Record.{Record}
+use Rattle.format.specs.Record.{Record, Narrow}
 use Rattle.find_parts.specs.Stands.{BlockAt, BlocksAt, ViewAt, ViewIn, BlocksIn}
-use Rattle.find_parts.specs.Finds.{BlockFound, BlocksThere, BlocksFound}
+use Rattle.find_parts.specs.Finds.{BlockFound, BlocksThere, BlocksFound, LinesThere}
 use Rattle.find_parts.specs.declared.view.Part.{Part}
 use Rattle.find_parts.specs.declared.view.Blocks.{Blocks}
 use Rattle.find_parts.proofs.Laws.Prefixed.{block-end}
@@ -116,3 +116,6 @@ blocks-in I F =
 
 pub block-there : {A : Type 0} {b : Block A} {s : List ℕ} {a e : ℕ} {v : A} → length s ≤ 32768 → BlockAt b s a e v → BlockThere b (cut s a e)
 block-there {v = v} k h = record { short = omega (arith, cut-long h, h .within, k); value = v; left = []; reads = h .value }
+
+pub lines-there : {w : Widths} {s : List ℕ} {a e : ℕ} {ls : List Line} → Narrow w → length s ≤ 32768 → BlockAt (skeleton w) s a e ls → LinesThere w (cut s a e)
+lines-there {ls = ls} n k h = record { narrow = n; short = omega (arith, cut-long h, h .within, k); value = ls; left = []; reads = h .value }

@@ -1,5 +1,5 @@
--- How many bits a line takes; and a line that was read, taken apart: its ends, its count and its codes, each at its place. A line that code passes ends where its
--- count of codes says.
+-- How many bits a line takes; and a line that was read, taken apart: its ends, its count and its codes, each at its place. A line that
+-- code passes ends where its count of codes says.
 use mathlib.Core.Path.{_≡_, sym, ap, _∙_}
 use Prim.Native.Nat.{ℕ, _+_, _-_, _*_, _≤_}
 use native.Mathlib.Omega.{arith}

@@ -5,7 +5,7 @@ use mathlib.Core.Path.{subst}
 use Rattle.judge.specs.Judge.{Judges}
 use Rattle.judge.specs.declared.Verdict.{Verdict}
 use Rattle.judge.specs.declared.Verdict.the-variants.{Accepted}
-use Rattle.find_view.proofs.Laws.{judged, not-there, view-there, blocks-there, stands}
+use Rattle.find_view.proofs.Laws.{judged, not-there, view-there, its-blocks, stands}
 use borrow.Author.Needs.{needs}
 use Rattle.find_view.proofs.find_view.Statement.{statement}
 use Rattle.find_view.proofs.find_view.Tie as tie
@@ -28,12 +28,12 @@ view-at-requires c κs =
 
 add-blocks-at : tie.Need-add-blocks-at
 add-blocks-at c =
-    let t = blocks-there (c .before .before .before .before .before .before .before .before .args .view) (accepted (c .before .before .before .before)) (c .before .before .if1 .taken) (c .before .view-at .ensures) in
+    let t = its-blocks (c .before .before .before .before .before .before .before .before .args .view) (accepted (c .before .before .before .before)) (c .before .before .if1 .taken) (c .before .view-at .ensures) in
     omega (arith, t .short, t .blocks .lines .from, t .blocks .lines .within)
 
 blocks-at-requires : tie.Need-blocks-at-requires
 blocks-at-requires c κs =
-    blocks-there (c .before .before .before .before .before .before .before .before .args .view) (accepted (c .before .before .before .before)) (c .before .before .if1 .taken) (c .before .view-at .ensures)
+    its-blocks (c .before .before .before .before .before .before .before .before .args .view) (accepted (c .before .before .before .before)) (c .before .before .if1 .taken) (c .before .view-at .ensures)
 
 returns : tie.Need-returns
 returns c =

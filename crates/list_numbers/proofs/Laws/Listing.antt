@@ -26,7 +26,7 @@ use Rattle.format.specs.View.{View, FitsHead, headFields}
 use Rattle.format.specs.declared.Widths.{Widths}
 use Rattle.find_parts.specs.Stands.{BlockAt, ViewAt}
 use Rattle.format.specs.Places.{segmentBits}
-use Rattle.find_parts.specs.Finds.{BlocksFound, LinesThere, LinesPassed, SegmentsPassed}
+use Rattle.find_parts.specs.Finds.{BlocksFound, LinesPassed, SegmentsPassed}
 use Rattle.find_parts.specs.declared.view.Blocks.{Blocks}
 use Rattle.find_parts.specs.declared.Passed.{Passed}
 use Rattle.find_parts.proofs.Laws.Blocks.{cut, cut-long, block-there, lines-here, index-here, segments-here, no-index}
@@ -96,10 +96,6 @@ module _ {w : Widths} {s : List ℕ} {a : ℕ} (T : ListedThere w s a) where
 
     pub segments-at : BlockAt segments s (x .extended .from) (x .extended .to) (T .value .segments)
     segments-at = segments-here (T .at .blocks) F
-
-    pub lines-there : LinesThere w (cut s (x .skeleton .from) (x .skeleton .to))
-    lines-there =
-        record { narrow = T .narrow; short = omega (arith, cut-long lines-at, lines-at .within, T .short); value = T .value .lines; left = []; reads = lines-at .value }
 
     pub index-there : {l : Passed} → LinesPassed w (cut s (x .skeleton .from) (x .skeleton .to)) 1024 l → BlockThere (indexBlock (l .count)) (cut s (x .index .from) (x .index .to))
     index-there L = rw (lines-counted lines-at L) (block-there (T .short) index-at)

@@ -5,8 +5,8 @@ use Rattle.bits.specs.Lists.{All}
 use Rattle.bits.specs.Bytes.{Byte}
 use Rattle.bits.proofs.Laws.Place.{all-bytes}
 use Rattle.outcome.specs.Refusals.{badView}
-use Rattle.find_parts.proofs.Laws.Blocks.{blocks-there, block-there, behind-is}
-use Rattle.list_numbers.proofs.Laws.Listing.{head-there, lines-at, index-at, segments-at, lines-there, index-there, listed-is}
+use Rattle.find_parts.proofs.Laws.Blocks.{blocks-there, block-there, behind-is, lines-there}
+use Rattle.list_numbers.proofs.Laws.Listing.{head-there, lines-at, index-at, segments-at, index-there, listed-is}
 use Rattle.list_numbers.proofs.listed_at.Statement.{statement}
 use Rattle.list_numbers.proofs.listed_at.Tie as tie
 
@@ -55,7 +55,7 @@ part-pass-lines-end c =
 
 pass-lines-requires : tie.Need-pass-lines-requires
 pass-lines-requires c κs =
-    lines-there (c .before .before .before .before .before .pre) (c .before .blocks-at .ensures)
+    lines-there (c .before .before .before .before .before .pre .narrow) (c .before .before .before .before .before .pre .short) (lines-at (c .before .before .before .before .before .pre) (c .before .blocks-at .ensures))
 
 sub-count-pairs : tie.Need-sub-count-pairs
 sub-count-pairs c =

@@ -6,11 +6,11 @@ use Prim.Native.Nat.{ℕ}
 use mathlib.Core.List.{List}
 use Rattle.format.specs.Places.{viewAt, lineAt}
 use Rattle.trail.specs.Trail.{trail}
-use Rattle.find_parts.proofs.Laws.Blocks.{cut}
+use Rattle.find_parts.proofs.Laws.Blocks.{cut, lines-there}
 use Rattle.find_parts.proofs.Laws.Lines.{passed-within, passed-all, passed-next, passed-there}
 use Rattle.find_view.specs.Found.{FindsView, Stands}
 use Rattle.find_view.specs.declared.FoundView.{FoundView}
-use Rattle.find_view.proofs.Laws.{lines-read, lines-there}
+use Rattle.find_view.proofs.Laws.{short, its-lines, its-widths}
 use Rattle.trailing.specs.Trace.{Draws}
 use Rattle.trailing.proofs.Laws.{half-is, refused-is, no-line, has-line}
 use borrow.Author.Needs.{needs}
@@ -43,25 +43,25 @@ part-block-end c =
 
 pass-lines-requires : tie.Need-pass-lines-requires
 pass-lines-requires c κs =
-    lines-there (stands (c .before .before .before))
+    let h = stands (c .before .before .before) in lines-there (its-widths h) (short h) (its-lines h)
 
 mul-if1 : tie.Need-mul-if1
 mul-if1 c =
-    omega (arith, lines-there (stands (c .before .before .before .before)) .short)
+    let h = stands (c .before .before .before .before) in omega (arith, lines-there (its-widths h) (short h) (its-lines h) .short)
 
 sub-if1 : tie.Need-sub-if1
 sub-if1 c =
-    passed-within (c .pass-lines .ensures) (lines-read (stands (c .before .before .before .before)))
+    passed-within (c .pass-lines .ensures) (its-lines (stands (c .before .before .before .before)) .value)
 
 returns : tie.Need-returns
 returns c =
-    no-line (c .before .before .before .before .before .before .before .before .before .args .line) (stands (c .before .before .before .before .before)) (passed-all (c .before .pass-lines .ensures) (lines-read (stands (c .before .before .before .before .before))) (c .if1 .taken))
+    no-line (c .before .before .before .before .before .before .before .before .before .args .line) (stands (c .before .before .before .before .before)) (passed-all (c .before .pass-lines .ensures) (its-lines (stands (c .before .before .before .before .before)) .value) (c .if1 .taken))
 
 walk-at-requires : tie.Need-walk-at-requires
 walk-at-requires c κs =
     let h = stands (c .before .before .before .before .before) in
-    let l = lines-there h in
-    let next = passed-next (c .before .pass-lines .ensures) (lines-read h) (c .if1 .left) in
+    let l = lines-there (its-widths h) (short h) (its-lines h) in
+    let next = passed-next (c .before .pass-lines .ensures) (its-lines h .value) (c .if1 .left) in
     let (lo, hi) = half-is h in
     (record { narrow = l .narrow; short = l .short; value = next .value; behind = next .behind; reads = next .reads }, lo, hi)
 
@@ -74,8 +74,8 @@ returns-3 c =
     let h = stands (c .before .before .before .before .before .before) in
     let view = viewAt (h .value) (c .before .before .before .before .before .before .before .before .before .before .args .view) in
     let b = h .blocks .lines in
-    let next = passed-next (c .before .before .pass-lines .ensures) (lines-read (stands (c .before .before .before .before .before .before))) (c .before .if1 .left) in
-    let (k, v) = passed-there (c .before .before .pass-lines .ensures) (lines-read (stands (c .before .before .before .before .before .before))) (c .before .if1 .left) in
+    let next = passed-next (c .before .before .pass-lines .ensures) (its-lines (stands (c .before .before .before .before .before .before)) .value) (c .before .if1 .left) in
+    let (k, v) = passed-there (c .before .before .pass-lines .ensures) (its-lines (stands (c .before .before .before .before .before .before)) .value) (c .before .if1 .left) in
     record {
       order = b .from;
       within = b .within;

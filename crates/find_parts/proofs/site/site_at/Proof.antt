@@ -1,12 +1,7 @@
 -- Made by tools/proof fill from answers/site.site_at.ans: change it there.
 -- The view is there, and its lines are counted.
 use native.Mathlib.Omega.{arith}
-use mathlib.Core.List.{[]}
-use lib.ListN.{length-take, length-drop}
-use Rattle.format.specs.Places.{viewAt}
-use Rattle.format.proofs.Laws.Record.{narrow}
-use Rattle.find_parts.proofs.Laws.Record.{record-apart}
-use Rattle.find_parts.proofs.Laws.Site.{site-is}
+use Rattle.find_parts.proofs.Laws.Site.{site-is, site-lines}
 use Rattle.find_parts.proofs.site.site_at.Statement.{statement}
 use Rattle.find_parts.proofs.site.site_at.Tie as tie
 
@@ -24,15 +19,7 @@ part-pass-lines-end c =
 
 pass-lines-requires : tie.Need-pass-lines-requires
 pass-lines-requires c κs =
-    let pre = c .before .before .before .before .before .pre in
-    let a = record-apart _ (pre .reads) in
-    record {
-      narrow = rw (pre .widths) (narrow (a .fits));
-      short = simp (length-take, length-drop) (omega (arith, a .short));
-      value = viewAt (pre .value) (pre .view) .lines;
-      left = [];
-      reads = rw (pre .widths) (pre .blocks .lines .value);
-    }
+    site-lines (c .before .before .before .before .before .pre)
 
 returns : tie.Need-returns
 returns c =
