@@ -37,10 +37,10 @@ abbrev pub taken : ℕ → Taken → Found ℕ
 taken e (tk.Bits n c) = found n (c .at)
 taken e (tk.Short p) = fault e p
 
--- the same of a byte at place p; n is the refusal of one outside its range
-abbrev pub rangedAt : ℕ → ℕ → RangedAt → Found ℕ
-rangedAt n p (rg.At x q) = found x (q .at)
-rangedAt n p rg.Outside = fault n p
+-- the same of a byte; e is the refusal of one outside its range, too
+abbrev pub rangedAt : ℕ → RangedAt → Found ℕ
+rangedAt e (rg.At x c) = found x (c .at)
+rangedAt e (rg.Outside p) = fault e p
 
 -- ---- what is kept of a value
 

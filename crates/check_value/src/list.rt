@@ -21,7 +21,7 @@ pub fn width_value(value: &[u8]) -> WidthWorth
     ensures { λ r. ⌜ Told widthValue (now (value .entry)) (widthIs r) ⌝ }
 {
     match ranged_at(Cursor::start(), value, 1, 16) {
-        RangedAt::Outside => WidthWorth::Wrong,
+        RangedAt::Outside(_) => WidthWorth::Wrong,
         RangedAt::At(w, _) => WidthWorth::Right(w),
     }
 }

@@ -11,14 +11,14 @@ use outcome::Refusal;
 // The header's scale, and where the view's blocks stand; or the number and the place of the refusal, 1 to 13.
 pub enum FoundView {
     At(Scale, Blocks),
-    Refused(u32, usize),
+    Refused { number: u32, place: u32 },
 }
 
 pub fn find_view(bytes: &[u8], view: usize) -> FoundView
     ensures { λ r. ⌜ FindsView (now (bytes .entry)) view r ⌝ }
 {
     match judge(bytes) {
-        Verdict::Refused(number, place) => FoundView::Refused(number, place),
+        Verdict::Refused { number, place } => FoundView::Refused { number, place },
         Verdict::Accepted {
             header,
             views,
@@ -29,7 +29,10 @@ pub fn find_view(bytes: &[u8], view: usize) -> FoundView
                 let scale = header.scale;
                 FoundView::At(scale, blocks_at(bytes, start + 8))
             } else {
-                FoundView::Refused(Refusal::NO_VIEW, 0)
+                FoundView::Refused {
+                    number: Refusal::NO_VIEW,
+                    place: 0,
+                }
             }
         }
     }

@@ -14,28 +14,46 @@ pub enum Verdict {
         views: usize,
         size: usize,
     },
-    Refused(u32, usize),
+    Refused {
+        number: u32,
+        place: u32,
+    },
 }
 
 pub fn judge(bytes: &[u8]) -> Verdict
     ensures { λ r. ⌜ Judges (now (bytes .entry)) r ⌝ }
 {
     if bytes.len() < Header::LEAST_BYTES {
-        return Verdict::Refused(Refusal::BAD_SIZE, 0);
+        return Verdict::Refused {
+            number: Refusal::BAD_SIZE,
+            place: 0,
+        };
     }
     if Header::MOST_BYTES < bytes.len() {
-        return Verdict::Refused(Refusal::BAD_SIZE, 0);
+        return Verdict::Refused {
+            number: Refusal::BAD_SIZE,
+            place: 0,
+        };
     }
     match header_at(bytes) {
-        HeaderAt::Refused(e, p) => Verdict::Refused(e, p),
+        HeaderAt::Refused(number, p) => Verdict::Refused {
+            number,
+            place: p as u32,
+        },
         HeaderAt::At(h, count) => {
             let scale = h.scale;
             let widths = scale.widths;
             match judge_views(bytes, widths, count) {
-                Reached::Refused(e, p) => Verdict::Refused(e, p),
+                Reached::Refused(number, p) => Verdict::Refused {
+                    number,
+                    place: p as u32,
+                },
                 Reached::At { next: a, size } => {
                     if a < bytes.len() {
-                        Verdict::Refused(Refusal::BYTES_OVER, 8 * a)
+                        Verdict::Refused {
+                            number: Refusal::BYTES_OVER,
+                            place: (8 * a) as u32,
+                        }
                     } else {
                         Verdict::Accepted {
                             header: h,

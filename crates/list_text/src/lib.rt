@@ -88,7 +88,7 @@ fn view_lines(bytes: &[u8], w: Widths, count: usize)
 // The listing of any bytes.
 pub fn listing(bytes: &[u8]) {
     match judge(bytes) {
-        Verdict::Refused(number, _) => refused(number),
+        Verdict::Refused { number, place: _ } => refused(number),
         Verdict::Accepted {
             header,
             views,

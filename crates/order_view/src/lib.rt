@@ -9,7 +9,7 @@ use outcome::Refusal;
 // Where the view stands that an order names and was made for; or the number and the place of the refusal.
 pub enum NamedView {
     At(Site),
-    Refused(u32, usize),
+    Refused { number: u32, place: u32 },
 }
 
 // The view of any bytes: 1 to 13, 14.
@@ -17,13 +17,16 @@ pub fn named_view(bytes: &[u8], view: usize, count: usize) -> NamedView
     ensures { λ r. ⌜ ViewNamed (now (bytes .entry)) view count r ⌝ }
 {
     match find_view(bytes, view) {
-        FoundView::Refused(number, place) => NamedView::Refused(number, place),
+        FoundView::Refused { number, place } => NamedView::Refused { number, place },
         FoundView::At(scale, blocks) => {
             let site = site_at(bytes, blocks, scale.widths);
             if site.lines == count {
                 NamedView::At(site)
             } else {
-                NamedView::Refused(Refusal::OTHER_COUNT, 0)
+                NamedView::Refused {
+                    number: Refusal::OTHER_COUNT,
+                    place: 0,
+                }
             }
         }
     }

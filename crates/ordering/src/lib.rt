@@ -18,13 +18,14 @@ use order_view::named_view;
 use outcome::Answer;
 use outcome::Refusal;
 use outcome::refuse;
+use outcome::refuse_at;
 
 // Lines removed: the numbers of `removal`, two bytes each, high byte first. 15, 16 are its own.
 pub fn remove(bytes: &[u8], view: usize, count: usize, removal: &[u8], out: &mut [u8]) -> Answer
     ensures { λ r. ⌜ Answers (order (removalOrder view count (now (removal .entry))) (now (bytes .entry))) (now (out .entry)) (now (out .exit)) r ⌝ }
 {
     match named_view(bytes, view, count) {
-        NamedView::Refused(number, _) => refuse(number),
+        NamedView::Refused { number, place } => refuse_at(number, place),
         NamedView::At(site) => {
             if lines_right(removal, count) {
                 if site.extended.from < site.extended.to {
@@ -106,7 +107,7 @@ fn pair(
     ensures { λ r. ⌜ Answers (order (pairOrder view count a b joins) (now (bytes .entry))) (now (out .entry)) (now (out .exit)) r ⌝ }
 {
     match named_view(bytes, view, count) {
-        NamedView::Refused(number, _) => refuse(number),
+        NamedView::Refused { number, place } => refuse_at(number, place),
         NamedView::At(site) => pair_at(bytes, site, a, b, joins, out),
     }
 }

@@ -65,7 +65,7 @@ module _ {A B : Type 0} (form : List A → List B) (lent : ℕ) {o : Outcome A} 
   answer-is x after n q l b =
       record { number = ap numberOf (sym q); place = ap placeOf (sym q); written = l ∙ ap lengthOf (sym q); buffer = b ∙ ap (laidAs form before) (sym q) }
 
-  pub answer-refused : {e p : ℕ} → o ≡ refused e p → AnswersAs form lent o before before (record { number = e; place = 0; length = 0 })
+  pub answer-refused : {e p : ℕ} → o ≡ refused e p → AnswersAs form lent o before before (record { number = e; place = p; length = 0 })
   answer-refused {e} {p} q = answer-is (refused e p) before 0 (ap (room lent) q) refl refl
 
   module _ {xs : List A} (q : o ≡ given xs) where
@@ -103,7 +103,7 @@ module _ {A : Type 0} {o : Outcome A} {before after : List A} {a : Answer} (h : 
 -- ---- the answers that say where something stands
 
 module _ {A : Type 0} {o : Outcome A} (p : ℕ) where
-  pub told-refused : {e q : ℕ} → o ≡ refused e q → told p o ≡ record { number = e; place = 0; length = 0 }
+  pub told-refused : {e q : ℕ} → o ≡ refused e q → told p o ≡ record { number = e; place = q; length = 0 }
   told-refused h = ap (told p) h
 
   pub told-given : {xs : List A} → o ≡ given xs → told p o ≡ record { number = 0; place = p; length = length xs }

@@ -1,3 +1,4 @@
 pub mod Refusals
 pub mod Outcome
 pub mod Numbers
+pub mod Placed

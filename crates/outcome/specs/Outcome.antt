@@ -25,12 +25,8 @@ abbrev pub numberOf : {A : Type 0} → Outcome A → ℕ
 numberOf (refused e p) = e
 numberOf (given xs) = 0
 
--- no place is shown yet
-abbrev pub shown : ℕ → ℕ
-shown p = 0
-
 abbrev pub placeOf : {A : Type 0} → Outcome A → ℕ
-placeOf (refused e p) = shown p
+placeOf (refused e p) = p
 placeOf (given xs) = 0
 
 abbrev pub lengthOf : {A : Type 0} → Outcome A → ℕ
@@ -68,5 +64,5 @@ Gave xs after a = (a .number ≡ 0) × (a .length ≡ length xs) × (take (a .le
 
 -- The answer of a call that writes nothing and says where what it gives stands, which is at place p.
 abbrev pub told : {A : Type 0} → ℕ → Outcome A → Answer
-told p (refused e q) = record { number = e; place = shown q; length = 0 }
+told p (refused e q) = record { number = e; place = q; length = 0 }
 told p (given xs) = record { number = 0; place = p; length = length xs }

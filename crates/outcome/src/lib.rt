@@ -1,7 +1,8 @@
 // What a call gives back. The numbers of the refusals, and what an answer means for the lent buffer, are in specs/.
 ghost use mathlib.Core.Path.{_≡_};
 
-// number: 0 where accepted, else the refusal's. length: how many elements were written.
+// number: 0 where accepted, else the refusal's. place: the first bit of what is refused, counted from the record's first; of a
+// segment that is found, its payload's first bit; else 0. length: how many elements were written.
 #[repr(C)]
 pub struct Answer {
     pub number: u32,
@@ -9,15 +10,22 @@ pub struct Answer {
     pub length: usize,
 }
 
+// A refusal at a place of the record.
+pub fn refuse_at(number: u32, place: u32) -> Answer
+    ensures { λ r. ⌜ r ≡ record { number = number; place = place; length = 0 } ⌝ }
+{
+    Answer {
+        number,
+        place,
+        length: 0,
+    }
+}
+
 // A refusal without a place.
 pub fn refuse(number: u32) -> Answer
     ensures { λ r. ⌜ r ≡ record { number = number; place = 0; length = 0 } ⌝ }
 {
-    Answer {
-        number,
-        place: 0,
-        length: 0,
-    }
+    refuse_at(number, 0)
 }
 
 // Accepted, with `length` elements written.

@@ -1,4 +1,5 @@
 pub mod Calls
 pub mod Samples
+pub mod Placed
 pub mod Promises
 pub mod PromisesCalls

@@ -3,7 +3,7 @@
 -- definition, and all of these stand in specs/:
 --   bits/specs/Choice, Lists, Bits, Bytes   within; All, Along; Bits; Byte
 --   bits/specs/Codec           Codec.got, Codec.refused: what reading gives; enc, what is written
---   outcome/specs/Refusals     otherCount, tooLong, badSheet, badValue
+--   outcome/specs/Refusals, Placed   otherCount, tooLong, badSheet, badValue; Placed
 --   outcome/specs/Outcome      Outcome, refused, given, numberOf, lengthOf, laid; AnswersAs, Answers, Gave
 --   format/specs/Parts         Record, FitsList, up
 --   format/specs/View, Places  view; viewAt
@@ -19,7 +19,7 @@
 -- `Answer` and `Held` are structs of the code (outcome/src, order_holds/src), `length`, `take`, `T`, `eqb` and the signs the toolchain's.
 use mathlib.Core.Path.{_≡_}
 use mathlib.Core.Logic.{_≢_, _⊎_}
-use Prim.Native.Nat.{ℕ, _*_, _≤_}
+use Prim.Native.Nat.{ℕ, _-_, _*_, _≤_}
 use mathlib.Core.Bool.{_||_}
 use mathlib.Core.List.{List, [], _∷_, _++_, map}
 use lib.ListN.{length, take}
@@ -30,6 +30,7 @@ use Rattle.bits.specs.Bits.{Bits}
 use Rattle.bits.specs.Bytes.{Byte}
 use Rattle.bits.specs.Codec as Codec
 use Rattle.outcome.specs.Refusals.{otherCount, tooLong, badSheet, badValue}
+use Rattle.outcome.specs.Placed.{Placed}
 use Rattle.outcome.specs.Outcome.{Outcome, refused, given, numberOf, lengthOf, laid, AnswersAs, Answers, Gave}
 use Rattle.outcome.specs.declared.Answer.{Answer}
 use Rattle.outcome.proofs.Laws as OutcomeLaws
@@ -65,8 +66,9 @@ use Rattle.promises.proofs.Samples as ComputedSamples
 -- ---- DEMAND 1: every run of bytes gets a result; bad input is refused by a fixed number; a refusal writes nothing
 -- ("No number is given otherwise": the numbers of each call stand in PromisesCalls)
 
--- a record is refused by 1 to 12 and no other number, at a place within it
-pub record-refused : (bytes : List ℕ) (e left : ℕ) → read bytes ≡ Codec.refused e left → T (within 1 12 e) × (left ≤ 8 * length bytes)
+-- a record is refused by 1 to 12 and no other number, and 2 to 12 have a place: the bits left there are at most all
+pub record-refused : (bytes : List ℕ) (e left : ℕ) → read bytes ≡ Codec.refused e left
+    → T (within 1 12 e) × (left ≤ 8 * length bytes) × Placed (8 * length bytes) e (8 * length bytes - left)
 record-refused = RecordRefusals.read-refuses
 
 -- a sheet is refused by 21, 22 or 19

@@ -1,6 +1,7 @@
--- WHAT THE LIBRARY PROMISES OF EACH CALL: the numbers that it gives, and when it gives 0. An answer is any that the call's contract
+-- WHAT THE LIBRARY PROMISES OF EACH CALL: the numbers that it gives, their places, and when it gives 0. An answer is any that the call's contract
 -- allows, which the statement names (`Answers (reading bytes)`, ..). Promises is the front page. The names in statements stand in specs/:
 --   outcome/specs/Numbers      Gives; readNumbers, writeNumbers, trailNumbers, segmentNumbers, removalNumbers, pairNumbers
+--   outcome/specs/Placed       Placed
 --   outcome/specs/Outcome      numberOf, AnswersAs, Answers
 --   sheet/specs/Sheet          reading, writing
 --   sheet/specs/Accepted       AcceptedReading, AcceptedWriting
@@ -12,12 +13,14 @@
 --   bits/specs/Lists, Bytes    All; Byte
 -- `Answer` is the struct of outcome/src.
 use mathlib.Core.Path.{_≡_}
-use Prim.Native.Nat.{ℕ}
+use mathlib.Core.Logic.{_≢_}
+use Prim.Native.Nat.{ℕ, _*_}
 use mathlib.Core.List.{List}
 use lib.ListN.{length}
 use Rattle.bits.specs.Lists.{All}
 use Rattle.bits.specs.Bytes.{Byte}
 use Rattle.outcome.specs.Numbers.{Gives, readNumbers, writeNumbers, trailNumbers, segmentNumbers, removalNumbers, pairNumbers}
+use Rattle.outcome.specs.Placed.{Placed}
 use Rattle.outcome.specs.Outcome.{numberOf, AnswersAs, Answers}
 use Rattle.outcome.specs.declared.Answer.{Answer}
 use Rattle.sheet.specs.Sheet.{reading, writing}
@@ -33,6 +36,7 @@ use Rattle.orders.specs.History.{Call, outcome}
 use Rattle.orders.specs.Accept.{AcceptedCall}
 use Rattle.orders.proofs.Laws.Numbers as OrderNumbers
 use Rattle.orders.proofs.Laws.AcceptCall as AcceptCall
+use Rattle.promises.proofs.Placed as Places
 
 -- ---- "No number is given otherwise": of each call, the numbers that its contract allows besides 0
 
@@ -61,6 +65,29 @@ join-numbers = OrderNumbers.join-numbers
 pub part-numbers : (o : Order) (bytes : List ℕ) {before after : List ℕ} {a : Answer} → Answers (order o bytes) before after a
     → {p q : ℕ} → o .act ≡ part p q → Gives pairNumbers (a .number)
 part-numbers = OrderNumbers.part-numbers
+
+-- ---- SAY WHERE: the place is 0 unless the number is 2 to 12, and then lies within the record's bits or at their end
+
+pub read-place : {before after : List ℕ} {a : Answer} (bytes : List ℕ) → Answers (reading bytes) before after a
+    → Placed (8 * length bytes) (a .number) (a .place)
+read-place = Places.read-place
+
+pub trail-place : {B : Type 0} {form : List ℕ → List B} {lent : ℕ} {before after : List B} {a : Answer} (view line : ℕ) (bytes : List ℕ)
+    → AnswersAs form lent (trailing view line bytes) before after a → Placed (8 * length bytes) (a .number) (a .place)
+trail-place = Places.trail-place
+
+-- an accepted one has its payload's first bit there (segmentAnswer)
+pub segment-place : {a : Answer} (view place : ℕ) (bytes : List ℕ) → a ≡ segmentAnswer view place bytes → a .number ≢ 0
+    → Placed (8 * length bytes) (a .number) (a .place)
+segment-place = Places.segment-place
+
+pub order-place : (o : Order) (bytes : List ℕ) {before after : List ℕ} {a : Answer} → Answers (order o bytes) before after a
+    → Placed (8 * length bytes) (a .number) (a .place)
+order-place = Places.order-place
+
+-- a sheet has no places
+pub write-place : {before after : List ℕ} {a : Answer} (sheet : List ℕ) → Answers (writing sheet) before after a → a .place ≡ 0
+write-place = Places.write-place
 
 -- ---- reading and writing: the number is 0 exactly where the bytes, or the sheet, are an allowed record's and there is room
 

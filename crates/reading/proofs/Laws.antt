@@ -22,7 +22,7 @@ use Rattle.sheet_bytes.proofs.Laws.Rendered.{rendered}
 use Rattle.sheet_bytes.proofs.Laws.Sizes.{rendered-size}
 
 module _ (s before : List ℕ) where
-  pub refuses : {e p : ℕ} → Judges s (Refused e p) → Answers (reading s) before before (record { number = e; place = 0; length = 0 })
+  pub refuses : {e p : ℕ} → Judges s (Refused e p) → Answers (reading s) before before (record { number = e; place = p; length = 0 })
   unfolding reading
   refuses j = answer-refused (λ xs. xs) (length before) before (call-refused (λ r. given (sheetOf r)) s j)
 

@@ -7,13 +7,14 @@ use outcome::Answer;
 use outcome::Refusal;
 use outcome::accept;
 use outcome::refuse;
+use outcome::refuse_at;
 use read_views::record::sheet_out;
 
 pub fn read(bytes: &[u8], sheet: &mut [u8]) -> Answer
     ensures { λ r. ⌜ Answers (reading (now (bytes .entry))) (now (sheet .entry)) (now (sheet .exit)) r ⌝ }
 {
     match judge(bytes) {
-        Verdict::Refused(number, _) => refuse(number),
+        Verdict::Refused { number, place } => refuse_at(number, place),
         Verdict::Accepted {
             header,
             views,

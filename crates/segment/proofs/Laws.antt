@@ -131,7 +131,7 @@ module _ {s : List ℕ} {view : ℕ} {c : Scale} {x : Blocks} (h : Stands s view
 -- ---- what the two calls give
 
 module _ (view place : ℕ) (s : List ℕ) where
-  pub answer-refused : {e p : ℕ} → payload view place s ≡ refused e p → record { number = e; place = 0; length = 0 } ≡ segmentAnswer view place s
+  pub answer-refused : {e p : ℕ} → payload view place s ≡ refused e p → record { number = e; place = p; length = 0 } ≡ segmentAnswer view place s
   unfolding segmentAnswer
   answer-refused h = sym (told-refused (firstBitRead view place (read s)) h)
 

@@ -10,12 +10,12 @@ use find_view::FoundView;
 use find_view::find_view;
 use outcome::Answer;
 use outcome::Refusal;
-use outcome::refuse;
+use outcome::refuse_at;
 
 // The payload's part of the record; or the number of the refusal, and the bit that it is about.
 enum FoundPayload {
     At(Part),
-    Refused(u32, usize),
+    Refused { number: u32, bit: u32 },
 }
 
 // The payload in any bytes. Segments are passed up to the one at that place.
@@ -23,7 +23,7 @@ fn find(bytes: &[u8], view: usize, place: usize) -> FoundPayload
     ensures { λ r. ⌜ PayloadFound view place (now (bytes .entry)) r ⌝ }
 {
     match find_view(bytes, view) {
-        FoundView::Refused(number, bit) => FoundPayload::Refused(number, bit),
+        FoundView::Refused { number, place: bit } => FoundPayload::Refused { number, bit },
         FoundView::At(_, blocks) => {
             let first = blocks.extended.from;
             let end = blocks.extended.to;
@@ -39,7 +39,10 @@ fn find(bytes: &[u8], view: usize, place: usize) -> FoundPayload
                     to: start + size.value,
                 })
             } else {
-                FoundPayload::Refused(Refusal::NO_SEGMENT, 0)
+                FoundPayload::Refused {
+                    number: Refusal::NO_SEGMENT,
+                    bit: 0,
+                }
             }
         }
     }
@@ -50,7 +53,7 @@ pub fn segment(bytes: &[u8], view: usize, place: usize) -> Answer
     ensures { λ r. ⌜ r ≡ segmentAnswer view place (now (bytes .entry)) ⌝ }
 {
     match find(bytes, view, place) {
-        FoundPayload::Refused(number, _) => refuse(number),
+        FoundPayload::Refused { number, bit } => refuse_at(number, bit),
         FoundPayload::At(part) => Answer {
             number: 0,
             place: (8 * part.from) as u32,
@@ -64,7 +67,7 @@ pub fn payload<'a>(bytes: &'a [u8], view: usize, place: usize) -> &'a [u8]
     ensures { λ r. ⌜ now r ≡ payloadOf (payload view place (now (bytes .entry))) ⌝ }
 {
     match find(bytes, view, place) {
-        FoundPayload::Refused(_, _) => &bytes[0..0],
+        FoundPayload::Refused { number: _, bit: _ } => &bytes[0..0],
         FoundPayload::At(part) => {
             let from = part.from;
             let to = part.to;

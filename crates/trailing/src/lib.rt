@@ -16,6 +16,7 @@ use outcome::Answer;
 use outcome::Refusal;
 use outcome::accept;
 use outcome::refuse;
+use outcome::refuse_at;
 use trail_steps::count_drawn;
 use trail_steps::trail_bytes;
 use trail_steps::trail_numbers;
@@ -34,7 +35,7 @@ pub struct CodeWalk {
 // A line that is asked for: the skeleton block that it stands in, and its walk there; or the number and the place of the refusal.
 pub enum FoundLine {
     At(Part, CodeWalk),
-    Refused(u32, usize),
+    Refused { number: u32, place: u32 },
 }
 
 // The walk along the line at place p of the block.
@@ -65,7 +66,7 @@ fn find(bytes: &[u8], view: usize, line: usize) -> FoundLine
     ensures { λ r. ⌜ LineFound (now (bytes .entry)) (trailing view line (now (bytes .entry))) r ⌝ }
 {
     match find_view(bytes, view) {
-        FoundView::Refused(number, place) => FoundLine::Refused(number, place),
+        FoundView::Refused { number, place } => FoundLine::Refused { number, place },
         FoundView::At(scale, blocks) => {
             let skeleton = blocks.skeleton;
             let from = skeleton.from;
@@ -74,7 +75,10 @@ fn find(bytes: &[u8], view: usize, line: usize) -> FoundLine
             let passed = pass_lines(block, scale.widths, line);
             let next = passed.next;
             if 8 * block.len() - next < 8 {
-                return FoundLine::Refused(Refusal::BAD_LINES, 0);
+                return FoundLine::Refused {
+                    number: Refusal::BAD_LINES,
+                    place: 0,
+                };
             }
             FoundLine::At(skeleton, walk_at(block, next, scale))
         }
@@ -86,7 +90,7 @@ pub fn trail(bytes: &[u8], view: usize, line: usize, out: &mut [u16]) -> Answer
     ensures { λ r. ⌜ Answers (trailing view line (now (bytes .entry))) (now (out .entry)) (now (out .exit)) r ⌝ }
 {
     match find(bytes, view, line) {
-        FoundLine::Refused(number, _) => refuse(number),
+        FoundLine::Refused { number, place } => refuse_at(number, place),
         FoundLine::At(skeleton, w) => {
             let from = skeleton.from;
             let to = skeleton.to;
@@ -113,7 +117,7 @@ pub fn trail_as_bytes(bytes: &[u8], view: usize, line: usize, out: &mut [u8]) ->
     ensures { λ r. ⌜ AnswersInBytes (trailing view line (now (bytes .entry))) (now (out .entry)) (now (out .exit)) r ⌝ }
 {
     match find(bytes, view, line) {
-        FoundLine::Refused(number, _) => refuse(number),
+        FoundLine::Refused { number, place } => refuse_at(number, place),
         FoundLine::At(skeleton, w) => {
             let from = skeleton.from;
             let to = skeleton.to;

@@ -1,5 +1,5 @@
-// Runs the library's calls on each file that an argument names, and prints what came of it: the listing, the sheet's length, the
-// trails of the first lines of each view and the lengths of its first segments.
+// Runs the library's calls on each file that an argument names, and prints what came of it: the listing, the place of a refusal, the
+// sheet's length, the trails of the first lines of each view and the lengths of its first segments.
 use format::Header;
 use judge::Verdict;
 use judge::judge;
@@ -20,6 +20,15 @@ fn sheet(bytes: &[u8]) {
     } else {
         list_text::refused(answer.number);
     }
+}
+
+// Where the record is refused.
+fn refused_at(bytes: &[u8]) {
+    let mut out = [0u8; 1];
+    let answer = read(bytes, &mut out);
+    text(b"place ");
+    number(answer.place as usize);
+    text(b"\n");
 }
 
 // How a line of its own starts: what it is of, the view and the place.
@@ -91,6 +100,7 @@ fn of_record(bytes: &[u8]) {
         size: _,
     } = judge(bytes)
     else {
+        refused_at(bytes);
         return;
     };
     sheet(bytes);

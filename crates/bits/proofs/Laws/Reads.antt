@@ -193,3 +193,22 @@ module _ (e w : ℕ) {s : List ℕ} {p x q : ℕ} (h : Reads (fieldDec e w) s p 
 
   pub ranged-high : (low high : ℕ) → p ≤ 8 * length s → high < x → Reads (ranged e w low high .dec) s p (fault e p)
   ranged-high low high i a = fail (field e w) e (within low high) i h (within-not-high low high x a)
+
+-- a number outside its range says its own place, as one that passes the end does
+pub own-ranged : (e w low high : ℕ) {s : List ℕ} {p x q : ℕ} → p ≤ 8 * length s → Reads (ranged e w low high .dec) s p (fault x q)
+    → Reads (ranged e w low high .dec) s p (fault e p)
+unfolding onlyDec
+own-ranged e w low high {s} {p} {x} {q} i h = record { is = go (leb w (length u)) (h .is) ∙ ap (refused e) (length-rest s p); within = i }
+  where
+    u : Bits
+    u = drop p (bitsOf s)
+
+    tested : (y : Bool) (a : ℕ) (r : Bits) → pick y (got a r) (refused e (length u)) ≡ refused x (8 * length s - q) → pick y (got a r) (refused e (length u)) ≡ refused e (length u)
+    tested true a r z = let v : _≡_ {A = ℕ} 0 1 = cc in absurd (omega arith)
+    tested false a r z = refl
+
+    go : (y : Bool)
+        → next (pick y (got (numberOfBits (take w u)) (drop w u)) (refused e (length u))) (λ a r. pick (within low high a) (got a r) (refused e (length u))) ≡ refused x (8 * length s - q)
+        → next (pick y (got (numberOfBits (take w u)) (drop w u)) (refused e (length u))) (λ a r. pick (within low high a) (got a r) (refused e (length u))) ≡ refused e (length u)
+    go true z = tested (within low high (numberOfBits (take w u))) (numberOfBits (take w u)) (drop w u) z
+    go false z = refl

@@ -26,7 +26,7 @@ module _ {A : Type 0} (last : ℕ) (ranges : List (ℕ × ℕ)) where
       go : (o : Read Bool Record) → read bytes ≡ o → RefusedBy ((1, last) ∷ ranges) (fromRead (8 * length bytes) f o)
       go (C.got r rest) e = h r
       go (C.refused n left) e =
-          let (t, _) = read-refuses bytes n left e in
+          let (t, _, _) = read-refuses bytes n left e in
           among-first 1 last ranges n (within-low 1 12 n t) (omega (arith, within-high 1 12 n t))
 
   pub view-numbers : 13 ≤ last → (view : ℕ) (f : ℕ → Record → Outcome A)

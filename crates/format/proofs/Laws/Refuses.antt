@@ -1,17 +1,21 @@
--- A record is refused only by document 01's numbers 1 to 12, and at a place within it. The kit's laws give this of each format
--- from its parts; scale and headFields, which the sheet reads too, have it for whatever numbers they are given.
+-- A record is refused only by document 01's numbers 1 to 12, and at a place within it, which for 1 is 0. The kit's laws give this of
+-- each format from its parts; scale and headFields, which the sheet reads too, have it for whatever numbers they are given.
 use mathlib.Core.Path.{_≡_}
-use Prim.Native.Nat.{ℕ, suc, _*_, _≤_}
-use native.Mathlib.Nat.{le-refl}
+use Prim.Native.Nat.{ℕ, suc, _-_, _*_, _≤_}
+use native.Mathlib.Omega.{arith}
+use native.Mathlib.Nat.{le-refl, sub-self}
 use mathlib.Core.List.{List, [], _∷_}
 use lib.ListN.{length}
-use lib.Dec.{T}
+use lib.Dec.{T, le→leb}
 use Rattle.bits.specs.Choice.{within}
+use Rattle.bits.specs.ChoiceLaws.{T-true, within-low, within-high, within-yes}
 use Rattle.bits.specs.Bits.{Bits}
 use Rattle.bits.specs.Bytes.{bitsOf}
 use Rattle.bits.specs.BytesLaws.{length-bitsOf}
 use Rattle.bits.specs.Codec.{refused}
-use Rattle.bits.proofs.Laws.Refuses.{Refusal, accepted, by, AtMost, Refuses, refused-by, pick-refusal, next-refuses, refusing}
+use Rattle.bits.proofs.Laws.Refuses.{Refusal, accepted, by, AtMost, Refuses, refused-by, refusal-map, pick-refusal, next-refuses, refusing}
+use Rattle.outcome.specs.Refusals.{badSize}
+use Rattle.outcome.specs.Placed.{Placed}
 use Rattle.format.specs.Limits.{leastBytes, mostBytes}
 use Rattle.format.specs.Line.{end, line, skeleton}
 use Rattle.format.specs.Index.{neighbours, index, indexBlock}
@@ -21,7 +25,7 @@ use Rattle.format.specs.Record.{scale, header, views, recordOf, allOf, r
 use Rattle.format.specs.declared.Widths.{Widths}
 
 abbrev Listed : ℕ → Type 0
-Listed e = T (within 1 12 e)
+Listed e = T (within 2 12 e)
 
 -- ---- the blocks of a view
 
@@ -95,9 +99,23 @@ all-refuses a = record { at = go }
     go [] = accepted
     go (b ∷ s) = by (tt, le-refl (suc (length s)))
 
-pub read-refuses : (bytes : List ℕ) (e left : ℕ) → read bytes ≡ refused e left → T (within 1 12 e) × (left ≤ 8 * length bytes)
+-- what is said of a refusal of bytes that have n bits
+abbrev InRecord : ℕ → ℕ → ℕ → Type 0
+InRecord n e left = T (within 1 12 e) × (left ≤ n) × Placed n e (n - left)
+
+-- 1 leaves all
+size-in : (n : ℕ) → InRecord n badSize n
+size-in n = (tt, le-refl n, rw (sub-self n) tt)
+
+field-in : (n e left : ℕ) → AtMost Listed n e left → InRecord n e left
+field-in n e left h =
+    let low = within-low 2 12 e (h .0) in
+    (within-yes 1 12 e (omega arith) (within-high 2 12 e (h .0)), h .1, rw (T-true (within 2 12 e) (h .0)) (le→leb (n - left) n (omega arith)))
+
+pub read-refuses : (bytes : List ℕ) (e left : ℕ) → read bytes ≡ refused e left
+    → T (within 1 12 e) × (left ≤ 8 * length bytes) × Placed (8 * length bytes) e (8 * length bytes - left)
 unfolding read
 read-refuses bytes e left p =
     let n : ℕ = length bytes in
     let h = next-refuses (recordOf n) (record-refuses n) all-refuses .at (bitsOf bytes) in
-    refused-by (pick-refusal (within leastBytes mostBytes n) (rw length-bitsOf at h) (by (tt, le-refl (8 * n)))) p
+    refused-by (pick-refusal (within leastBytes mostBytes n) (refusal-map (field-in (8 * n)) (rw length-bitsOf at h)) (by (size-in (8 * n)))) p

@@ -1,5 +1,5 @@
 -- Made by tools/proof fill from answers/judge.ans: change it there.
--- The header, then the views, and what may be left behind them.
+-- The header, then the views, and what may be left behind them. A place is within the bytes, so that it fits 32 bits.
 use native.Mathlib.Omega.{arith}
 use Prim.Native.Nat.{_≤_}
 use mathlib.Core.Path.{ap, subst}
@@ -33,8 +33,13 @@ returns-2 c =
 header-at-requires : tie.Need-header-at-requires
 header-at-requires c κs = search needs
 
-enum-known-e : tie.Need-enum-known-e
-enum-known-e c = search needs
+enum-known-number : tie.Need-enum-known-number
+enum-known-number c = search needs
+
+cast-t16 : tie.Need-cast-t16
+cast-t16 c =
+    let h = known (ap headerAt (c .before .number .given .1)) (c .before .before .before .header-at .ensures) in
+    omega (arith, h .within, c .before .before .before .before .if2 .left)
 
 enum-known-h : tie.Need-enum-known-h
 enum-known-h c = search needs
@@ -44,27 +49,35 @@ judge-views-requires c κs =
     let f = header-fits (c .before .before .before .before .before .before .before .before .before .args .bytes .now) (c .before .before .before .h .given .0 .0) (c .before .before .before .h .given .0 .1 .0) (head (c .before .before .before)) in
     (omega (arith, c .before .before .before .before .before .before .before .if1 .left), omega (arith, c .before .before .before .before .before .before .if2 .left), f .0, f .1, f .2, f .3)
 
-enum-known-e-2 : tie.Need-enum-known-e-2
-enum-known-e-2 c = search needs
+enum-known-number-2 : tie.Need-enum-known-number-2
+enum-known-number-2 c = search needs
+
+cast-t19 : tie.Need-cast-t19
+cast-t19 c =
+    let h = known (ap reached (c .before .number2 .given .1)) (c .before .before .before .judge-views .ensures .0) in
+    omega (arith, h .within, c .before .before .before .before .before .before .before .before .before .before .if2 .left)
 
 enum-known-a : tie.Need-enum-known-a
 enum-known-a c = search needs
 
-mul-t21 : tie.Need-mul-t21
-mul-t21 c = search needs
+mul-t23 : tie.Need-mul-t23
+mul-t23 c = search needs
 
-add-t22 : tie.Need-add-t22
-add-t22 c =
+cast-t24 : tie.Need-cast-t24
+cast-t24 c = search needs
+
+add-t25 : tie.Need-add-t25
+add-t25 c =
     let y = subst (λ (r : Reached). sheetBytes r ≤ 137438953472) (c .before .before .a .given .1) (c .before .before .before .before .judge-views .ensures .1) in
     omega (arith, y)
 
 returns-3 : tie.Need-returns-3
 returns-3 c =
-    header-bad (c .before .before .before .before .before .before .before .args .bytes .now) (fits (c .before .before .before .before)) _ _ (known (ap headerAt (c .before .e .given .1)) (c .before .before .before .header-at .ensures))
+    header-bad (c .before .before .before .before .before .before .before .args .bytes .now) (fits (c .before .before .before .before)) _ _ (known (ap headerAt (c .before .number .given .1)) (c .before .before .before .header-at .ensures))
 
 returns-4 : tie.Need-returns-4
 returns-4 c =
-    views-bad (c .before .before .before .before .before .before .before .before .before .before .before .before .before .args .bytes .now) (fits (c .before .before .before .before .before .before .before .before .before .before)) (c .before .before .before .before .before .before .before .h .given .0 .0) (c .before .before .before .before .before .before .before .h .given .0 .1 .0) (head (c .before .before .before .before .before .before .before)) _ _ (known (ap reached (c .before .e2 .given .1)) (c .before .before .before .judge-views .ensures .0))
+    views-bad (c .before .before .before .before .before .before .before .before .before .before .before .before .before .args .bytes .now) (fits (c .before .before .before .before .before .before .before .before .before .before)) (c .before .before .before .before .before .before .before .h .given .0 .0) (c .before .before .before .before .before .before .before .h .given .0 .1 .0) (head (c .before .before .before .before .before .before .before)) _ _ (known (ap reached (c .before .number2 .given .1)) (c .before .before .before .judge-views .ensures .0))
 
 returns-5 : tie.Need-returns-5
 returns-5 c =
@@ -81,13 +94,16 @@ judge-spec =
     returns
     returns-2
     header-at-requires
-    enum-known-e
+    enum-known-number
+    cast-t16
     enum-known-h
     judge-views-requires
-    enum-known-e-2
+    enum-known-number-2
+    cast-t19
     enum-known-a
-    mul-t21
-    add-t22
+    mul-t23
+    cast-t24
+    add-t25
     returns-3
     returns-4
     returns-5

@@ -18,8 +18,8 @@ named-view-requires c κs = search needs
 enum-known-number : tie.Need-enum-known-number
 enum-known-number c = search needs
 
-refuse-requires : tie.Need-refuse-requires
-refuse-requires c κs = search needs
+refuse-at-requires : tie.Need-refuse-at-requires
+refuse-at-requires c κs = search needs
 
 enum-known-site : tie.Need-enum-known-site
 enum-known-site c = search needs
@@ -30,7 +30,7 @@ pair-at-requires c κs =
 
 returns : tie.Need-returns
 returns c =
-    rw (c .refuse .ensures) (answer-refused (λ xs. xs) _ (c .before .before .before .before .before .before .before .args .out .now) (subst (λ (r : NamedView). ViewNamed (c .before .before .before .before .before .before .before .args .bytes .now) (c .before .before .before .before .before .before .before .args .view) (c .before .before .before .before .before .before .before .args .count) r) (c .before .before .number .given .1) (c .before .before .before .before .named-view .ensures) (pairAct (c .before .before .before .before .before .before .before .args .joins) (c .before .before .before .before .before .before .before .args .a) (c .before .before .before .before .before .before .before .args .b))))
+    rw (c .refuse-at .ensures) (answer-refused (λ xs. xs) _ (c .before .before .before .before .before .before .before .args .out .now) (subst (λ (r : NamedView). ViewNamed (c .before .before .before .before .before .before .before .args .bytes .now) (c .before .before .before .before .before .before .before .args .view) (c .before .before .before .before .before .before .before .args .count) r) (c .before .before .number .given .1) (c .before .before .before .before .named-view .ensures) (pairAct (c .before .before .before .before .before .before .before .args .joins) (c .before .before .before .before .before .before .before .args .a) (c .before .before .before .before .before .before .before .args .b))))
 
 same-length : tie.Need-same-length
 same-length c = search needs
@@ -45,7 +45,7 @@ pair-spec =
     (tie.spec
     named-view-requires
     enum-known-number
-    refuse-requires
+    refuse-at-requires
     enum-known-site
     pair-at-requires
     returns

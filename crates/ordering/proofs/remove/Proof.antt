@@ -32,8 +32,8 @@ named-view-requires c κs = search needs
 enum-known-number : tie.Need-enum-known-number
 enum-known-number c = search needs
 
-refuse-requires : tie.Need-refuse-requires
-refuse-requires c κs = search needs
+refuse-at-requires : tie.Need-refuse-at-requires
+refuse-at-requires c κs = search needs
 
 enum-known-site : tie.Need-enum-known-site
 enum-known-site c = search needs
@@ -41,8 +41,8 @@ enum-known-site c = search needs
 lines-right-requires : tie.Need-lines-right-requires
 lines-right-requires c κs = search needs
 
-refuse-requires-2 : tie.Need-refuse-requires-2
-refuse-requires-2 c κs = search needs
+refuse-requires : tie.Need-refuse-requires
+refuse-requires c κs = search needs
 
 carry-out-requires : tie.Need-carry-out-requires
 carry-out-requires c κs =
@@ -51,16 +51,16 @@ carry-out-requires c κs =
     let g = good (c .before .before .before) in
     placed f (bytes (c .before .before .before .before .before .before .before .before .before .before .before)) (rises f l g) (removal-means f l g (c .before .if2 .left) (bytes (c .before .before .before .before .before .before .before .before .before .before .before))) (removal-passes f l g (c .before .if2 .left))
 
-refuse-requires-3 : tie.Need-refuse-requires-3
-refuse-requires-3 c κs = search needs
+refuse-requires-2 : tie.Need-refuse-requires-2
+refuse-requires-2 c κs = search needs
 
 returns : tie.Need-returns
 returns c =
-    rw (c .refuse .ensures) (answer-refused (λ xs. xs) _ (c .before .before .before .before .before .before .before .before .args .out .now) (subst (λ (r : NamedView). ViewNamed (c .before .before .before .before .before .before .before .before .args .bytes .now) (c .before .before .before .before .before .before .before .before .args .view) (c .before .before .before .before .before .before .before .before .args .count) r) (c .before .before .number .given .1) (c .before .before .before .before .named-view .ensures) (remove (removalLines (c .before .before .before .before .before .before .before .before .args .removal .now)))))
+    rw (c .refuse-at .ensures) (answer-refused (λ xs. xs) _ (c .before .before .before .before .before .before .before .before .args .out .now) (subst (λ (r : NamedView). ViewNamed (c .before .before .before .before .before .before .before .before .args .bytes .now) (c .before .before .before .before .before .before .before .before .args .view) (c .before .before .before .before .before .before .before .before .args .count) r) (c .before .before .number .given .1) (c .before .before .before .before .named-view .ensures) (remove (removalLines (c .before .before .before .before .before .before .before .before .args .removal .now)))))
 
 returns-2 : tie.Need-returns-2
 returns-2 c =
-    rw (c .refuse2 .ensures) (answer-refused (λ xs. xs) _ (c .before .before .before .before .before .before .before .before .before .before .before .before .args .out .now) (has-segments (found (c .before .before .before .before .before .before)) (c .before .before .before .before .before .before .before .before .before .before .before .before .args .removal .now) (good (c .before .before .before)) (c .before .if2 .taken)))
+    rw (c .refuse .ensures) (answer-refused (λ xs. xs) _ (c .before .before .before .before .before .before .before .before .before .before .before .before .args .out .now) (has-segments (found (c .before .before .before .before .before .before)) (c .before .before .before .before .before .before .before .before .before .before .before .before .args .removal .now) (good (c .before .before .before)) (c .before .if2 .taken)))
 
 same-length : tie.Need-same-length
 same-length c = search needs
@@ -74,7 +74,7 @@ returns-3 c =
 
 returns-4 : tie.Need-returns-4
 returns-4 c =
-    rw (c .refuse3 .ensures) (answer-refused (λ xs. xs) _ (c .before .before .before .before .before .before .before .before .before .before .args .out .now) (bad-lines (found (c .before .before .before .before)) (c .before .before .before .before .before .before .before .before .before .before .args .removal .now) (sym (c .before .before .lines-right .ensures) ∙ c .before .if1 .left)))
+    rw (c .refuse2 .ensures) (answer-refused (λ xs. xs) _ (c .before .before .before .before .before .before .before .before .before .before .args .out .now) (bad-lines (found (c .before .before .before .before)) (c .before .before .before .before .before .before .before .before .before .before .args .removal .now) (sym (c .before .before .lines-right .ensures) ∙ c .before .if1 .left)))
 
 pub remove-spec : {M : Type 1} → statement M
 remove-spec =
@@ -82,12 +82,12 @@ remove-spec =
     (tie.spec
     named-view-requires
     enum-known-number
-    refuse-requires
+    refuse-at-requires
     enum-known-site
     lines-right-requires
-    refuse-requires-2
+    refuse-requires
     carry-out-requires
-    refuse-requires-3
+    refuse-requires-2
     returns
     returns-2
     same-length

@@ -19,14 +19,14 @@ judge-requires c κs = search needs
 enum-known-number : tie.Need-enum-known-number
 enum-known-number c = search needs
 
-refuse-requires : tie.Need-refuse-requires
-refuse-requires c κs = search needs
+refuse-at-requires : tie.Need-refuse-at-requires
+refuse-at-requires c κs = search needs
 
 enum-known-header : tie.Need-enum-known-header
 enum-known-header c = search needs
 
-refuse-requires-2 : tie.Need-refuse-requires-2
-refuse-requires-2 c κs = search needs
+refuse-requires : tie.Need-refuse-requires
+refuse-requires c κs = search needs
 
 sheet-out-requires : tie.Need-sheet-out-requires
 sheet-out-requires c κs =
@@ -37,11 +37,11 @@ accept-requires c κs = search needs
 
 returns : tie.Need-returns
 returns c =
-    rw (c .refuse .ensures) (refuses (c .before .before .before .before .before .before .before .args .bytes .now) (c .before .before .before .before .before .before .before .args .sheet .now) (subst (λ (r : Verdict). Judges (c .before .before .before .before .before .before .before .args .bytes .now) r) (c .before .before .number .given .1) (c .before .before .before .before .judge .ensures)))
+    rw (c .refuse-at .ensures) (refuses (c .before .before .before .before .before .before .before .args .bytes .now) (c .before .before .before .before .before .before .before .args .sheet .now) (subst (λ (r : Verdict). Judges (c .before .before .before .before .before .before .before .args .bytes .now) r) (c .before .before .number .given .1) (c .before .before .before .before .judge .ensures)))
 
 returns-2 : tie.Need-returns-2
 returns-2 c =
-    rw (c .refuse2 .ensures) (no-room (c .before .before .before .before .before .before .before .before .args .bytes .now) (c .before .before .before .before .before .before .before .before .args .sheet .now) (accepted (c .before .before .before)) (omega (arith, c .before .if1 .taken)))
+    rw (c .refuse .ensures) (no-room (c .before .before .before .before .before .before .before .before .args .bytes .now) (c .before .before .before .before .before .before .before .before .args .sheet .now) (accepted (c .before .before .before)) (omega (arith, c .before .if1 .taken)))
 
 same-length : tie.Need-same-length
 same-length c = search needs
@@ -56,9 +56,9 @@ read-spec =
     (tie.spec
     judge-requires
     enum-known-number
-    refuse-requires
+    refuse-at-requires
     enum-known-header
-    refuse-requires-2
+    refuse-requires
     sheet-out-requires
     accept-requires
     returns

@@ -18,27 +18,27 @@ find-requires c κs = search needs
 enum-known-number : tie.Need-enum-known-number
 enum-known-number c = search needs
 
-refuse-requires : tie.Need-refuse-requires
-refuse-requires c κs = search needs
+refuse-at-requires : tie.Need-refuse-at-requires
+refuse-at-requires c κs = search needs
 
 enum-known-part : tie.Need-enum-known-part
 enum-known-part c = search needs
 
-mul-t8 : tie.Need-mul-t8
-mul-t8 c =
+mul-t9 : tie.Need-mul-t9
+mul-t9 c =
     let h = at (c .before .before) in omega (arith, h .order, h .within, h .short)
 
-cast-t9 : tie.Need-cast-t9
-cast-t9 c =
+cast-t10 : tie.Need-cast-t10
+cast-t10 c =
     let h = at (c .before .before) in omega (arith, h .order, h .within, h .short)
 
-sub-t10 : tie.Need-sub-t10
-sub-t10 c =
+sub-t11 : tie.Need-sub-t11
+sub-t11 c =
     let h = at (c .before .before .before) in omega (arith, h .order, h .within, h .short)
 
 returns : tie.Need-returns
 returns c =
-    rw (c .refuse .ensures) (answer-refused (c .before .before .before .before .before .before .args .view) (c .before .before .before .before .before .before .args .place) (c .before .before .before .before .before .before .args .bytes .now) (subst (λ (r : FoundPayload). PayloadFound (c .before .before .before .before .before .before .args .view) (c .before .before .before .before .before .before .args .place) (c .before .before .before .before .before .before .args .bytes .now) r) (c .before .before .number .given .1) (c .before .before .before .before .find .ensures)))
+    rw (c .refuse-at .ensures) (answer-refused (c .before .before .before .before .before .before .args .view) (c .before .before .before .before .before .before .args .place) (c .before .before .before .before .before .before .args .bytes .now) (subst (λ (r : FoundPayload). PayloadFound (c .before .before .before .before .before .before .args .view) (c .before .before .before .before .before .before .args .place) (c .before .before .before .before .before .before .args .bytes .now) r) (c .before .before .number .given .1) (c .before .before .before .before .find .ensures)))
 
 returns-2 : tie.Need-returns-2
 returns-2 c =
@@ -50,10 +50,10 @@ segment-spec =
     (tie.spec
     find-requires
     enum-known-number
-    refuse-requires
+    refuse-at-requires
     enum-known-part
-    mul-t8
-    cast-t9
-    sub-t10
+    mul-t9
+    cast-t10
+    sub-t11
     returns
     returns-2)

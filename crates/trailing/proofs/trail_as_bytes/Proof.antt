@@ -22,14 +22,14 @@ find-requires c κs = search needs
 enum-known-number : tie.Need-enum-known-number
 enum-known-number c = search needs
 
-refuse-requires : tie.Need-refuse-requires
-refuse-requires c κs = search needs
+refuse-at-requires : tie.Need-refuse-at-requires
+refuse-at-requires c κs = search needs
 
 enum-known-skeleton : tie.Need-enum-known-skeleton
 enum-known-skeleton c = search needs
 
-refuse-requires-2 : tie.Need-refuse-requires-2
-refuse-requires-2 c κs = search needs
+refuse-requires : tie.Need-refuse-requires
+refuse-requires c κs = search needs
 
 sub-trail-bytes : tie.Need-sub-trail-bytes
 sub-trail-bytes c =
@@ -52,11 +52,11 @@ accept-requires c κs = search needs
 
 returns : tie.Need-returns
 returns c =
-    rw (c .refuse .ensures) (answer-refused (joined two) _ (c .before .before .before .before .before .before .before .args .out .now) (subst (λ (r : FoundLine). LineFound (c .before .before .before .before .before .before .before .args .bytes .now) (trailing (c .before .before .before .before .before .before .before .args .view) (c .before .before .before .before .before .before .before .args .line) (c .before .before .before .before .before .before .before .args .bytes .now)) r) (c .before .before .number .given .1) (c .before .before .before .before .find .ensures)))
+    rw (c .refuse-at .ensures) (answer-refused (joined two) _ (c .before .before .before .before .before .before .before .args .out .now) (subst (λ (r : FoundLine). LineFound (c .before .before .before .before .before .before .before .args .bytes .now) (trailing (c .before .before .before .before .before .before .before .args .view) (c .before .before .before .before .before .before .before .args .line) (c .before .before .before .before .before .before .before .args .bytes .now)) r) (c .before .before .number .given .1) (c .before .before .before .before .find .ensures)))
 
 returns-2 : tie.Need-returns-2
 returns-2 c =
-    rw (c .refuse2 .ensures) (full (joined two) 2 (λ n m e. omega arith) twos-length (draws (c .before .before .before .before)) (c .before .before .before .before .before .before .before .before .before .args .out .now) (c .before .if1 .taken))
+    rw (c .refuse .ensures) (full (joined two) 2 (λ n m e. omega arith) twos-length (draws (c .before .before .before .before)) (c .before .before .before .before .before .before .before .before .before .args .out .now) (c .before .if1 .taken))
 
 same-length : tie.Need-same-length
 same-length c = search needs
@@ -71,9 +71,9 @@ trail-as-bytes-spec =
     (tie.spec
     find-requires
     enum-known-number
-    refuse-requires
+    refuse-at-requires
     enum-known-skeleton
-    refuse-requires-2
+    refuse-requires
     sub-trail-bytes
     part-trail-bytes-start
     part-trail-bytes-end

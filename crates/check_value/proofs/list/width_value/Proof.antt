@@ -16,7 +16,7 @@ use Rattle.check_value.proofs.list.width_value.Statement.{statement}
 use Rattle.check_value.proofs.list.width_value.Tie as tie
 
 read-w : (c : tie.After-w) → Reads (ranged badValue 8 1 16 .dec) (c .before .before .before .before .before .args .value .now) 0 (found (c .w .given .0 .0) (c .w .given .0 .1 .0 .at))
-read-w c = at-place (c .before .before .before .start .ensures) (known (ap (rangedAt badValue _) (c .w .given .1)) (c .before .before .ranged-at .ensures badValue))
+read-w c = at-place (c .before .before .before .start .ensures) (known (ap (rangedAt badValue) (c .w .given .1)) (c .before .before .ranged-at .ensures badValue))
 
 start-requires : tie.Need-start-requires
 start-requires c κs = search needs
@@ -33,7 +33,7 @@ enum-known-w c = search needs
 returns : tie.Need-returns
 unfolding widthValue
 returns c =
-    record { left = _; refuses = fails _ (at-place (c .before .before .before .start .ensures) (known (ap (rangedAt badValue _) (c .enum-told .given .1)) (c .before .before .ranged-at .ensures badValue))) }
+    record { left = _; refuses = fails _ (at-place (c .before .before .before .start .ensures) (known (ap (rangedAt badValue) (c .enum-told .given .1)) (c .before .before .ranged-at .ensures badValue))) }
 
 returns-2 : tie.Need-returns-2
 unfolding widthValue

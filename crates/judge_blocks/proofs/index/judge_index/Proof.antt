@@ -11,7 +11,7 @@ use Rattle.bits.specs.Codec.{fieldDec}
 use Rattle.bits.specs.CodecLaws.{ranged}
 use Rattle.bits.specs.Lists.{total}
 use Rattle.bits.specs.Reads.{Reads, found, fault, taken}
-use Rattle.bits.proofs.Laws.Reads.{made, stop, known, own, stays, at-place, ranged-ok, ranged-low, ranged-high}
+use Rattle.bits.proofs.Laws.Reads.{made, stop, known, own, own-ranged, stays, at-place, ranged-ok, ranged-low, ranged-high}
 use Rattle.outcome.specs.Refusals.{badIndex}
 use Rattle.format.specs.Differences.{diff}
 use Rattle.format.specs.Index.{Index, neighbours, index}
@@ -42,7 +42,7 @@ abbrev μ-loop : tie.MeasureT-loop
 
 -- the first byte is the width
 width : (c : tie.After-w Inv-loop2 μ-loop2 Inv-loop μ-loop) → Reads (ranged badIndex 8 1 16 .dec) (c .before .before .before .before .before .before .args .block .now) 0 (found (c .w .given .0 .0) (c .w .given .0 .1 .0 .at))
-width c = at-place (c .before .before .before .start .ensures) (known (ap (rangedAt badIndex _) (c .w .given .1)) (c .before .before .ranged-at .ensures badIndex))
+width c = at-place (c .before .before .before .start .ensures) (known (ap (rangedAt badIndex) (c .w .given .1)) (c .before .before .ranged-at .ensures badIndex))
 
 -- a list at fault is the index at fault
 list-bad : (c : tie.In-loop Inv-loop2 μ-loop2 Inv-loop μ-loop) {x : ℕ} → Reads (neighbours (c .before .before .before .w .given .0 .0) (c .before .loop .l) .dec) (c .before .before .before .before .before .before .before .before .before .args .block .now) (c .before .loop .p .at) (fault badIndex x) → Reads (indexDec (c .before .before .before .before .before .before .before .before .before .args .lines)) (c .before .before .before .before .before .before .before .before .before .args .block .now) 0 (fault badIndex x)
@@ -94,8 +94,7 @@ enum-told c = search needs
 
 returns-2 : tie.Need-returns-2 Inv-loop2 μ-loop2 Inv-loop μ-loop
 returns-2 c =
-    let e = c .before .before .before .start .ensures in
-    width-bad _ _ (omega arith) (known (ap (fault badIndex) e) (at-place e (known (ap (rangedAt badIndex _) (c .enum-told .given .1)) (c .before .before .ranged-at .ensures badIndex))))
+    width-bad _ _ (omega arith) (own-ranged badIndex 8 1 16 (omega arith) (at-place (c .before .before .before .start .ensures) (known (ap (rangedAt badIndex) (c .enum-told .given .1)) (c .before .before .ranged-at .ensures badIndex))))
 
 loop-holds : tie.Need-loop-holds Inv-loop2 μ-loop2 Inv-loop μ-loop
 loop-holds c =
@@ -150,12 +149,10 @@ loop2-less c = search needs
 loop2-again : tie.Need-loop2-again Inv-loop2 μ-loop2 Inv-loop μ-loop
 loop2-again c =
     let m = c .before .before .before .before .before .before .before .loop2 in
-    let d = differs (c .before .before .before) in (
-      omega arith,
-      d .within,
-      diffs-turn _ (c .before .before .before .before .before .before .before .before .before .before .before .before .before .loop .l) (counted (c .before .before .before .before .before .before .before .before .before)) (m .least, m .most) (omega (arith, c .before .before .before .before .before .before .loop2-test .taken)) (m .inv .2)
-          (ranged-ok badIndex _ d (m .least) (m .most) (omega (arith, c .before .if2 .left)) (omega (arith, c .if3 .left))),
-    )
+    let d = differs (c .before .before .before) in
+    (omega arith, d .within,
+     diffs-turn _ (c .before .before .before .before .before .before .before .before .before .before .before .before .before .loop .l) (counted (c .before .before .before .before .before .before .before .before .before)) (m .least, m .most) (omega (arith, c .before .before .before .before .before .before .loop2-test .taken)) (m .inv .2)
+     (ranged-ok badIndex _ d (m .least) (m .most) (omega (arith, c .before .if2 .left)) (omega (arith, c .if3 .left))))
 
 add-size : tie.Need-add-size Inv-loop2 μ-loop2 Inv-loop μ-loop
 add-size c =
@@ -181,12 +178,8 @@ loop-again c =
     let l = c .before .before .before .before .before .before .before .loop in
     let m = c .before .loop2 in
     diffs-done _ (l .l) (counted (c .before .before .before)) (m .least, m .most) (m .inv .1) (omega (arith, c .loop2-test .left)) (m .inv .2)
-    λ ns k h. (
-      omega (arith, c .before .before .before .before .before .before .loop-test .taken),
-      m .inv .1,
-      omega (arith, small (c .before .before .before), l .inv .2),
-      lists-turn (a .lines) (a .block .now) (omega arith) (width (c .before .before .before .before .before .before .before .before .before)) (l .size) _ (omega arith) (omega (arith, c .before .before .before .before .before .before .loop-test .taken)) (l .inv .3) h,
-    )
+    λ ns k h. (omega (arith, c .before .before .before .before .before .before .loop-test .taken), m .inv .1, omega (arith, small (c .before .before .before), l .inv .2),
+     lists-turn (a .lines) (a .block .now) (omega arith) (width (c .before .before .before .before .before .before .before .before .before)) (l .size) _ (omega arith) (omega (arith, c .before .before .before .before .before .before .loop-test .taken)) (l .inv .3) h)
 
 zeros-at-requires : tie.Need-zeros-at-requires Inv-loop2 μ-loop2 Inv-loop μ-loop
 zeros-at-requires c κs =
