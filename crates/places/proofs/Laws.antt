@@ -1,0 +1,6 @@
+-- The laws of places, by topic.
+pub mod Agree
+pub mod Settles
+pub mod Blocks
+pub mod Full
+pub mod Head

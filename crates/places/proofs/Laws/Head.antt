@@ -1,0 +1,103 @@
+-- A fault of a view's header is seen in the bits before it and 16 from its place on: the number's, 0, is held against the position, 8 bits
+-- behind it.
+use mathlib.Core.Path.{_≡_, refl, sym, ap, ap₂, _∙_}
+use Prim.Native.Nat.{ℕ, _+_, _^_, _≤_, _<_}
+use native.Mathlib.Omega.{arith}
+use mathlib.Core.Bool.{Bool, not}
+use mathlib.Core.Option.{Option, none, some}
+use mathlib.Core.List.{_++_}
+use lib.ListN.{length, take}
+use lib.Dec.{T, leb, eqb}
+use lib.Seq.{take-all, take-append-add}
+use Rattle.bits.specs.Choice.{pick}
+use Rattle.bits.specs.ChoiceLaws.{pick-yes, pick-no, pick-split}
+use Rattle.bits.specs.Bits.{Bits, numberOfBits, bitsOfNumber}
+use Rattle.bits.specs.BitsLaws.{length-bits, number-bits}
+use Rattle.bits.specs.Codec.{Codec}
+use Rattle.bits.specs.CodecLaws.{field, then}
+use Rattle.outcome.specs.Refusals.{badView}
+use Rattle.format.specs.Parts.{impressionOk, headFault}
+use Rattle.places.specs.Reach.{reach}
+use Rattle.places.proofs.Laws.Agree.{append-front, append-rest}
+use Rattle.places.proofs.Laws.Full.{Full, field-full, then-full, Seen}
+
+abbrev pub four : ℕ → Codec Bool (ℕ × (ℕ × (ℕ × ℕ)))
+four e = then (field e 8) λ _. then (field e 8) λ _. then (field e 8) λ _. field e 8
+
+pub four-full : (e : ℕ) → Full (four e) 32
+four-full e =
+    then-full (field e 8) _ 8 24 (field-full e 8) λ _.
+    then-full (field e 8) _ 8 16 (field-full e 8) λ _.
+    then-full (field e 8) _ 8 8 (field-full e 8) λ _. field-full e 8
+
+-- numbers of 8 bits whose bits are the same, and what follows them
+first : (x y m : ℕ) (u v : Bits) → x < 2 ^ 8 → y < 2 ^ 8 → take (8 + m) (bitsOfNumber 8 x ++ u) ≡ take (8 + m) (bitsOfNumber 8 y ++ v)
+    → (x ≡ y) × (take m u ≡ take m v)
+first x y m u v f g e =
+    let l : length (bitsOfNumber 8 x) ≡ 8 = length-bits 8 x in
+    let k : length (bitsOfNumber 8 y) ≡ 8 = length-bits 8 y in
+    let a : take (8 + m) (bitsOfNumber 8 x ++ u) ≡ bitsOfNumber 8 x ++ take m u = rw l at (take-append-add (bitsOfNumber 8 x) u m) in
+    let b : take (8 + m) (bitsOfNumber 8 y ++ v) ≡ bitsOfNumber 8 y ++ take m v = rw k at (take-append-add (bitsOfNumber 8 y) v m) in
+    let both : bitsOfNumber 8 x ++ take m u ≡ bitsOfNumber 8 y ++ take m v = sym a ∙ e ∙ b in
+    let same : bitsOfNumber 8 x ≡ bitsOfNumber 8 y = append-front (bitsOfNumber 8 x) (bitsOfNumber 8 y) (take m u) (take m v) (l ∙ sym k) both in
+    (sym (number-bits 8 x f) ∙ ap numberOfBits same ∙ number-bits 8 y g, append-rest (bitsOfNumber 8 x) (bitsOfNumber 8 y) (take m u) (take m v) (l ∙ sym k) both)
+
+module _ (earlier : ℕ → ℕ) where
+  -- where the fault is
+  data Fault (n p i q : ℕ) : ℕ → Type 0 where
+    number : T (not (eqb n (earlier p))) → Fault n p i q 0
+    position : T (eqb n (earlier p)) → T (not (leb p 10)) → Fault n p i q 8
+    impression : T (eqb n (earlier p)) → T (leb p 10) → T (not (impressionOk i)) → Fault n p i q 16
+    quality : T (eqb n (earlier p)) → T (leb p 10) → T (impressionOk i) → T (not (leb q 100)) → Fault n p i q 24
+
+  fault-of : (n p i q d : ℕ) → headFault earlier (n, (p, (i, q))) ≡ some d → Fault n p i q d
+  fault-of n p i q d e =
+      pick-split (eqb n (earlier p)) _ _ e
+      (λ a e1. pick-split (leb p 10) _ _ e1
+      (λ b e2. pick-split (impressionOk i) _ _ e2
+      (λ c e3. pick-split (leb q 100) _ _ e3
+      (λ f e4. let z : _≡_ {A = ℕ} 0 1 = cc in absurd (omega arith))
+      (λ f e4. let z : 24 ≡ d = cc in rw (← z) (quality a b c f)))
+      (λ c e3. let z : 16 ≡ d = cc in rw (← z) (impression a b c)))
+      (λ b e2. let z : 8 ≡ d = cc in rw (← z) (position a b)))
+      (λ a e1. let z : 0 ≡ d = cc in rw (← z) (number a))
+
+  fault-is : {n p i q d : ℕ} → Fault n p i q d → headFault earlier (n, (p, (i, q))) ≡ some d
+  fault-is {n} {p} {i} {q} (number a) = pick-no (eqb n (earlier p)) _ _ a
+  fault-is {n} {p} {i} {q} (position a b) = pick-yes (eqb n (earlier p)) _ _ a ∙ pick-no (leb p 10) _ _ b
+  fault-is {n} {p} {i} {q} (impression a b c) = pick-yes (eqb n (earlier p)) _ _ a ∙ pick-yes (leb p 10) _ _ b ∙ pick-no (impressionOk i) _ _ c
+  fault-is {n} {p} {i} {q} (quality a b c f) =
+      pick-yes (eqb n (earlier p)) _ _ a ∙ pick-yes (leb p 10) _ _ b ∙ pick-yes (impressionOk i) _ _ c ∙ pick-no (leb q 100) _ _ f
+
+  fault-near : {n p i q d : ℕ} → Fault n p i q d → d ≤ 32
+  fault-near (number a) = omega arith
+  fault-near (position a b) = omega arith
+  fault-near (impression a b c) = omega arith
+  fault-near (quality a b c f) = omega arith
+
+  -- number and position are seen; i, q and those of the other header, as far as d bits show them
+  fault-also : {n p i q d : ℕ} (j k : ℕ) → i < 2 ^ 8 → q < 2 ^ 8 → j < 2 ^ 8 → k < 2 ^ 8 → Fault n p i q d
+      → take d (bitsOfNumber 8 i ++ bitsOfNumber 8 q) ≡ take d (bitsOfNumber 8 j ++ bitsOfNumber 8 k) → Fault n p j k d
+  fault-also j k fi fq fj fk (number a) e = number a
+  fault-also j k fi fq fj fk (position a b) e = position a b
+  fault-also {i = i} {q = q} j k fi fq fj fk (impression a b c) e =
+      let x : i ≡ j = first i j 8 (bitsOfNumber 8 q) (bitsOfNumber 8 k) fi fj e .0 in
+      impression a b (rw x at c)
+  fault-also {i = i} {q = q} j k fi fq fj fk (quality a b c f) e =
+      let (x, y) = first i j 16 (bitsOfNumber 8 q) (bitsOfNumber 8 k) fi fj e in
+      let u : bitsOfNumber 8 q ≡ bitsOfNumber 8 k =
+          sym (take-all 16 (bitsOfNumber 8 q) (omega (arith, length-bits 8 q))) ∙ y ∙ take-all 16 (bitsOfNumber 8 k) (omega (arith, length-bits 8 k)) in
+      let z : q ≡ k = sym (number-bits 8 q fq) ∙ ap numberOfBits u ∙ number-bits 8 k fk in
+      quality a b (rw x at c) (rw z at f)
+
+  pub head-seen : Seen (four badView) badView 32 (headFault earlier)
+  unfolding reach
+  head-seen = record { near = λ a d e. fault-near (fault-of (a .0) (a .1 .0) (a .1 .1 .0) (a .1 .1 .1) d e); also = go }
+    where
+      go : (a b : ℕ × (ℕ × (ℕ × ℕ))) (d : ℕ) → four badView .Fits a → four badView .Fits b → headFault earlier a ≡ some d
+          → take (d + reach badView) (four badView .enc a) ≡ take (d + reach badView) (four badView .enc b) → headFault earlier b ≡ some d
+      go (n, (p, (i, q))) (m, (o, (j, k))) d (fn, (fp, (fi, fq))) (fm, (fo, (fj, fk))) e same =
+          let z : d + reach badView ≡ 8 + (8 + d) = omega arith in
+          let (x, s) = first n m (8 + d) _ _ fn fm (rw z at same) in
+          let (y, r) = first p o d _ _ fp fo s in
+          rw (← x, ← y) (fault-is (fault-also j k fi fq fj fk (fault-of n p i q d e) r))
