@@ -4,3 +4,5 @@ pub mod Settles
 pub mod Blocks
 pub mod Full
 pub mod Head
+pub mod Format
+pub mod Place
