@@ -4,7 +4,7 @@ use Prim.Native.Nat.{ℕ, zero, suc, _+_, _-_, _≤_}
 use native.Mathlib.Omega.{arith}
 use mathlib.Core.List.{List, [], _∷_, _++_}
 use lib.ListN.{length, take, drop, length-append, take-append-drop}
-use lib.Seq.{take-nil, take-at, drop-at, take-take, take-add, take-append-add, length-take-le}
+use lib.Seq.{take-nil, take-at, drop-at, take-add, take-append-add, length-take-le}
 
 module _ {A : Type 0} where
   -- fronts that are as long are equal, and so is what follows
@@ -30,7 +30,7 @@ module _ {A : Type 0} where
       let front : length (take k t) ≡ k = length-take-le k t (omega arith) in
       let both : p ++ take m r ≡ take k t ++ take m (drop k t) = sym (take-append-add p r m) ∙ rw z at e ∙ take-add k m t in
       let is : t ≡ p ++ drop k t =
-          sym (take-append-drop k t) ∙ ap (λ (x : List A). x ++ drop k t) (sym (append-front p (take k t) _ _ (sym front) both)) in
+      sym (take-append-drop k t) ∙ ap (λ (x : List A). x ++ drop k t) (sym (append-front p (take k t) _ _ (sym front) both)) in
       record {
         rest = drop k t;
         is = is;

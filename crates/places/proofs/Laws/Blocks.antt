@@ -1,32 +1,33 @@
--- What a refusal goes by, for each kind of block: as in Settles. Where an index block ends, its leftover bits are refused at the first that is
+-- What a refusal goes by, for each kind of block; as in Settles. The leftover bits of an index block are refused at the first that is
 -- 1, or else at the eighth; so a list that agrees only up to there may be refused at a later place.
 use mathlib.Core.Path.{_≡_, refl, sym, ap, _∙_}
 use Prim.Native.Nat.{ℕ, zero, suc, _+_, _-_, _*_, _≤_, _<_}
 use native.Mathlib.Omega.{arith}
 use native.Mathlib.Nat.{le-refl}
 use mathlib.Core.Bool.{Bool, true, false}
-use mathlib.Core.Option.{Option, none, some}
-use mathlib.Core.List.{List, [], _∷_, _++_}
+use mathlib.Core.Option.{some}
+use mathlib.Core.List.{[], _∷_}
 use lib.ListN.{length, take, drop, length-append, take-append-drop}
-use lib.Dec.{T, leb, leb→le}
+use lib.Dec.{leb, leb→le, lit≤}
 use lib.Seq.{length-take-le, take-take}
-use mir.Facts.{ltb-yes}
 use Rattle.bits.specs.Choice.{pick}
 use Rattle.bits.specs.ChoiceLaws.{pick-no, T-true, T-false, split}
 use Rattle.bits.specs.Bits.{Bits}
 use Rattle.bits.specs.Codec.{Read, got, refused, next, Codec}
 use Rattle.bits.specs.CodecLaws.{not-got}
-use Rattle.bits.specs.Block.{Block, few, zerosDec, lastBits, manyDec, endDec, endedDec, maybeDec, fillDec, inside, sizedDec}
+use Rattle.bits.specs.Block.{Block, few, zerosDec, manyDec, endDec, endedDec, maybeDec, fillDec, inside, sizedDec}
 use Rattle.bits.specs.BlockLaws.{few-yes, few-no, fill-more}
-use Rattle.bits.proofs.Laws.Refuses.{Refusal, accepted, by, refusal-map, next-refusal}
+use Rattle.bits.proofs.Laws.Refuses.{Refusal, accepted, by, refusal-map}
 use Rattle.outcome.specs.Refusals.{badIndex}
 use Rattle.places.specs.Reach.{reach, RefusedAlike}
-use Rattle.places.proofs.Laws.Agree.{Shares, shares, take-both}
-use Rattle.places.proofs.Laws.Settles.{Settled, Settles, same-alike, path-alike, settled-as, settled-next, next-settles, map-settles, fork-at, fork-settles, short-settles}
+use Rattle.places.proofs.Laws.Agree.{shares, take-both}
+use Rattle.places.proofs.Laws.Settles.{Settled, Settles, same-alike, path-alike, settled-as}
+use Rattle.places.proofs.Laws.Settles.{next-at, next-settles, map-settles, fork-at, fork-settles, short-settles}
+use Rattle.places.proofs.Laws.Settles.{field-settles, then-settles, times-settles, along-settles, via-settles, room-settles, number-settles}
 
 -- ---- zero bits up to the end
 
-module _ (e : ℕ) (far : 1 ≤ reach e) where
+module _ (e : ℕ) (near : 1 ≤ reach e) where
   pub zeros-settles : Settles (zerosDec e)
   zeros-settles = record { at = go }
     where
@@ -51,17 +52,18 @@ module _ (e : ℕ) (far : 1 ≤ reach e) where
 
 module _ {A : Type 0} (c : Codec Bool A) (bad over : ℕ) where
   pub many-settles : (n : ℕ) → 1 ≤ reach bad → Settles (c .dec) → Settles (manyDec c bad over n)
-  many-settles zero far h = fork-settles few (map-settles _ (zeros-settles bad far)) (short-settles over)
-  many-settles (suc n) far h = fork-settles few (map-settles _ (zeros-settles bad far)) (next-settles c h λ x _. map-settles _ (many-settles n far h))
+  many-settles zero near h = fork-settles few (map-settles _ (zeros-settles bad near)) (short-settles over)
+  many-settles (suc n) near h = fork-settles few (map-settles _ (zeros-settles bad near)) (next-settles c h λ x _. map-settles _ (many-settles n near h))
 
 -- ---- ended
 
--- a list that begins with m zero bits is refused behind them
-zeros-late : (e m : ℕ) (s t : Bits) {f l : ℕ} {u : Unit {0}} {r : Bits} → zerosDec e s ≡ got u r → length s ≡ length t → take m s ≡ take m t → m ≤ length s
-    → zerosDec e t ≡ refused f l → (e ≡ f) × (l + m ≤ length t)
+-- a list that begins as a list of zeros does, with m of them, is refused behind these
+zeros-late : (e m : ℕ) (s t : Bits) {f l : ℕ} {u : Unit {0}} {r : Bits} → zerosDec e s ≡ got u r → length s ≡ length t → take m s ≡ take m t
+    → m ≤ length s → zerosDec e t ≡ refused f l → (e ≡ f) × (l + m ≤ length t)
 zeros-late e zero s [] p k same h q = absurd (not-got (sym q))
 zeros-late e zero [] (false ∷ t) p k same h q = absurd (omega arith)
-zeros-late e zero (false ∷ s) (false ∷ t) p k same h q = let (a, b) = zeros-late e zero s t p (omega arith) refl (omega arith) q in (a, omega arith)
+zeros-late e zero (false ∷ s) (false ∷ t) p k same h q =
+    let (a, b) = zeros-late e zero s t p (omega arith) refl (omega arith) q in (a, omega arith)
 zeros-late e zero (true ∷ s) (false ∷ t) p k same h q = not-got p
 zeros-late e zero s (true ∷ t) {l = l} p k same h q = let y : suc (length t) ≡ l = cc in (cc, omega arith)
 zeros-late e (suc m) [] t p k same h q = absurd (omega arith)
@@ -71,34 +73,34 @@ zeros-late e (suc m) (false ∷ s) (false ∷ t) p k same h q =
     let (a, b) = zeros-late e m s t p (omega arith) (cc) (omega arith) q in (a, omega arith)
 zeros-late e (suc m) (false ∷ s) (true ∷ t) p k same h q = let z : _≡_ {A = ℕ} 0 1 = cc in absurd (omega arith)
 
-module _ {A : Type 0} (c : Codec Bool A) where
-  end-settles : 1 ≤ reach badIndex → (a : A) → Settles (endDec c badIndex a)
-  end-settles far a = record { at = λ s. next-refusal (refusal-map (settled-next (λ z _ _. pick (few (length z)) (got a []) (refused badIndex (length z - 7)))) (zeros-settles badIndex far .at s)) (go s) }
-    where
-      go : (s : Bits) (u : Unit {0}) (r : Bits) → zerosDec badIndex s ≡ got u r
-          → Refusal {S = Bool} {A = A} (Settled (endDec c badIndex a) s) (pick (few (length s)) (got a []) (refused badIndex (length s - 7)))
-      go s u r p =
-          let Q : ℕ → ℕ → Type 0 = Settled (endDec c badIndex a) s in
-          split 8 (length s)
-          (λ long. rw (T-false (few (length s)) (few-no (length s) long)) (by {l = length s - 7} (record {
-            inside = omega arith;
-            alike = λ t n k same z. behind s u r p long t n k same z (zerosDec badIndex t) refl;
-          })))
-          (λ little. rw (T-true (few (length s)) (few-yes (length s) little)) accepted)
-        where
-          behind : (s : Bits) (u : Unit {0}) (r : Bits) → zerosDec badIndex s ≡ got u r → 8 ≤ length s → (t : Bits) (n : ℕ) → length s ≡ length t → take n s ≡ take n t
-              → length s + reach badIndex ≤ n + (length s - 7) → (o : Read Bool (Unit {0})) → zerosDec badIndex t ≡ o
-              → RefusedAlike badIndex (length s - 7) (endDec c badIndex a t)
-          behind s u r p long t n k same z (got v q) y =
-              same-alike (rw y (pick-no (few (length t)) _ _ (few-no (length t) (omega arith))) ∙ ap (λ (m : ℕ). refused badIndex (m - 7)) (sym k))
-          behind s u r p long t n k same z (refused f l) y =
-              let seven : take 7 s ≡ take 7 t = sym (take-take 7 n s (omega arith)) ∙ ap (take 7) same ∙ take-take 7 n t (omega arith) in
-              let (g, m) = zeros-late badIndex 7 s t p k seven (omega arith) y in
-              record { rest = l; is = rw (y, ← g); later = omega arith; same = λ no. absurd (no refl) }
+module _ {A : Type 0} (c : Codec Bool A) (a : A) where
+  abbrev over : Bits → Unit {0} → Bits → Read Bool A
+  over s _ _ = pick (few (length s)) (got a []) (refused badIndex (length s - 7))
 
-  pub ended-settles : 1 ≤ reach badIndex → Settles (c .dec) → Settles (endedDec c badIndex)
-  unfolding endedDec
-  ended-settles far h = next-settles c h λ a _. end-settles far a
+  -- s is zeros, eight or more; t begins as s does, up to its eighth bit
+  over-alike : (s t : Bits) {u : Unit {0}} {r : Bits} → zerosDec badIndex s ≡ got u r → 8 ≤ length s → length s ≡ length t → take 7 s ≡ take 7 t
+      → (o : Read Bool (Unit {0})) → zerosDec badIndex t ≡ o → RefusedAlike badIndex (length s - 7) (endDec c badIndex a t)
+  over-alike s t p long k same (got v q) y =
+      same-alike (rw y (pick-no (few (length t)) _ _ (few-no (length t) (omega arith))) ∙ ap (λ (m : ℕ). refused badIndex (m - 7)) (sym k))
+  over-alike s t p long k same (refused f l) y =
+      let (g, m) = zeros-late badIndex 7 s t p k same (omega arith) y in
+      record { rest = l; is = rw (y, ← g); later = omega arith; same = λ no. absurd (no refl) }
+
+  over-at : (s : Bits) (u : Unit {0}) (r : Bits) → zerosDec badIndex s ≡ got u r → Refusal (Settled (endDec c badIndex a) s) (over s u r)
+  over-at s u r p =
+      split 8 (length s)
+      (λ long. rw (T-false (few (length s)) (few-no (length s) long)) (by {e = badIndex} {l = length s - 7} (record {
+        inside = omega arith;
+        alike = λ t n k same far.
+            let seven : take 7 s ≡ take 7 t = sym (take-take 7 n s (omega arith)) ∙ ap (take 7) same ∙ take-take 7 n t (omega arith) in
+            over-alike s t p long k seven (zerosDec badIndex t) refl;
+      })))
+      (λ little. rw (T-true (few (length s)) (few-yes (length s) little)) accepted)
+
+pub ended-settles : {A : Type 0} (c : Codec Bool A) → 1 ≤ reach badIndex → Settles (c .dec) → Settles (endedDec c badIndex)
+unfolding endedDec
+ended-settles c near h =
+    next-settles c h λ a _. record { at = λ s. next-at (over c a) s (zeros-settles badIndex near .at s) (over-at c a s) }
 
 -- ---- maybe and fill
 
@@ -108,6 +110,7 @@ maybe-settles {A} w h = record { at = go }
     some-bits : (t : Bits) → 0 < length t → maybeDec w t ≡ next (w .dec t) (λ a r. got (some a) r)
     some-bits [] l = absurd (omega arith)
     some-bits (b ∷ t) l = refl
+
     go : (s : Bits) → Refusal (Settled (maybeDec w) s) (maybeDec w s)
     go [] = accepted
     go (b ∷ s) = refusal-map (λ e l q. settled-as (λ t k. some-bits t (omega arith)) q) (map-settles some h .at (b ∷ s))
@@ -132,7 +135,8 @@ fill-settles c e h =
 
 -- ---- sized
 
-inside-at : {A : Type 0} {P Q : ℕ → ℕ → Type 0} {o : Read Bool A} (q : Bits) → ((e l : ℕ) → P e l → Q e (l + length q)) → Refusal P o → Refusal Q (inside q o)
+inside-at : {A : Type 0} {P Q : ℕ → ℕ → Type 0} {o : Read Bool A} (q : Bits) → ((e l : ℕ) → P e l → Q e (l + length q)) → Refusal P o
+    → Refusal Q (inside q o)
 inside-at q f accepted = accepted
 inside-at q f (by {e = e} {l = l} h) = by {l = l + length q} (f e l h)
 
@@ -167,4 +171,20 @@ sized-settles w e n h =
 
 -- ---- all of them
 
-pub ruleset settling-blocks = (many-settles, ended-settles, maybe-settles, fill-settles, sized-settles)
+-- lit≤ and tt prove that a number is within reach, where that computes
+pub ruleset settling = (
+  field-settles,
+  then-settles,
+  times-settles,
+  along-settles,
+  via-settles,
+  room-settles,
+  number-settles,
+  many-settles,
+  ended-settles,
+  maybe-settles,
+  fill-settles,
+  sized-settles,
+  lit≤,
+  tt,
+)

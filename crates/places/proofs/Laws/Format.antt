@@ -1,20 +1,17 @@
--- What a refusal of a record goes by. The kit's laws give this of each format from its parts; the header's widths say how far a line's count
--- may stand behind its first bit.
-use mathlib.Core.Path.{_≡_, refl, sym, ap, _∙_}
-use Prim.Native.Nat.{ℕ, suc, _+_, _-_, _*_, _≤_}
+-- What a refusal of a record goes by. The kit's laws give this of each format from its parts; the header's widths say how far behind
+-- a line's first bit its count may stand.
+use Prim.Native.Nat.{ℕ, _+_, _-_, _*_, _≤_}
 use native.Mathlib.Omega.{arith}
-use native.Mathlib.Nat.{le-refl}
-use mathlib.Core.List.{List, [], _∷_}
-use lib.ListN.{length}
+use mathlib.Core.List.{List, []}
 use lib.Dec.{leb}
 use Rattle.bits.specs.ChoiceLaws.{within-high}
 use Rattle.bits.specs.BitsLaws.{length-bits}
 use Rattle.bits.specs.Codec.{judgedDec}
 use Rattle.bits.specs.CodecLaws.{field, then, along, counted, counted-matches, times, only, ranged}
-use Rattle.bits.proofs.Laws.Refuses.{Refuses, refusing}
+use Rattle.bits.proofs.Laws.Refuses.{refusing}
 use Rattle.outcome.specs.Refusals.{badHeader, badView, badLine, badIndex, badSegment}
 use Rattle.format.specs.Parts.{FitsLine, endNumbers, makeEnd, numbersOfEnd, makeLine, partsOfLine, up, headFault}
-use Rattle.format.specs.PartsLaws.{end-matches, line-matches}
+use Rattle.format.specs.PartsLaws.{line-matches}
 use Rattle.format.specs.Line.{end, line, skeleton}
 use Rattle.format.specs.Index.{neighbours, index, indexBlock}
 use Rattle.format.specs.Segments.{measured, segment, segments}
@@ -22,9 +19,10 @@ use Rattle.format.specs.View.{viewHeader, view}
 use Rattle.format.specs.Record.{scale, header, tellSeen, views, recordOf}
 use Rattle.format.specs.declared.Widths.{Widths}
 use Rattle.places.specs.Reach.{reach}
-use Rattle.places.proofs.Laws.Settles.{Settles, then-settles, along-settles, via-settles, settling}
-use Rattle.places.proofs.Laws.Blocks.{settling-blocks}
-use Rattle.places.proofs.Laws.Full.{Full, Shaped, field-full, then-full, times-full, via-full, full-shaped, head-shaped, tail-shaped, via-shaped, whole-settles, judged-settles}
+use Rattle.places.proofs.Laws.Settles.{Settles, then-settles, along-settles, via-settles}
+use Rattle.places.proofs.Laws.Blocks.{settling}
+use Rattle.places.proofs.Laws.Full.{Full, field-full, then-full, times-full, via-full, whole-settles, judged-settles}
+use Rattle.places.proofs.Laws.Full.{Shaped, full-shaped, head-shaped, tail-shaped, via-shaped}
 use Rattle.places.proofs.Laws.Head.{four, four-full, head-seen}
 
 -- ---- lines
@@ -58,7 +56,7 @@ line-settles w b c =
 
 skeleton-settles : (w : Widths) → w .b ≤ 8 → w .c ≤ 16 → Settles (skeleton w .dec)
 unfolding skeleton reach
-skeleton-settles w b c = search (settling, settling-blocks, line-settles)
+skeleton-settles w b c = search (settling, line-settles)
 
 -- ---- the index
 
@@ -74,7 +72,7 @@ index-settles n =
 
 indexBlock-settles : (n : ℕ) → Settles (indexBlock n .dec)
 unfolding indexBlock reach
-indexBlock-settles n = search (settling, settling-blocks, index-settles)
+indexBlock-settles n = search (settling, index-settles)
 
 -- ---- segments
 
@@ -92,7 +90,7 @@ segment-settles = search (settling, measured-settles) depth 12
 
 segments-settles : Settles (segments .dec)
 unfolding segments
-segments-settles = search (settling-blocks, segment-settles)
+segments-settles = search (settling, segment-settles)
 
 -- ---- a view
 
@@ -106,7 +104,7 @@ viewHeader-settles earlier = search (settling, four-settles) depth 12
 view-settles : (w : Widths) (seen : List ℕ) → w .b ≤ 8 → w .c ≤ 16 → Settles (view w seen .dec)
 unfolding view
 view-settles w seen b c =
-    search (settling, settling-blocks, viewHeader-settles, skeleton-settles, indexBlock-settles, segments-settles) depth 12
+    search (settling, viewHeader-settles, skeleton-settles, indexBlock-settles, segments-settles) depth 12
 
 -- ---- the record
 

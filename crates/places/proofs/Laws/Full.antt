@@ -1,7 +1,7 @@
--- Codecs of which every run of so many bits writes a value. With them a part is settled that is refused as a whole: whether it is there goes by
--- a count at its start and by how many bits follow.
+-- Codecs of which every run of so many bits writes a value. With them a part is settled that is refused as a whole: whether it is
+-- there goes by a count at its start, and by how many bits follow.
 use mathlib.Core.Path.{_≡_, refl, sym, ap, ap₂, _∙_}
-use Prim.Native.Nat.{ℕ, zero, suc, _+_, _-_, _*_, _≤_, _<_}
+use Prim.Native.Nat.{ℕ, zero, suc, _+_, _-_, _*_, _≤_}
 use native.Mathlib.Omega.{arith}
 use native.Mathlib.Nat.{le-refl, zero-mul, suc-mul}
 use mathlib.Core.Bool.{Bool}
@@ -14,10 +14,10 @@ use Rattle.bits.specs.Bits.{Bits, numberOfBits}
 use Rattle.bits.specs.BitsLaws.{length-bits, number-lt, bits-number}
 use Rattle.bits.specs.Codec.{Read, got, refused, next, Codec, sound, judgedDec, atStart, wholeDec}
 use Rattle.bits.specs.CodecLaws.{not-got, Matches, encAll, field, then, times, via}
-use Rattle.bits.proofs.Laws.Refuses.{Refusal, accepted, by, Refuses, refused-by, refusal-map, next-refusal}
-use Rattle.places.specs.Reach.{reach, RefusedAlike}
-use Rattle.places.proofs.Laws.Agree.{Shares, shares, take-both}
-use Rattle.places.proofs.Laws.Settles.{Settled, Settles, same-alike, settled-next}
+use Rattle.bits.proofs.Laws.Refuses.{Refusal, accepted, by, Refuses, refused-by}
+use Rattle.places.specs.Reach.{reach}
+use Rattle.places.proofs.Laws.Agree.{shares, take-both}
+use Rattle.places.proofs.Laws.Settles.{Settled, Settles, same-alike, next-at}
 
 -- ---- every run of k bits is a value
 
@@ -58,6 +58,7 @@ times-full {A} c k n f = record { size = λ xs h. rw (← h .0) (long xs (h .1))
         let z : suc (length xs) * k ≡ length xs * k + k = suc-mul (length xs) k in
         let y : length (c .enc x ++ encAll c xs) ≡ length (c .enc x) + length (encAll c xs) = length-append (c .enc x) (encAll c xs) in
         omega (arith, f .size x (h .0), long xs (h .1))
+
     go : (m : ℕ) (p : Bits) → length p ≡ m * k → Writes (times c m) p
     go zero [] l = record { value = []; fits = (refl, tt); is = refl }
     go zero (b ∷ p) l = let z : 0 * k ≡ 0 = zero-mul k in absurd (omega arith)
@@ -120,7 +121,7 @@ head-shaped c d k j size g =
       also = λ a r s fits l same.
           let z : length (c .enc (a .0)) ≡ k = size (a .0) (fits .0) in
           let y : c .enc (a .0) ++ d (a .0) .enc (a .1) ++ r ≡ c .enc (a .0) ++ (d (a .0) .enc (a .1) ++ r) =
-              append-assoc (c .enc (a .0)) (d (a .0) .enc (a .1)) r in
+          append-assoc (c .enc (a .0)) (d (a .0) .enc (a .1)) r in
           let x = shares (c .enc (a .0)) (d (a .0) .enc (a .1) ++ r) s (k + j) (omega arith) (rw y at l) (rw y at same) in
           let n : k + j - length (c .enc (a .0)) ≡ j = omega arith in
           let u = g (a .0) .also (a .1) r (x .rest) (fits .1) (x .long) (rw n at (x .same)) in
@@ -139,13 +140,13 @@ tail-shaped c d j k h g =
     record {
       also = λ a r s fits l same.
           let y : c .enc (a .0) ++ d (a .0) .enc (a .1) ++ r ≡ c .enc (a .0) ++ (d (a .0) .enc (a .1) ++ r) =
-              append-assoc (c .enc (a .0)) (d (a .0) .enc (a .1)) r in
+          append-assoc (c .enc (a .0)) (d (a .0) .enc (a .1)) r in
           let x = h .also (a .0) (d (a .0) .enc (a .1) ++ r) s (fits .0) (rw y at l) (rw y at same) in
           let z : length (x .rest) ≡ k + length r =
-              sym (x .long) ∙ length-append (d (a .0) .enc (a .1)) r ∙ ap (λ (n : ℕ). n + length r) (g (a .0) .size (a .1) (fits .1)) in
+          sym (x .long) ∙ length-append (d (a .0) .enc (a .1)) r ∙ ap (λ (n : ℕ). n + length r) (g (a .0) .size (a .1) (fits .1)) in
           let u = g (x .value) .every (take k (x .rest)) (length-take-le k (x .rest) (omega arith)) in
           let v : x .rest ≡ d (x .value) .enc (u .value) ++ drop k (x .rest) =
-              sym (take-append-drop k (x .rest)) ∙ ap (λ (p : Bits). p ++ drop k (x .rest)) (sym (u .is)) in
+          sym (take-append-drop k (x .rest)) ∙ ap (λ (p : Bits). p ++ drop k (x .rest)) (sym (u .is)) in
           record {
             value = (x .value, u .value);
             rest = drop k (x .rest);
@@ -183,6 +184,7 @@ whole-settles {A} c e j near h k = record { at = λ s. go s (c .dec s) refl }
         let (fits, is) = c .back t a r q in
         let x = k .also a r s fits (sym (len ∙ ap length is)) (sym (same ∙ ap (take j) is)) in
         not-got (sym p ∙ ap (c .dec) (x .is) ∙ c .there (x .value) (x .rest) (x .fits))
+
     go : (s : Bits) (o : Read Bool A) → c .dec s ≡ o → Refusal (Settled (λ t. atStart (length t) (c .dec t)) s) (atStart (length s) o)
     go s (got a r) p = accepted
     go s (refused f l) p =
@@ -202,33 +204,35 @@ pub record Seen {A : Type 0} (c : Codec Bool A) (e k : ℕ) (t : A → Option �
   pub near : (a : A) (d : ℕ) → t a ≡ some d → d ≤ k
   pub also : (a b : A) (d : ℕ) → c .Fits a → c .Fits b → t a ≡ some d → take (d + reach e) (c .enc a) ≡ take (d + reach e) (c .enc b) → t b ≡ some d
 
-pub judged-settles : {A : Type 0} (c : Codec Bool A) (e : ℕ) (t : A → Option ℕ) (k : ℕ) → Full c k → Seen c e k t → Settles (c .dec) → Settles (judgedDec c e t)
-unfolding judgedDec
-judged-settles {A} c e t k full seen h =
-    record {
-      at = λ s. next-refusal (refusal-map (settled-next (λ z b q. sound (t b) (λ d. refused e (length z - d)) (got b q))) (h .at s)) λ a r p.
-          go s a r p (t a) refl;
-    }
-  where
-    go : (s : Bits) (a : A) (r : Bits) → c .dec s ≡ got a r → (o : Option ℕ) → t a ≡ o
-        → Refusal (Settled (λ z. next (c .dec z) (λ b q. sound (t b) (λ d. refused e (length z - d)) (got b q))) s) (sound o (λ d. refused e (length s - d)) (got a r))
-    go s a r p none y = accepted
-    go s a r p (some d) y =
-        let (fits, is) = c .back s a r p in
-        let near : d ≤ k = seen .near a d y in
-        let size : length (c .enc a) ≡ k = full .size a fits in
-        let all : length s ≡ length (c .enc a) + length r = ap length is ∙ length-append (c .enc a) r in
-        by {e = e} {l = length s - d} (record {
-          inside = omega arith;
-          alike = λ z n len same far.
-              let j : ℕ = d + reach e in
-              let x = full .every (take k z) (length-take-le k z (omega arith)) in
-              let front : c .enc a ≡ take k s = sym (take-at (c .enc a) r k size) ∙ ap (take k) (sym is) in
-              let agree : take j s ≡ take j z = sym (take-take j n s (omega arith)) ∙ ap (take j) same ∙ take-take j n z (omega arith) in
-              let both : take j (c .enc a) ≡ take j (c .enc (x .value)) =
-                  ap (take j) front ∙ take-both j k s ∙ ap (take k) agree ∙ take-both k j z ∙ ap (take j) (sym (x .is)) in
-              let fault : t (x .value) ≡ some d = seen .also a (x .value) d fits (x .fits) y both in
-              let there : c .dec z ≡ got (x .value) (drop k z) =
-                  ap (c .dec) (sym (take-append-drop k z) ∙ ap (λ (q : Bits). q ++ drop k z) (sym (x .is))) ∙ c .there (x .value) (drop k z) (x .fits) in
-              same-alike (rw (there, fault) (ap (λ (m : ℕ). refused e (m - d)) (sym len)));
-        })
+module _ {A : Type 0} (c : Codec Bool A) (e : ℕ) (t : A → Option ℕ) where
+  abbrev rightOr : Bits → Option ℕ → A → Bits → Read Bool A
+  rightOr s o a r = sound o (λ d. refused e (length s - d)) (got a r)
+
+  judged-at : (k : ℕ) → Full c k → Seen c e k t → (s : Bits) (a : A) (r : Bits) → c .dec s ≡ got a r → (o : Option ℕ) → t a ≡ o
+      → Refusal (Settled (λ z. next (c .dec z) (λ b q. rightOr z (t b) b q)) s) (rightOr s o a r)
+  judged-at k full seen s a r p none y = accepted
+  judged-at k full seen s a r p (some d) y =
+      let (fits, is) = c .back s a r p in
+      let near : d ≤ k = seen .near a d y in
+      let size : length (c .enc a) ≡ k = full .size a fits in
+      let all : length s ≡ length (c .enc a) + length r = ap length is ∙ length-append (c .enc a) r in
+      by {e = e} {l = length s - d} (record {
+        inside = omega arith;
+        alike = λ z n len same far.
+            let j : ℕ = d + reach e in
+            let x = full .every (take k z) (length-take-le k z (omega arith)) in
+            let front : c .enc a ≡ take k s = sym (take-at (c .enc a) r k size) ∙ ap (take k) (sym is) in
+            let agree : take j s ≡ take j z = sym (take-take j n s (omega arith)) ∙ ap (take j) same ∙ take-take j n z (omega arith) in
+            let both : take j (c .enc a) ≡ take j (c .enc (x .value)) =
+            ap (take j) front ∙ take-both j k s ∙ ap (take k) agree ∙ take-both k j z ∙ ap (take j) (sym (x .is)) in
+            let fault : t (x .value) ≡ some d = seen .also a (x .value) d fits (x .fits) y both in
+            let there : c .dec z ≡ got (x .value) (drop k z) =
+            ap (c .dec) (sym (take-append-drop k z) ∙ ap (λ (q : Bits). q ++ drop k z) (sym (x .is)))
+            ∙ c .there (x .value) (drop k z) (x .fits) in
+            same-alike (rw (there, fault) (ap (λ (m : ℕ). refused e (m - d)) (sym len)));
+      })
+
+  pub judged-settles : (k : ℕ) → Full c k → Seen c e k t → Settles (c .dec) → Settles (judgedDec c e t)
+  unfolding judgedDec
+  judged-settles k full seen h =
+      record { at = λ s. next-at (λ z b q. rightOr z (t b) b q) s (h .at s) λ a r p. judged-at k full seen s a r p (t a) refl }

@@ -1,15 +1,14 @@
--- A fault of a view's header is seen in the bits before it and 16 from its place on: the number's, 0, is held against the position, 8 bits
--- behind it.
-use mathlib.Core.Path.{_≡_, refl, sym, ap, ap₂, _∙_}
+-- A fault of a view's header is seen in the bits before its place and 16 from there on: where the number is at fault, it is so by the
+-- position, the 8 bits behind it.
+use mathlib.Core.Path.{_≡_, sym, ap, _∙_}
 use Prim.Native.Nat.{ℕ, _+_, _^_, _≤_, _<_}
 use native.Mathlib.Omega.{arith}
 use mathlib.Core.Bool.{Bool, not}
-use mathlib.Core.Option.{Option, none, some}
+use mathlib.Core.Option.{some}
 use mathlib.Core.List.{_++_}
 use lib.ListN.{length, take}
 use lib.Dec.{T, leb, eqb}
 use lib.Seq.{take-all, take-append-add}
-use Rattle.bits.specs.Choice.{pick}
 use Rattle.bits.specs.ChoiceLaws.{pick-yes, pick-no, pick-split}
 use Rattle.bits.specs.Bits.{Bits, numberOfBits, bitsOfNumber}
 use Rattle.bits.specs.BitsLaws.{length-bits, number-bits}
@@ -39,8 +38,8 @@ first x y m u v f g e =
     let a : take (8 + m) (bitsOfNumber 8 x ++ u) ≡ bitsOfNumber 8 x ++ take m u = rw l at (take-append-add (bitsOfNumber 8 x) u m) in
     let b : take (8 + m) (bitsOfNumber 8 y ++ v) ≡ bitsOfNumber 8 y ++ take m v = rw k at (take-append-add (bitsOfNumber 8 y) v m) in
     let both : bitsOfNumber 8 x ++ take m u ≡ bitsOfNumber 8 y ++ take m v = sym a ∙ e ∙ b in
-    let same : bitsOfNumber 8 x ≡ bitsOfNumber 8 y = append-front (bitsOfNumber 8 x) (bitsOfNumber 8 y) (take m u) (take m v) (l ∙ sym k) both in
-    (sym (number-bits 8 x f) ∙ ap numberOfBits same ∙ number-bits 8 y g, append-rest (bitsOfNumber 8 x) (bitsOfNumber 8 y) (take m u) (take m v) (l ∙ sym k) both)
+    let same : bitsOfNumber 8 x ≡ bitsOfNumber 8 y = append-front (bitsOfNumber 8 x) (bitsOfNumber 8 y) _ _ (l ∙ sym k) both in
+    (sym (number-bits 8 x f) ∙ ap numberOfBits same ∙ number-bits 8 y g, append-rest (bitsOfNumber 8 x) (bitsOfNumber 8 y) _ _ (l ∙ sym k) both)
 
 module _ (earlier : ℕ → ℕ) where
   -- where the fault is
@@ -86,7 +85,7 @@ module _ (earlier : ℕ → ℕ) where
   fault-also {i = i} {q = q} j k fi fq fj fk (quality a b c f) e =
       let (x, y) = first i j 16 (bitsOfNumber 8 q) (bitsOfNumber 8 k) fi fj e in
       let u : bitsOfNumber 8 q ≡ bitsOfNumber 8 k =
-          sym (take-all 16 (bitsOfNumber 8 q) (omega (arith, length-bits 8 q))) ∙ y ∙ take-all 16 (bitsOfNumber 8 k) (omega (arith, length-bits 8 k)) in
+      sym (take-all 16 (bitsOfNumber 8 q) (omega (arith, length-bits 8 q))) ∙ y ∙ take-all 16 (bitsOfNumber 8 k) (omega (arith, length-bits 8 k)) in
       let z : q ≡ k = sym (number-bits 8 q fq) ∙ ap numberOfBits u ∙ number-bits 8 k fk in
       quality a b (rw x at c) (rw z at f)
 

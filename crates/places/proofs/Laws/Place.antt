@@ -1,21 +1,20 @@
--- What the place of a refused record shows: whatever is as long and agrees up to the reach behind the place is refused alike. The same in the
--- words of a call.
-use mathlib.Core.Path.{_≡_, refl, sym, ap, _∙_}
-use Prim.Native.Nat.{ℕ, suc, _+_, _-_, _*_, _≤_}
+-- What the place of a refused record shows: whatever is as long and agrees up to the reach behind the place is refused alike. And the
+-- same in the words of a call.
+use mathlib.Core.Path.{_≡_, sym, ap, _∙_}
+use Prim.Native.Nat.{ℕ, suc, _+_, _-_, _*_}
 use native.Mathlib.Omega.{arith}
 use native.Mathlib.Nat.{le-refl}
 use mathlib.Core.Bool.{Bool}
 use mathlib.Core.List.{List, [], _∷_}
 use lib.ListN.{length}
-use Rattle.bits.specs.Choice.{pick, within}
+use Rattle.bits.specs.Choice.{within}
 use Rattle.bits.specs.ChoiceLaws.{pick-yes, pick-no, pick-split}
 use Rattle.bits.specs.Bits.{Bits}
 use Rattle.bits.specs.Bytes.{bitsOf}
 use Rattle.bits.specs.BytesLaws.{length-bitsOf}
-use Rattle.bits.specs.Codec.{next}
 use Rattle.bits.specs.Codec as C
 use Rattle.bits.proofs.Laws.Refuses.{Refusal, accepted, by, refused-by}
-use Rattle.outcome.specs.Refusals.{badSize, bytesOver}
+use Rattle.outcome.specs.Refusals.{bytesOver}
 use Rattle.outcome.specs.Outcome.{Outcome, refused}
 use Rattle.format.specs.Limits.{leastBytes, mostBytes}
 use Rattle.format.specs.Record.{Record, recordOf, allOf, read}
@@ -31,6 +30,7 @@ all-settles a = record { at = go }
     over : (s t : Bits) → suc (length s) ≡ length t → allOf a t ≡ C.refused bytesOver (suc (length s))
     over s [] k = absurd (omega arith)
     over s (b ∷ t) k = ap (C.refused bytesOver) (sym k)
+
     go : (s : Bits) → Refusal (Settled (allOf a) s) (allOf a s)
     go [] = accepted
     go (b ∷ s) = by {l = suc (length s)} (record { inside = le-refl (suc (length s)); alike = λ t n k same far. same-alike (over s t k) })

@@ -1,13 +1,12 @@
--- What a refusal goes by, for each way of the kit that reads a codec: lists that are as long and agree up to the reach behind the place are
--- refused alike. A codec that follows another may count on what fits before it.
+-- What a refusal goes by, for each way of the kit that reads a codec: lists that are as long and agree up to the reach behind the
+-- place are refused alike. A codec that follows another may count on what fits before it.
 use mathlib.Core.Path.{_≡_, refl, sym, ap, _∙_}
-use Prim.Native.Nat.{ℕ, zero, suc, _+_, _-_, _≤_, _<_}
+use Prim.Native.Nat.{ℕ, zero, suc, _+_, _-_, _≤_}
 use native.Mathlib.Omega.{arith}
 use native.Mathlib.Nat.{le-refl}
-use mathlib.Core.Bool.{Bool, true, false, not}
-use mathlib.Core.List.{List, [], _∷_, _++_}
+use mathlib.Core.Bool.{Bool, not}
 use lib.ListN.{length, take, length-append}
-use lib.Dec.{T, leb, lit≤}
+use lib.Dec.{T, leb}
 use Rattle.bits.specs.Choice.{pick}
 use Rattle.bits.specs.ChoiceLaws.{pick-yes, pick-no, pick-case}
 use Rattle.bits.specs.Bits.{Bits}
@@ -16,11 +15,11 @@ use Rattle.bits.specs.Codec.{Read, got, refused, next, Codec, fieldDec, thenDec
 use Rattle.bits.specs.CodecLaws.{field}
 use Rattle.bits.proofs.Laws.Refuses.{Refusal, accepted, by, refusal-map, next-refusal}
 use Rattle.places.specs.Reach.{reach, RefusedAlike}
-use Rattle.places.proofs.Laws.Agree.{Shares, shares}
+use Rattle.places.proofs.Laws.Agree.{shares}
 
 -- ---- what is said of a refusal
 
--- of d reading s, by e with l left: no more is left than was there, and whatever agrees with s in n bits is refused alike, where these are
+-- d refuses s by e, with l left: no more is left than was there, and whatever agrees with s in n bits is refused alike, if these are
 -- those before the place and the reach behind it
 pub record Settled {A : Type 0} (d : Bits → Read Bool A) (s : Bits) (e l : ℕ) : Type 0 where
   pub inside : l ≤ length s
@@ -40,19 +39,25 @@ next-alike : {A B : Type 0} {o : Read Bool A} (f : A → Bits → Read Bool B) {
 next-alike f h = record { rest = h .rest; is = rw (h .is); later = h .later; same = h .same }
 
 -- what d and another reading say of s is the same, and of whatever is as long
-pub settled-as : {A : Type 0} {d g : Bits → Read Bool A} {s : Bits} {e l : ℕ} → ((t : Bits) → length s ≡ length t → g t ≡ d t) → Settled d s e l → Settled g s e l
+pub settled-as : {A : Type 0} {d g : Bits → Read Bool A} {s : Bits} {e l : ℕ} → ((t : Bits) → length s ≡ length t → g t ≡ d t)
+    → Settled d s e l → Settled g s e l
 settled-as f h = record { inside = h .inside; alike = λ t n k q far. path-alike (f t k) (h .alike t n k q far) }
 
-pub settled-next : {A B : Type 0} {d : Bits → Read Bool A} (f : Bits → A → Bits → Read Bool B) {s : Bits} (e l : ℕ) → Settled d s e l
-    → Settled (λ t. next (d t) (f t)) s e l
-settled-next f e l h = record { inside = h .inside; alike = λ t n k q far. next-alike (f t) (h .alike t n k q far) }
-
 -- ---- the steps of reading
+
+-- what is refused first is refused, whatever follows; f may look at the whole list
+pub next-at : {A B : Type 0} {d : Bits → Read Bool A} (f : Bits → A → Bits → Read Bool B) (s : Bits) → Refusal (Settled d s) (d s)
+    → ((a : A) (r : Bits) → d s ≡ got a r → Refusal (Settled (λ t. next (d t) (f t)) s) (f s a r))
+    → Refusal (Settled (λ t. next (d t) (f t)) s) (next (d s) (f s))
+next-at f s h k =
+    next-refusal
+    (refusal-map (λ e l q. record { inside = q .inside; alike = λ t n z same far. next-alike (f t) (q .alike t n z same far) }) h)
+    k
 
 -- a codec, then what its value calls for
 pub next-settles : {A B : Type 0} (c : Codec Bool A) {f : A → Bits → Read Bool B} → Settles (c .dec) → ((a : A) → c .Fits a → Settles (f a))
     → Settles (λ s. next (c .dec s) f)
-next-settles {A} {B} c {f} h k = record { at = λ s. next-refusal (refusal-map (settled-next (λ _. f)) (h .at s)) (go s) }
+next-settles {A} {B} c {f} h k = record { at = λ s. next-at (λ _. f) s (h .at s) (go s) }
   where
     go : (s : Bits) (a : A) (r : Bits) → c .dec s ≡ got a r → Refusal (Settled (λ t. next (c .dec t) f) s) (f a r)
     go s a r p =
@@ -69,7 +74,7 @@ next-settles {A} {B} c {f} h k = record { at = λ s. next-refusal (refusal-map (
 
 -- the same, as another value
 pub map-settles : {A B : Type 0} {d : Bits → Read Bool A} (g : A → B) → Settles d → Settles (λ s. next (d s) (λ a r. got (g a) r))
-map-settles g h = record { at = λ s. next-refusal (refusal-map (settled-next (λ _ a r. got (g a) r)) (h .at s)) λ a r _. accepted }
+map-settles g h = record { at = λ s. next-at (λ _ a r. got (g a) r) s (h .at s) λ a r _. accepted }
 
 -- one way or the other, by how long the list is
 module _ {A : Type 0} (b : ℕ → Bool) {d g : Bits → Read Bool A} where
@@ -94,7 +99,8 @@ short-settles e =
 pub field-settles : (e w : ℕ) → Settles (fieldDec e w)
 field-settles e w = fork-settles (leb w) (record { at = λ s. accepted }) (short-settles e)
 
-pub then-settles : {A B : Type 0} (c : Codec Bool A) (d : A → Codec Bool B) → Settles (c .dec) → ((a : A) → c .Fits a → Settles (d a .dec)) → Settles (thenDec c d)
+pub then-settles : {A B : Type 0} (c : Codec Bool A) (d : A → Codec Bool B) → Settles (c .dec) → ((a : A) → c .Fits a → Settles (d a .dec))
+    → Settles (thenDec c d)
 unfolding thenDec
 then-settles c d h k = next-settles c h λ a f. map-settles _ (k a f)
 
@@ -115,26 +121,25 @@ unfolding roomDec
 room-settles c e n h = fork-settles (leb n) h (short-settles e)
 
 -- a number that must pass a test: all of its bits are within reach
-pub number-settles : (e w : ℕ) (t : ℕ → Bool) → w ≤ reach e → Settles (onlyDec (field e w) e t)
-unfolding onlyDec
-number-settles e w t h = record { at = λ s. next-refusal (refusal-map (settled-next (λ z b q. pick (t b) (got b q) (refused e (length z)))) (field-settles e w .at s)) (go s) }
-  where
-    go : (s : Bits) (a : ℕ) (r : Bits) → fieldDec e w s ≡ got a r
-        → Refusal (Settled (λ z. next (fieldDec e w z) (λ b q. pick (t b) (got b q) (refused e (length z)))) s) (pick (t a) (got a r) (refused e (length s)))
-    go s a r p =
-        let (fits, is) = field e w .back s a r p in
-        let n : length (field e w .enc a) ≡ w = length-bits w a in
-        let Q : ℕ → ℕ → Type 0 = Settled (λ (z : Bits). next (fieldDec e w z) (λ b q. pick (t b) (got b q) (refused e (length z)))) s in
-        pick-case (λ (o : Read Bool ℕ). Refusal Q o) (t a) (got a r) (refused e (length s)) (λ _. accepted)
-        λ no. by {l = length s} (record {
-          inside = le-refl (length s);
-          alike = λ z m k same far.
-              let x = shares (field e w .enc a) r z m (omega arith) (rw is at k) (rw is at same) in
-              let y : fieldDec e w z ≡ got a (x .rest) = ap (fieldDec e w) (x .is) ∙ field e w .there a (x .rest) fits in
-              same-alike (rw y (pick-no (t a) _ _ no) ∙ ap (refused e) (sym k));
-        })
+module _ (e w : ℕ) (t : ℕ → Bool) where
+  abbrev tested : Bits → ℕ → Bits → Read Bool ℕ
+  tested z a r = pick (t a) (got a r) (refused e (length z))
 
--- ---- all of them
+  number-at : w ≤ reach e → (s : Bits) (a : ℕ) (r : Bits) → fieldDec e w s ≡ got a r
+      → Refusal (Settled (λ z. next (fieldDec e w z) (tested z)) s) (tested s a r)
+  number-at h s a r p =
+      let (fits, is) = field e w .back s a r p in
+      let n : length (field e w .enc a) ≡ w = length-bits w a in
+      let Q : ℕ → ℕ → Type 0 = Settled (λ (z : Bits). next (fieldDec e w z) (tested z)) s in
+      pick-case (λ (o : Read Bool ℕ). Refusal Q o) (t a) (got a r) (refused e (length s)) (λ _. accepted)
+      λ no. by {l = length s} (record {
+        inside = le-refl (length s);
+        alike = λ z m k same far.
+            let x = shares (field e w .enc a) r z m (omega arith) (rw is at k) (rw is at same) in
+            let y : fieldDec e w z ≡ got a (x .rest) = ap (fieldDec e w) (x .is) ∙ field e w .there a (x .rest) fits in
+            same-alike (rw y (pick-no (t a) _ _ no) ∙ ap (refused e) (sym k));
+      })
 
--- lit≤ and tt prove that a number's width is within reach, where that computes
-pub ruleset settling = (field-settles, then-settles, times-settles, along-settles, via-settles, room-settles, number-settles, lit≤, tt)
+  pub number-settles : w ≤ reach e → Settles (onlyDec (field e w) e t)
+  unfolding onlyDec
+  number-settles h = record { at = λ s. next-at tested s (field-settles e w .at s) (number-at h s) }
