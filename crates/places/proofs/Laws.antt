@@ -6,3 +6,4 @@ pub mod Full
 pub mod Head
 pub mod Format
 pub mod Place
+pub mod Calls

@@ -11,8 +11,7 @@ use Rattle.bits.specs.Choice.{pick, within}
 use Rattle.bits.specs.Bytes.{bitsOf}
 use Rattle.bits.specs.Codec.{Read, refused}
 use Rattle.outcome.specs.Refusals.{badIdentifier, badLength, badHeader, badView, badLine, badIndex, badSegment}
-use Rattle.outcome.specs.Outcome.{Outcome}
-use Rattle.outcome.specs.Outcome as O
+use Rattle.outcome.specs.declared.Answer.{Answer}
 
 -- How many bits, from the place of a refusal on, decide it, by its number. 2, 3, 4: the field has 32. 5: the widest field, the
 -- reserved one, has 16. 7: a view's number is held against its position, the 8 bits behind it. 8: whether a line fits is said by its
@@ -36,9 +35,8 @@ pub record RefusedAlike {A : Type 0} (e left : ℕ) (o : Read Bool A) : Type 0 w
   pub later : rest ≤ left
   pub same : e ≢ badIndex → rest ≡ left
 
--- the same of a call's outcome; p is the place that is shown for the one
-pub record CallAlike {A : Type 0} (e p : ℕ) (o : Outcome A) : Type 0 where
-  pub place : ℕ
-  pub is : o ≡ O.refused e place
-  pub later : p ≤ place
-  pub same : e ≢ badIndex → place ≡ p
+-- the same of two answers
+pub record AnsweredAlike (x y : Answer) : Type 0 where
+  pub number : y .number ≡ x .number
+  pub later : x .place ≤ y .place
+  pub same : x .number ≢ badIndex → y .place ≡ x .place

@@ -1,5 +1,6 @@
 pub mod Calls
 pub mod Samples
 pub mod Placed
+pub mod Decides
 pub mod Promises
 pub mod PromisesCalls

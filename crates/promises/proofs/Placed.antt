@@ -19,7 +19,7 @@ use Rattle.format.proofs.Laws.Placed.{record-placed, view-placed}
 use Rattle.sheet.specs.Sheet.{sheetOf, readSheet, writes, reading, writing}
 use Rattle.trail.specs.Trail.{trailIn, trailing}
 use Rattle.segment.specs.Segment.{payloadIn, payload, firstBitRead, segmentAnswer}
-use Rattle.orders.specs.Order.{Order, verdict, ordered, order}
+use Rattle.orders.specs.Order.{Order, verdict, order}
 
 pub read-place : {before after : List ℕ} {a : Answer} (bytes : List ℕ) → Answers (reading bytes) before after a
     → Placed (8 * length bytes) (a .number) (a .place)

@@ -3,6 +3,7 @@
 --   outcome/specs/Numbers      Gives; readNumbers, writeNumbers, trailNumbers, segmentNumbers, removalNumbers, pairNumbers
 --   outcome/specs/Placed       Placed
 --   outcome/specs/Outcome      numberOf, AnswersAs, Answers
+--   places/specs/Reach         reach, Agree, AnsweredAlike
 --   sheet/specs/Sheet          reading, writing
 --   sheet/specs/Accepted       AcceptedReading, AcceptedWriting
 --   trail/specs/Trail          trailing
@@ -10,19 +11,22 @@
 --   orders/specs/Act, Order    remove, join, part; Order, order
 --   orders/specs/History       Call, outcome
 --   orders/specs/Accept        AcceptedCall
---   bits/specs/Lists, Bytes    All; Byte
--- `Answer` is the struct of outcome/src.
+--   bits/specs/Choice, Lists, Bytes   within; All; Byte
+-- `Answer` is the struct of outcome/src, `length`, `T` and the signs are the toolchain's.
 use mathlib.Core.Path.{_≡_}
 use mathlib.Core.Logic.{_≢_}
-use Prim.Native.Nat.{ℕ, _*_}
+use Prim.Native.Nat.{ℕ, _+_, _*_}
 use mathlib.Core.List.{List}
 use lib.ListN.{length}
+use lib.Dec.{T}
+use Rattle.bits.specs.Choice.{within}
 use Rattle.bits.specs.Lists.{All}
 use Rattle.bits.specs.Bytes.{Byte}
 use Rattle.outcome.specs.Numbers.{Gives, readNumbers, writeNumbers, trailNumbers, segmentNumbers, removalNumbers, pairNumbers}
 use Rattle.outcome.specs.Placed.{Placed}
 use Rattle.outcome.specs.Outcome.{numberOf, AnswersAs, Answers}
 use Rattle.outcome.specs.declared.Answer.{Answer}
+use Rattle.places.specs.Reach.{reach, Agree, AnsweredAlike}
 use Rattle.sheet.specs.Sheet.{reading, writing}
 use Rattle.sheet.specs.Accepted.{AcceptedReading, AcceptedWriting}
 use Rattle.sheet.proofs.Laws.Numbers as SheetNumbers
@@ -36,7 +40,8 @@ use Rattle.orders.specs.History.{Call, outcome}
 use Rattle.orders.specs.Accept.{AcceptedCall}
 use Rattle.orders.proofs.Laws.Numbers as OrderNumbers
 use Rattle.orders.proofs.Laws.AcceptCall as AcceptCall
-use Rattle.promises.proofs.Placed as Places
+use Rattle.promises.proofs.Placed as Placing
+use Rattle.promises.proofs.Decides as Decides
 
 -- ---- "No number is given otherwise": of each call, the numbers that its contract allows besides 0
 
@@ -70,24 +75,46 @@ part-numbers = OrderNumbers.part-numbers
 
 pub read-place : {before after : List ℕ} {a : Answer} (bytes : List ℕ) → Answers (reading bytes) before after a
     → Placed (8 * length bytes) (a .number) (a .place)
-read-place = Places.read-place
+read-place = Placing.read-place
 
 pub trail-place : {B : Type 0} {form : List ℕ → List B} {lent : ℕ} {before after : List B} {a : Answer} (view line : ℕ) (bytes : List ℕ)
     → AnswersAs form lent (trailing view line bytes) before after a → Placed (8 * length bytes) (a .number) (a .place)
-trail-place = Places.trail-place
+trail-place = Placing.trail-place
 
 -- an accepted one has its payload's first bit there (segmentAnswer)
 pub segment-place : {a : Answer} (view place : ℕ) (bytes : List ℕ) → a ≡ segmentAnswer view place bytes → a .number ≢ 0
     → Placed (8 * length bytes) (a .number) (a .place)
-segment-place = Places.segment-place
+segment-place = Placing.segment-place
 
 pub order-place : (o : Order) (bytes : List ℕ) {before after : List ℕ} {a : Answer} → Answers (order o bytes) before after a
     → Placed (8 * length bytes) (a .number) (a .place)
-order-place = Places.order-place
+order-place = Placing.order-place
 
 -- a sheet has no places
 pub write-place : {before after : List ℕ} {a : Answer} (sheet : List ℕ) → Answers (writing sheet) before after a → a .place ≡ 0
-write-place = Places.write-place
+write-place = Placing.write-place
+
+-- What decides such a refusal stands before its place, and in the bits from there on that its number goes by (`reach`): two runs of
+-- bytes that are as long and agree so far are answered alike, by every call on a record. `AnsweredAlike`: the same number and the same
+-- place; but where 10 is given for the eighth leftover bit, a later one that is 1 may be the other's place.
+
+pub read-decided : (a b : List ℕ) {before after before₂ after₂ : List ℕ} {x y : Answer} → Answers (reading a) before after x
+    → Answers (reading b) before₂ after₂ y → T (within 2 12 (x .number)) → Agree (x .place + reach (x .number)) a b → AnsweredAlike x y
+read-decided = Decides.read-decided
+
+pub trail-decided : {B : Type 0} {form : List ℕ → List B} {lent lent₂ : ℕ} {before after before₂ after₂ : List B} {x y : Answer}
+    (view line : ℕ) (a b : List ℕ) → AnswersAs form lent (trailing view line a) before after x
+    → AnswersAs form lent₂ (trailing view line b) before₂ after₂ y → T (within 2 12 (x .number)) → Agree (x .place + reach (x .number)) a b
+    → AnsweredAlike x y
+trail-decided = Decides.trail-decided
+
+pub segment-decided : (view place : ℕ) (a b : List ℕ) {x y : Answer} → x ≡ segmentAnswer view place a → y ≡ segmentAnswer view place b
+    → T (within 2 12 (x .number)) → Agree (x .place + reach (x .number)) a b → AnsweredAlike x y
+segment-decided = Decides.segment-decided
+
+pub order-decided : (o : Order) (a b : List ℕ) {before after before₂ after₂ : List ℕ} {x y : Answer} → Answers (order o a) before after x
+    → Answers (order o b) before₂ after₂ y → T (within 2 12 (x .number)) → Agree (x .place + reach (x .number)) a b → AnsweredAlike x y
+order-decided = Decides.order-decided
 
 -- ---- reading and writing: the number is 0 exactly where the bytes, or the sheet, are an allowed record's and there is room
 

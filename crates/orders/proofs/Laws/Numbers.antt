@@ -7,6 +7,7 @@ use mathlib.Core.Bool.{Bool, not}
 use mathlib.Core.List.{List, [], _∷_}
 use lib.Dec.{T, eqb}
 use mir.Facts.{eqb-no}
+use Rattle.bits.specs.Choice.{within}
 use Rattle.bits.specs.ChoiceLaws.{pick-case}
 use Rattle.bits.specs.Lists.{All}
 use Rattle.bits.specs.ListsLaws.{all-append}
@@ -57,10 +58,26 @@ all-by o r =
 pub number-there : (a : Act) (e : ℕ) → T (among (numbersOf a) e) → e ≢ 0
 number-there a = not-zero (numbersOf a) (both (λ ns. T (not (among ns 0))) tt tt a)
 
-first-by : (a : Act) (ts : List (Bool × ℕ)) → TestsBy a ts → firstBad ts ≢ 0 → T (among (numbersOf a) (firstBad ts))
-first-by a [] h n = absurd (n refl)
-first-by a (t ∷ ts) h n =
-    pick-case (λ (x : ℕ). x ≢ 0 → T (among (numbersOf a) x)) (t .0) _ _ (λ u. first-by a ts (h .1)) (λ u _. h .0) n
+-- what is so of every test's number is so of the first that fails
+first-of : (P : ℕ → Type 0) (ts : List (Bool × ℕ)) → All (λ t. P (t .1)) ts → firstBad ts ≢ 0 → P (firstBad ts)
+first-of P [] h n = absurd (n refl)
+first-of P (t ∷ ts) h n = pick-case (λ (x : ℕ). x ≢ 0 → P x) (t .0) _ _ (λ u. first-of P ts (h .1)) (λ u _. h .0) n
+
+-- an order's own numbers are above 12
+pub verdict-own : (o : Order) (r : Record) → verdict o r ≢ 0 → T (not (within 2 12 (verdict o r)))
+unfolding verdict allTests tests
+verdict-own o r = first-of P (allTests o r) (tt, all-append (λ t. P (t .1)) (tests (o .act) v) _ (own (o .act)) (tt, tt))
+  where
+    P : ℕ → Type 0
+    P e = T (not (within 2 12 e))
+
+    v : View
+    v = viewAt r (o .view)
+
+    own : (a : Act) → All (λ t. P (t .1)) (tests a v)
+    own (remove rs) = (tt, (tt, tt))
+    own (join a b) = (tt, (tt, (tt, tt)))
+    own (part a b) = (tt, (tt, (tt, tt)))
 
 -- ---- the calls
 
@@ -69,7 +86,7 @@ unfolding order verdict
 order-by o =
     both (λ ns. ((r : Record) → RefusedBy ns (ordered o r)) → (bytes : List ℕ) → RefusedBy ns (order o bytes))
     (view-numbers 16 _ (omega arith) (o .view) (λ i. ordered o)) (view-numbers 15 _ (omega arith) (o .view) (λ i. ordered o)) (o .act) λ r.
-    pick-case (RefusedBy (numbersOf (o .act))) (eqb (verdict o r) 0) _ _ (λ t. tt) (λ t. first-by (o .act) (allTests o r) (all-by o r) (eqb-no t))
+    pick-case (RefusedBy (numbersOf (o .act))) (eqb (verdict o r) 0) _ _ (λ t. tt) (λ t. first-of (λ e. T (among (numbersOf (o .act)) e)) (allTests o r) (all-by o r) (eqb-no t))
 
 numbers-room : (a : Act) → T (among (numbersOf a) noRoom)
 numbers-room a = both (λ ns. T (among ns noRoom)) tt tt a

@@ -1,5 +1,4 @@
--- What the place of a refused record shows: whatever is as long and agrees up to the reach behind the place is refused alike. And the
--- same in the words of a call.
+-- What the place of a refused record shows: whatever is as long and agrees up to the reach behind the place is refused alike.
 use mathlib.Core.Path.{_≡_, sym, ap, _∙_}
 use Prim.Native.Nat.{ℕ, suc, _+_, _-_, _*_}
 use native.Mathlib.Omega.{arith}
@@ -15,11 +14,9 @@ use Rattle.bits.specs.BytesLaws.{length-bitsOf}
 use Rattle.bits.specs.Codec as C
 use Rattle.bits.proofs.Laws.Refuses.{Refusal, accepted, by, refused-by}
 use Rattle.outcome.specs.Refusals.{bytesOver}
-use Rattle.outcome.specs.Outcome.{Outcome, refused}
 use Rattle.format.specs.Limits.{leastBytes, mostBytes}
-use Rattle.format.specs.Record.{Record, recordOf, allOf, read}
-use Rattle.format.specs.Call.{fromRead, onRecord}
-use Rattle.places.specs.Reach.{reach, Agree, RefusedAlike, CallAlike}
+use Rattle.format.specs.Record.{recordOf, allOf, read}
+use Rattle.places.specs.Reach.{reach, Agree, RefusedAlike}
 use Rattle.places.proofs.Laws.Settles.{Settled, Settles, same-alike, path-alike, next-settles}
 use Rattle.places.proofs.Laws.Format.{record-settles}
 
@@ -48,16 +45,3 @@ read-alike a b e left p same =
     let v : length (bitsOf a) ≡ length (bitsOf b) = u ∙ ap (λ (m : ℕ). 8 * m) (same .long) ∙ sym (length-bitsOf b) in
     path-alike (pick-yes t _ _ y) (x .alike (bitsOf b) (8 * n - left + reach e) v (same .bits) (omega (arith, x .inside))))
     (λ y q. same-alike (pick-no t _ _ y ∙ q)))
-
--- f is what the call does with an accepted record
-pub call-alike : {A : Type 0} (f : Record → Outcome A) (a b : List ℕ) (e left : ℕ) → read a ≡ C.refused e left
-    → Agree (8 * length a - left + reach e) a b → CallAlike e (8 * length a - left) (onRecord f b)
-unfolding onRecord
-call-alike {A} f a b e left p same =
-    let h = read-alike a b e left p same in
-    record {
-      place = 8 * length a - h .rest;
-      is = ap (fromRead (8 * length b) f) (h .is) ∙ ap (λ (n : ℕ). refused e (8 * n - h .rest)) (sym (same .long));
-      later = omega (arith, h .later);
-      same = λ n. ap (λ (m : ℕ). 8 * length a - m) (h .same n);
-    }

@@ -149,10 +149,12 @@ loop2-less c = search needs
 loop2-again : tie.Need-loop2-again Inv-loop2 μ-loop2 Inv-loop μ-loop
 loop2-again c =
     let m = c .before .before .before .before .before .before .before .loop2 in
-    let d = differs (c .before .before .before) in
-    (omega arith, d .within,
-     diffs-turn _ (c .before .before .before .before .before .before .before .before .before .before .before .before .before .loop .l) (counted (c .before .before .before .before .before .before .before .before .before)) (m .least, m .most) (omega (arith, c .before .before .before .before .before .before .loop2-test .taken)) (m .inv .2)
-     (ranged-ok badIndex _ d (m .least) (m .most) (omega (arith, c .before .if2 .left)) (omega (arith, c .if3 .left))))
+    let d = differs (c .before .before .before) in (
+      omega arith,
+      d .within,
+      diffs-turn _ (c .before .before .before .before .before .before .before .before .before .before .before .before .before .loop .l) (counted (c .before .before .before .before .before .before .before .before .before)) (m .least, m .most) (omega (arith, c .before .before .before .before .before .before .loop2-test .taken)) (m .inv .2)
+          (ranged-ok badIndex _ d (m .least) (m .most) (omega (arith, c .before .if2 .left)) (omega (arith, c .if3 .left))),
+    )
 
 add-size : tie.Need-add-size Inv-loop2 μ-loop2 Inv-loop μ-loop
 add-size c =
@@ -178,8 +180,12 @@ loop-again c =
     let l = c .before .before .before .before .before .before .before .loop in
     let m = c .before .loop2 in
     diffs-done _ (l .l) (counted (c .before .before .before)) (m .least, m .most) (m .inv .1) (omega (arith, c .loop2-test .left)) (m .inv .2)
-    λ ns k h. (omega (arith, c .before .before .before .before .before .before .loop-test .taken), m .inv .1, omega (arith, small (c .before .before .before), l .inv .2),
-     lists-turn (a .lines) (a .block .now) (omega arith) (width (c .before .before .before .before .before .before .before .before .before)) (l .size) _ (omega arith) (omega (arith, c .before .before .before .before .before .before .loop-test .taken)) (l .inv .3) h)
+    λ ns k h. (
+      omega (arith, c .before .before .before .before .before .before .loop-test .taken),
+      m .inv .1,
+      omega (arith, small (c .before .before .before), l .inv .2),
+      lists-turn (a .lines) (a .block .now) (omega arith) (width (c .before .before .before .before .before .before .before .before .before)) (l .size) _ (omega arith) (omega (arith, c .before .before .before .before .before .before .loop-test .taken)) (l .inv .3) h,
+    )
 
 zeros-at-requires : tie.Need-zeros-at-requires Inv-loop2 μ-loop2 Inv-loop μ-loop
 zeros-at-requires c κs =

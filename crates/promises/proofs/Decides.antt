@@ -1,0 +1,54 @@
+-- What decides a refusal 2 to 12, of each call on a record: each refuses with these where the record is refused, and has other
+-- numbers of its own.
+use mathlib.Core.Path.{_≡_}
+use Prim.Native.Nat.{ℕ, _+_}
+use mathlib.Core.List.{List}
+use lib.ListN.{length}
+use lib.Dec.{T, ltb, eqb}
+use mir.Facts.{eqb-no}
+use Rattle.bits.specs.Choice.{within}
+use Rattle.bits.specs.ChoiceLaws.{pick-case}
+use Rattle.outcome.specs.Outcome.{Outcome, given, AnswersAs, Answers}
+use Rattle.outcome.specs.declared.Answer.{Answer}
+use Rattle.format.specs.Record.{Record, read}
+use Rattle.format.specs.Call.{inView, onView}
+use Rattle.format.specs.Places.{viewAt, count}
+use Rattle.places.specs.Reach.{reach, Agree, AnsweredAlike}
+use Rattle.places.proofs.Laws.Calls.{Own, Shows, answer-shows, told-shows, answered-alike}
+use Rattle.sheet.specs.Sheet.{sheetOf, reading}
+use Rattle.trail.specs.Trail.{trailIn, trailing}
+use Rattle.segment.specs.Segment.{payloadIn, payload, firstBitRead, segmentAnswer}
+use Rattle.orders.specs.Order.{Order, verdict, ordered, order}
+use Rattle.orders.proofs.Laws.Numbers.{verdict-own}
+
+-- a call on a view
+view-alike : {A : Type 0} (view : ℕ) (f : ℕ → Record → Outcome A) → ((r : Record) → Own (f view r)) → (a b : List ℕ) {x y : Answer}
+    → Shows (onView view f a) x → Shows (onView view f b) y → T (within 2 12 (x .number)) → Agree (x .place + reach (x .number)) a b → AnsweredAlike x y
+unfolding onView
+view-alike view f own = answered-alike (inView view f) λ r. pick-case Own (ltb view (length (r .views))) _ _ (λ t. own r) (λ t. tt)
+
+pub read-decided : (a b : List ℕ) {before after before₂ after₂ : List ℕ} {x y : Answer} → Answers (reading a) before after x → Answers (reading b) before₂ after₂ y
+    → T (within 2 12 (x .number)) → Agree (x .place + reach (x .number)) a b → AnsweredAlike x y
+unfolding reading
+read-decided a b h k = answered-alike (λ r. given (sheetOf r)) (λ r. tt) a b (answer-shows h) (answer-shows k)
+
+pub trail-decided : {B : Type 0} {form : List ℕ → List B} {lent lent₂ : ℕ} {before after before₂ after₂ : List B} {x y : Answer} (view line : ℕ) (a b : List ℕ)
+    → AnswersAs form lent (trailing view line a) before after x → AnswersAs form lent₂ (trailing view line b) before₂ after₂ y
+    → T (within 2 12 (x .number)) → Agree (x .place + reach (x .number)) a b → AnsweredAlike x y
+unfolding trailing
+trail-decided view line a b h k =
+    view-alike view (trailIn line) (λ r. pick-case Own (ltb line (count (viewAt r view))) _ _ (λ t. tt) (λ t. tt)) a b (answer-shows h) (answer-shows k)
+
+pub segment-decided : (view place : ℕ) (a b : List ℕ) {x y : Answer} → x ≡ segmentAnswer view place a → y ≡ segmentAnswer view place b
+    → T (within 2 12 (x .number)) → Agree (x .place + reach (x .number)) a b → AnsweredAlike x y
+unfolding segmentAnswer payload
+segment-decided view place a b h k =
+    view-alike view (payloadIn place) (λ r. pick-case Own (ltb place (length (viewAt r view .segments))) _ _ (λ t. tt) (λ t. tt)) a b
+    (told-shows (firstBitRead view place (read a)) (payload view place a) h) (told-shows (firstBitRead view place (read b)) (payload view place b) k)
+
+pub order-decided : (o : Order) (a b : List ℕ) {before after before₂ after₂ : List ℕ} {x y : Answer} → Answers (order o a) before after x
+    → Answers (order o b) before₂ after₂ y → T (within 2 12 (x .number)) → Agree (x .place + reach (x .number)) a b → AnsweredAlike x y
+unfolding order
+order-decided o a b h k =
+    view-alike (o .view) (λ i. ordered o) (λ r. pick-case Own (eqb (verdict o r) 0) _ _ (λ t. tt) (λ t. verdict-own o r (eqb-no t))) a b
+    (answer-shows h) (answer-shows k)
