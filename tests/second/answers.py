@@ -27,6 +27,7 @@ class Outcome:
     length: int = 0
     written: bytes = b""
     size: int = 1
+    fault: str = ""
 
 
 @lru_cache(maxsize=128)
@@ -42,7 +43,7 @@ def record_of(data):
     """The record; its refusal is raised otherwise."""
     result = judged(data)
     if isinstance(result, Refusal):
-        raise Refusal(result.number, result.place)
+        raise Refusal(result.number, result.place, result.fault)
     return result
 
 
@@ -115,7 +116,7 @@ def outcome(call, numbers, slices):
     try:
         return ANSWERS[call](*numbers, *slices)
     except Refusal as refusal:
-        return Outcome(refusal.number, refusal.place)
+        return Outcome(refusal.number, refusal.place, fault=refusal.fault)
 
 
 def lent(result, out_size):

@@ -22,9 +22,10 @@ unsigned and stand high byte first:
            4 bytes  number of bytes written, then these bytes; every byte of
                     the output beyond them must keep its fill
 
-Without --places every refusal's place is 0; with it the places are those of
-request [1]. A table of how often each number was met goes to standard error,
-and a number that was never met is a failure.
+Two tables go to standard error: how often each number was met, and how often
+each fault that has a place (model.FAULTS). A number or a fault that a chosen
+call can meet and never met is a failure. How many cases are refused with a
+place goes to standard output.
 """
 
 import argparse
@@ -35,9 +36,10 @@ from collections import Counter
 from itertools import islice
 
 from answers import CALLS
+from model import FAULTS
 from plan import Stock, streams
 
-OF_A_RECORD = set(range(1, 13))
+OF_A_RECORD = {1} | set(FAULTS)
 MUST_MEET = {
     "read": {0, 20} | OF_A_RECORD,
     "write": {0, 19, 20, 21, 22},
@@ -52,19 +54,17 @@ ORDERS = ["remove", "join", "part", "holds"]
 GROUPS = {"orders": ORDERS, "others": [call for call in CALLS if call not in ORDERS]}
 
 
-def case_bytes(case, places):
+def case_bytes(case):
     """One case as it stands in the file."""
     expected = case.expected
-    place = expected.place
-    if not places and expected.number != 0:
-        place = 0
     pieces = [struct.pack(">BB", CALLS[case.call], len(case.numbers))]
     pieces += [struct.pack(">Q", number) for number in case.numbers]
     pieces.append(struct.pack(">B", len(case.slices)))
     for lent_slice in case.slices:
         pieces += [struct.pack(">I", len(lent_slice)), lent_slice]
     pieces.append(struct.pack(">IB", case.out_size, case.fill))
-    pieces.append(struct.pack(">IIQ", expected.number, place, expected.length))
+    pieces.append(struct.pack(">IIQ", expected.number, expected.place,
+                              expected.length))
     pieces += [struct.pack(">I", len(expected.written)), expected.written]
     return b"".join(pieces)
 
@@ -80,12 +80,33 @@ def all_cases(calls, seed, count):
         yield from islice(makers[call](rng, stock, share), max(0, wanted))
 
 
-def table(met, calls):
+def must_meet(calls):
+    """All that the calls can meet: each with its call, number and fault."""
+    return [(call, number, fault) for call in calls
+            for number in sorted(MUST_MEET[call])
+            for fault in FAULTS.get(number, ("",))]
+
+
+def number_table(met, calls):
     """How often each call gave each number, as text."""
+    numbers = Counter()
+    for (call, number, _), times in met.items():
+        numbers[call, number] += times
     lines = ["call     " + "".join("%6d" % number for number in range(24))]
     for call in calls:
         lines.append("%-9s" % call + "".join(
-            "%6s" % (met[call, number] or ".") for number in range(24)))
+            "%6s" % (numbers[call, number] or ".") for number in range(24)))
+    return "\n".join(lines)
+
+
+def fault_table(met, calls):
+    """How often each call on a record met each fault that has a place, as text."""
+    calls = [call for call in calls if OF_A_RECORD <= MUST_MEET[call]]
+    lines = ["%-28s" % "fault" + "".join("%8s" % call for call in calls)]
+    for number, faults in FAULTS.items():
+        for fault in faults:
+            lines.append("%2d %-25s" % (number, fault) + "".join(
+                "%8s" % (met[call, number, fault] or ".") for call in calls))
     return "\n".join(lines)
 
 
@@ -94,7 +115,6 @@ def arguments():
     parser.add_argument("--calls", default=",".join(CALLS))
     parser.add_argument("--seed", type=int, default=1)
     parser.add_argument("--count", type=int, default=20000)
-    parser.add_argument("--places", action="store_true")
     parser.add_argument("--out", required=True)
     chosen = parser.parse_args()
     chosen.calls = GROUPS.get(chosen.calls) or chosen.calls.split(",")
@@ -111,14 +131,16 @@ def main():
     with open(chosen.out, "wb") as out:
         out.write(b"FSKCASES" + struct.pack(">I", chosen.count))
         for case in all_cases(chosen.calls, chosen.seed, chosen.count):
-            out.write(case_bytes(case, chosen.places))
-            met[case.call, case.expected.number] += 1
+            out.write(case_bytes(case))
+            met[case.call, case.expected.number, case.expected.fault] += 1
             written += 1
-    print(table(met, chosen.calls), file=sys.stderr)
-    missing = [(call, number) for call in chosen.calls
-               for number in sorted(MUST_MEET[call]) if met[call, number] == 0]
-    for call, number in missing:
-        print("never met: %s gives %d" % (call, number), file=sys.stderr)
+    print(number_table(met, chosen.calls), file=sys.stderr)
+    print(fault_table(met, chosen.calls), file=sys.stderr)
+    missing = [wanted for wanted in must_meet(chosen.calls) if met[wanted] == 0]
+    for call, number, fault in missing:
+        print("never met: %s gives %d %s" % (call, number, fault), file=sys.stderr)
+    placed = sum(times for (_, _, fault), times in met.items() if fault != "")
+    print("cases: %d, %d of them refused with a place" % (written, placed))
     if written != chosen.count:
         print("%d cases written, not %d" % (written, chosen.count), file=sys.stderr)
     return 1 if missing or written != chosen.count else 0

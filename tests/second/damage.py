@@ -26,6 +26,12 @@ def header_byte(rng, parts):
     return put_together(parts)
 
 
+def header_zero(rng, parts):
+    """One header field that may not be 0 is."""
+    parts.header[rng.choice((14, 15, 16, 17, 18, 19, 21))] = 0
+    return put_together(parts)
+
+
 def stated_length(rng, parts):
     data = put_together(parts)
     stated = rng.choice((len(data) - 1, len(data) + 1, len(data) + 256, 0,
@@ -213,9 +219,9 @@ def too_many_lines(rng, _parts):
     return put_together(parts)
 
 
-KINDS = (header_byte, stated_length, cut, too_short, bytes_after, view_count,
-         bytes_after, view_value, inner_length, skeleton_zero_byte, skeleton_cut,
-         skeleton_last_bits, index_width, index_leftover, index_cut,
+KINDS = (header_byte, header_zero, stated_length, cut, too_short, bytes_after,
+         view_count, bytes_after, view_value, inner_length, skeleton_zero_byte,
+         skeleton_cut, skeleton_last_bits, index_width, index_leftover, index_cut,
          broken_index, ends_in_block, segment_length, segment_bytes_over,
          turned_bits, noise)
 LONG_KINDS = (too_many_lines, too_long)

@@ -1,12 +1,14 @@
 """Records at the edges, listed one by one and not left to chance.
 
-Every byte of a small record is cut, every bit of a few small records is
-turned, and every header value stands at and beyond its limits.
+Every fault that has a place is there, every byte of a small record is cut,
+every bit of a few small records is turned, and every header value stands at
+and beyond its limits.
 """
 
 from bits import with_bit_turned
 from build import build, parts_of, put_together
 from damage import with_length
+from faults import all_faults
 from model import (IMPRESSIONS, LARGEST_RECORD, MOST_LINES, Index, Line, Record,
                    Segment, View)
 
@@ -172,7 +174,8 @@ def size_edges():
 
 def edge_records():
     """All of them; those that no shorter list may leave out come first."""
-    first = (small_records() + size_edges() + line_edges() + view_header_values())
+    first = ([data for _, _, _, data in all_faults()] + small_records()
+             + size_edges() + line_edges() + view_header_values())
     return first, (cut_everywhere() + turned_everywhere() + header_values()
                    + index_blocks() + extended_blocks() + ends_in_skeleton()
                    + ends_in_index())

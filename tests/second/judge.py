@@ -19,7 +19,7 @@ def judge(data):
         view, at = judge_view(data, at, record)
         record.views.append(view)
     if at < len(data):
-        raise Refusal(12, 8 * at)
+        raise Refusal(12, 8 * at, "bytes after the last view")
     return record
 
 
@@ -28,75 +28,75 @@ def judge_header(data):
     if len(data) < SMALLEST_RECORD or len(data) > LARGEST_RECORD:
         raise Refusal(1)
     if data[0:4] != IDENTIFIER:
-        raise Refusal(2, 0)
+        raise Refusal(2, 0, "identifier")
     if data[4:8] != VERSION:
-        raise Refusal(3, 32)
+        raise Refusal(3, 32, "version")
     if number_at(data, 64, 32) != len(data):
-        raise Refusal(4, 64)
+        raise Refusal(4, 64, "record length")
     if data[14] < 1:
-        raise Refusal(5, 112)
+        raise Refusal(5, 112, "views")
     if data[15] < 1:
-        raise Refusal(5, 120)
+        raise Refusal(5, 120, "points")
     if data[16] < 1 or data[16] > 16:
-        raise Refusal(5, 128)
+        raise Refusal(5, 128, "c")
     if data[17] < 4 or data[17] > 8:
-        raise Refusal(5, 136)
+        raise Refusal(5, 136, "b")
     if data[18] < 2 or data[18] > 8:
-        raise Refusal(5, 144)
+        raise Refusal(5, 144, "k")
     if data[19] < 1:
-        raise Refusal(5, 152)
+        raise Refusal(5, 152, "straight step")
     if data[21] < 1:
-        raise Refusal(5, 168)
+        raise Refusal(5, 168, "N")
     if data[22] != 0 or data[23] != 0:
-        raise Refusal(5, 176)
+        raise Refusal(5, 176, "reserved")
     return Record(number_at(data, 96, 16), data[15], data[16], data[17],
                   data[18], data[19], data[20], data[21])
 
 
-def find_whole(data, at, size):
+def find_whole(data, at, size, what):
     """Number 6: what starts at byte `at` and has `size` bytes passes the end."""
     if at + size > len(data):
-        raise Refusal(6, 8 * at)
+        raise Refusal(6, 8 * at, what)
 
 
 def judge_view(data, at, record):
     """One view that starts at byte `at`; gives it and the byte after it."""
-    find_whole(data, at, VIEW_HEADER_BYTES)
+    find_whole(data, at, VIEW_HEADER_BYTES, "view header")
     number, position, impression, quality = data[at:at + 4]
     earlier = 0
     for view in record.views:
         if view.position == position:
             earlier += 1
     if number != earlier:
-        raise Refusal(7, 8 * at)
+        raise Refusal(7, 8 * at, "view number")
     if position > 10:
-        raise Refusal(7, 8 * (at + 1))
+        raise Refusal(7, 8 * (at + 1), "finger position")
     if impression not in IMPRESSIONS:
-        raise Refusal(7, 8 * (at + 2))
+        raise Refusal(7, 8 * (at + 2), "impression")
     if quality > 100:
-        raise Refusal(7, 8 * (at + 3))
+        raise Refusal(7, 8 * (at + 3), "quality")
     width = number_at(data, 8 * (at + 4), 16)
     height = number_at(data, 8 * (at + 6), 16)
     skeleton_length = number_at(data, 8 * (at + 8), 16)
     at += VIEW_HEADER_BYTES
 
-    find_whole(data, at, skeleton_length)
+    find_whole(data, at, skeleton_length, "skeleton block")
     lines = judge_skeleton(data, at, at + skeleton_length, record)
     at += skeleton_length
 
-    find_whole(data, at, 2)
+    find_whole(data, at, 2, "index length")
     index_length = number_at(data, 8 * at, 16)
     at += 2
-    find_whole(data, at, index_length)
+    find_whole(data, at, index_length, "index block")
     index = None
     if index_length > 0:
         index = judge_index(data, at, at + index_length, len(lines))
     at += index_length
 
-    find_whole(data, at, 2)
+    find_whole(data, at, 2, "extended length")
     extended_length = number_at(data, 8 * at, 16)
     at += 2
-    find_whole(data, at, extended_length)
+    find_whole(data, at, extended_length, "extended block")
     segments = judge_segments(data, at, at + extended_length)
     at += extended_length
 
@@ -112,12 +112,12 @@ def judge_skeleton(data, start, end, record):
     lines = []
     while end_bit - bit >= 8:
         if len(lines) == MOST_LINES:
-            raise Refusal(9, bit)
+            raise Refusal(9, bit, "bits left over")
         line, bit = judge_line(data, bit, end_bit, record)
         lines.append(line)
     one = first_one(data, bit, end_bit)
     if one is not None:
-        raise Refusal(8, one)
+        raise Refusal(8, one, "padding")
     return lines
 
 
@@ -126,11 +126,11 @@ def judge_line(data, first_bit, end_bit, record):
     c, b, k = record.c, record.b, record.k
     end_point_bits = 2 + b + c + c
     if first_bit + end_point_bits + 8 > end_bit:
-        raise Refusal(8, first_bit)
+        raise Refusal(8, first_bit, "line up to its count")
     count = number_at(data, first_bit + end_point_bits, 8)
     line_bits = end_point_bits + 8 + count * k + end_point_bits
     if first_bit + line_bits > end_bit:
-        raise Refusal(8, first_bit)
+        raise Refusal(8, first_bit, "line behind its count")
     start = read_end_point(data, first_bit, b, c)
     bit = first_bit + end_point_bits + 8
     codes = []
@@ -151,35 +151,51 @@ def judge_index(data, start, end, line_count):
     """Number 10 over an index block that is there; gives the Index."""
     w = data[start]
     if w < 1 or w > 16:
-        raise Refusal(10, 8 * start)
+        raise Refusal(10, 8 * start, "w")
     bit = 8 * (start + 1)
     end_bit = 8 * end
     neighbours = []
     for line in range(line_count):
         if bit + w > end_bit:
-            raise Refusal(10, bit)
+            raise Refusal(10, bit, "count past the end")
         count = number_at(data, bit, w)
         bit += w
         listed = []
         total = 0
         for place in range(count):
             if bit + w > end_bit:
-                raise Refusal(10, bit)
+                raise Refusal(10, bit, "difference past the end")
             difference = number_at(data, bit, w)
             if place > 0 and difference < 1:
-                raise Refusal(10, bit)
+                raise Refusal(10, bit, "later difference of 0")
             total += difference
             if total > line:
-                raise Refusal(10, bit)
+                raise Refusal(10, bit, "sum above the line")
             listed.append(line - total)
             bit += w
         neighbours.append(listed)
-    one = first_one(data, bit, end_bit)
-    if one is not None:
-        raise Refusal(10, one)
-    if end_bit - bit >= 8:
-        raise Refusal(10, bit + 7)
+    judge_leftover(data, bit, end_bit)
     return Index(w, neighbours)
+
+
+def judge_leftover(data, bit, end_bit):
+    """Number 10 over the bits behind the last list: 0 to 7, and all zero.
+
+    The first 1 is the place wherever it stands, also behind the eighth bit.
+    """
+    one = first_one(data, bit, end_bit)
+    eighth = bit + 7
+    if one is None:
+        if eighth < end_bit:
+            raise Refusal(10, eighth, "eighth bit")
+    elif eighth >= end_bit:
+        raise Refusal(10, one, "1 of up to 7 bits")
+    elif one < eighth:
+        raise Refusal(10, one, "1 before the eighth bit")
+    elif one == eighth:
+        raise Refusal(10, one, "1 at the eighth bit")
+    else:
+        raise Refusal(10, one, "1 behind the eighth bit")
 
 
 def judge_segments(data, start, end):
@@ -188,10 +204,12 @@ def judge_segments(data, start, end):
     at = start
     while at < end:
         if end - at < 4:
-            raise Refusal(11, 8 * at)
+            raise Refusal(11, 8 * at, "bytes over")
         length = number_at(data, 8 * (at + 2), 16)
-        if length < 4 or length > end - at:
-            raise Refusal(11, 8 * (at + 2))
+        if length < 4:
+            raise Refusal(11, 8 * (at + 2), "length under 4")
+        if length > end - at:
+            raise Refusal(11, 8 * (at + 2), "length past the block")
         segments.append(Segment(number_at(data, 8 * at, 16),
                                 bytes(data[at + 4:at + length]), 8 * (at + 4)))
         at += length

@@ -16,14 +16,37 @@ IDENTIFIER = bytes([0x46, 0x53, 0x4B, 0x00])
 VERSION = bytes([0x30, 0x31, 0x30, 0x00])
 IMPRESSIONS = (0, 1, 2, 3, 8, 9)
 
+# What can be at fault, for each number that request [1] gives a place.
+FAULTS = {
+    2: ("identifier",),
+    3: ("version",),
+    4: ("record length",),
+    5: ("views", "points", "c", "b", "k", "straight step", "N", "reserved"),
+    6: ("view header", "skeleton block", "index length", "index block",
+        "extended length", "extended block"),
+    7: ("view number", "finger position", "impression", "quality"),
+    8: ("line up to its count", "line behind its count", "padding"),
+    9: ("bits left over",),
+    10: ("w", "count past the end", "difference past the end",
+         "later difference of 0", "sum above the line", "1 of up to 7 bits",
+         "1 before the eighth bit", "1 at the eighth bit",
+         "1 behind the eighth bit", "eighth bit"),
+    11: ("length under 4", "length past the block", "bytes over"),
+    12: ("bytes after the last view",)}
+
 
 class Refusal(Exception):
-    """A refusal: its number, and the place that request [1] asks for."""
+    """A refusal: its number, and for 2 to 12 its place and what is at fault."""
 
-    def __init__(self, number, place=0):
-        super().__init__(number, place)
+    def __init__(self, number, place=0, fault=""):
+        super().__init__(number, place, fault)
+        if fault not in FAULTS.get(number, ("",)):
+            raise ValueError("%d has no fault %r" % (number, fault))
+        if number not in FAULTS and place != 0:
+            raise ValueError("%d has no place" % number)
         self.number = number
         self.place = place
+        self.fault = fault
 
 
 @dataclass

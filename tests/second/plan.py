@@ -104,7 +104,7 @@ def trail_stream(rng, stock, budget):
         for view in range(3):
             for line in range(4):
                 yield lend(rng, "trail", [view, line], [data])
-    for data in records(rng, stock, budget // 3, 0.75):
+    for data in records(rng, stock, budget * 2 // 5, 0.75):
         record = judged(data)
         if not isinstance(record, Record):
             yield lend(rng, "trail", [rng.randrange(3), rng.randrange(3)], [data])
@@ -120,7 +120,7 @@ def segment_stream(rng, stock, budget):
         for view in range(3):
             for segment in range(4):
                 yield lend(rng, "segment", [view, segment], [data])
-    for data in records(rng, stock, budget // 3, 0.75, 0.9):
+    for data in records(rng, stock, budget * 2 // 5, 0.75, 0.9):
         record = judged(data)
         if not isinstance(record, Record):
             yield lend(rng, "segment", [rng.randrange(3), 0], [data])
@@ -166,10 +166,12 @@ def holds_stream(rng, stock, _budget):
 
 
 def order_call_stream(call, orders, rng, stock, budget):
-    """One order's cases; the sequences among them use all chosen orders."""
+    """The edges, then one order's cases; their sequences use all chosen orders."""
+    for data in some_edges(rng, stock, budget * 2 // 5):
+        yield order_case(rng, call, data)
     segments = 0.15 if call == "remove" else 0.5
-    source = records(rng, stock, budget // 4, 0.75, segments)
-    return order_stream(rng, call, orders, source)
+    source = records(rng, stock, 0, 0.75, segments)
+    yield from order_stream(rng, call, orders, source)
 
 
 def streams(calls):

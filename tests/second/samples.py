@@ -1,7 +1,8 @@
-"""Document 01's samples P1 to P11 and its run-only samples, as assertions.
+"""Document 01's samples P1 to P11, its run-only samples, and places, as assertions.
 
 Run it alone; it prints one line when all hold. It shows that the second
-program reads document 01 as its own samples do, before it judges anything.
+program reads document 01 as its own samples do, and that every fault has the
+place worked out by hand, before it judges anything.
 """
 
 from dataclasses import replace
@@ -9,8 +10,9 @@ from dataclasses import replace
 from answers import lent, outcome
 from bits import signed
 from build import build, index_bytes, parts_of, put_together
+from faults import all_faults, base_bytes
 from judge import judge
-from model import Index, Line, Record, Refusal, Segment, View, least_width
+from model import FAULTS, Index, Line, Record, Refusal, Segment, View, least_width
 from sheet import to_sheet
 from trail import first_heading, trail
 
@@ -90,20 +92,20 @@ def proved_samples():
 
 def run_only_samples():
     """Quality, lines, c, record size at their limits; empty input."""
-    for quality, number in ((100, 0), (101, 7)):
+    for quality, found in ((100, (0, 0)), (101, (7, 8 * 27))):
         views = [View(0, 2, 0, quality, 0, 0)]
-        assert number_and_place(build(plain_record(views=views)))[0] == number
-    for lines, number in ((1024, 0), (1025, 9)):
+        assert number_and_place(build(plain_record(views=views))) == found
+    for lines, found in ((1024, (0, 0)), (1025, (9, 8 * 34 + 1024 * 60))):
         views = [View(0, 2, 0, 80, 0, 0, [plain_line() for _ in range(lines)])]
         parts = parts_of(plain_record(views=views))
-        assert number_and_place(put_together(parts))[0] == number
-    for c, number in ((16, 0), (17, 5)):
-        assert number_and_place(build(plain_record(c=c)))[0] == number
+        assert number_and_place(put_together(parts)) == found
+    for c, found in ((16, (0, 0)), (17, (5, 128))):
+        assert number_and_place(build(plain_record(c=c))) == found
     for size, number in ((32768, 0), (32769, 1)):
         views = [View(0, 2, 0, 80, 0, 0, [], None,
                       [Segment(1, bytes(size - 38 - 4))])]
         data = put_together(parts_of(plain_record(views=views)))
-        assert len(data) == size and number_and_place(data)[0] == number
+        assert len(data) == size and number_and_place(data) == (number, 0)
         if number == 1:
             sheet = to_sheet(plain_record(views=views))
             assert outcome("write", [], [sheet]).number == 19
@@ -117,7 +119,36 @@ def run_only_samples():
         assert (found.number, found.length) == (second, held)
 
 
+def places():
+    """Every fault has its place, in every call on a record; above 12 it is 0."""
+    assert number_and_place(base_bytes()) == (0, 0)
+    arguments = {"read": ([], []), "trail": ([0, 0], []), "segment": ([0, 0], []),
+                 "remove": ([0, 1], [bytes([0, 0])]), "join": ([1, 2, 0, 0], []),
+                 "part": ([1, 2, 1, 1], [])}
+    met = set()
+    for number, place, fault, data in all_faults():
+        met.add((number, fault))
+        for call, (numbers, more) in arguments.items():
+            found = outcome(call, numbers, [data] + more)
+            assert found.number == number, (found, number)
+            assert (found.place, found.fault) == (place, fault), (found, place)
+            assert found.length == 0 and found.written == b""
+    assert met == {(number, fault) for number in FAULTS for fault in FAULTS[number]}
+    for call, numbers, more, number in (
+            ("trail", [2, 0], [], 13), ("trail", [1, 2], [], 15),
+            ("segment", [2, 0], [], 13), ("segment", [1, 1], [], 23),
+            ("remove", [1, 1], [bytes([0, 0])], 14),
+            ("remove", [1, 2], [bytes([0, 0])], 16), ("join", [0, 1, 0, 0], [], 17),
+            ("join", [1, 2, 1, 0], [], 18), ("part", [1, 2, 0, 0], [], 18)):
+        found = outcome(call, numbers, [base_bytes()] + more)
+        assert (found.number, found.place) == (number, 0), found
+    found = outcome("segment", [1, 0], [base_bytes()])
+    assert (found.number, found.place, found.length) == (0, 8 * 83, 2)
+
+
 if __name__ == "__main__":
     proved_samples()
     run_only_samples()
-    print("samples: P1 to P11 and the run-only samples hold")
+    places()
+    print("samples: P1 to P11, the run-only samples and %d places hold"
+          % len(all_faults()))
