@@ -22,6 +22,9 @@ enum-known-views c = search needs
 enum-told : tie.Need-enum-told Inv-loop μ-loop
 enum-told c = search needs
 
+refused-at-requires : tie.Need-refused-at-requires Inv-loop μ-loop
+refused-at-requires c κs = search needs
+
 returns : tie.Need-returns Inv-loop μ-loop
 returns c = search needs
 
@@ -56,6 +59,7 @@ of-record-spec =
     judge-requires
     enum-known-views
     enum-told
+    refused-at-requires
     returns
     sheet-requires
     loop-holds
