@@ -25,7 +25,9 @@ extern "C" {
 /*
  * What a call answers.
  *   number  0: accepted. Anything else: refused, for the reason that the number names (below).
- *   place   0, but for an accepted fsk_segment.
+ *   place   number 2 to 12: the first bit of what is at fault, counted from the record's first bit. It is in byte place / 8, and
+ *           there it is bit place % 8, counted from the high end. It lies in the record or, at most, right behind its last bit.
+ *           An accepted fsk_segment: the payload's first bit, counted likewise. Else 0.
  *   length  accepted: how many elements were written to the output (what an element is, each call says). Refused: 0.
  * A refused call leaves the output as it was, to the byte. An accepted one leaves what lies beyond the written elements.
  */
@@ -36,7 +38,8 @@ typedef struct {
 } fsk_answer;
 
 /*
- * Why a call refuses. The numbers are fixed, and fsk_text gives these sentences.
+ * Why a call refuses, and, for 2 to 12, what the answer's place is. The numbers are fixed. fsk_text gives the sentence that says why,
+ * fsk_where the one about the place.
  *
  * A record is judged by 1 to 5, then view by view in the order of its bytes; the first fault found is the answer. A call that asks
  * for something, or orders something, judges the record first, then what is asked for or ordered, then the output. Of a sheet 21 is
@@ -45,18 +48,34 @@ typedef struct {
 enum {
     FSK_ACCEPTED = 0,       /* The call is accepted. */
     FSK_BAD_SIZE = 1,       /* The record has under 24 or over 32,768 bytes. */
-    FSK_BAD_IDENTIFIER = 2, /* The record does not start with the identifier 46 53 4B 00 (FSK). */
-    FSK_BAD_VERSION = 3,    /* The record's version is not 30 31 30 00 (010). */
-    FSK_BAD_LENGTH = 4,     /* The length that the record states is not the length lent. */
-    FSK_BAD_HEADER = 5,     /* Another field of the record's header is outside its range. */
-    FSK_PAST_END = 6,       /* A view header, a length field or a block passes the end of the record. */
+    FSK_BAD_IDENTIFIER = 2, /* The record does not start with the identifier 46 53 4B 00 (FSK).
+                               The place is the identifier's, bytes 0 to 3. */
+    FSK_BAD_VERSION = 3,    /* The record's version is not 30 31 30 00 (010).
+                               The place is the version's, bytes 4 to 7. */
+    FSK_BAD_LENGTH = 4,     /* The length that the record states is not the length lent.
+                               The place is the stated length's, bytes 8 to 11. */
+    FSK_BAD_HEADER = 5,     /* Another field of the record's header is outside its range.
+                               The place is the first such field's: byte 14 views, 15 points per cm, 16 bits of a coordinate (1-16),
+                               17 of a direction (4-8), 18 of a code (2-8), 19 straight step, 21 directions in a half turn, 22
+                               reserved. */
+    FSK_PAST_END = 6,       /* A view header, a length field or a block passes the end of the record.
+                               The place is the first bit of that header, length field or block, or the record's end where nothing is
+                               left. */
     FSK_BAD_VIEW = 7,       /* A value in a view header is not allowed: view number, finger position (0-10), impression (0-3, 8, 9)
-                               or quality (0-100). */
-    FSK_BAD_LINE = 8,       /* A line does not fit its block, or the bits that fill the block up are not zero. */
-    FSK_TOO_MANY_LINES = 9, /* A view has more than 1,024 lines. */
-    FSK_BAD_INDEX = 10,     /* A neighbour index breaks a rule. */
-    FSK_BAD_SEGMENT = 11,   /* A segment's length is under 4 or passes its block, or 1 to 3 bytes are left over. */
-    FSK_BYTES_OVER = 12,    /* There are bytes after the last view. */
+                               or quality (0-100).
+                               The place is the first such value's; a view header starts with the four in this order, a byte each. */
+    FSK_BAD_LINE = 8,       /* A line does not fit its block, or the bits that fill the block up are not zero.
+                               The place is the first bit of the line that does not fit, or the first filling bit that is 1. */
+    FSK_TOO_MANY_LINES = 9, /* A view has more than 1,024 lines.
+                               The place is the first bit behind the 1,024th line. */
+    FSK_BAD_INDEX = 10,     /* A neighbour index breaks a rule.
+                               The place is that of the width where it is not 1 to 16; else of the first count or difference that
+                               breaks a rule or passes the block's end; else it is the first bit left over that is 1, or else the
+                               eighth bit left over. */
+    FSK_BAD_SEGMENT = 11,   /* A segment's length is under 4 or passes its block, or 1 to 3 bytes are left over.
+                               The place is the first bit of the segment's length, or the first byte left over. */
+    FSK_BYTES_OVER = 12,    /* There are bytes after the last view.
+                               The place is the first byte after the last view. */
     FSK_NO_VIEW = 13,       /* The record has no view with that place. */
     FSK_OTHER_COUNT = 14,   /* The view has another number of lines than the order was made for. */
     FSK_BAD_LINES = 15,     /* A line number is not below the view's number of lines, or a removal list is empty, not rising or of
@@ -75,10 +94,11 @@ enum {
 
 /*
  * What a number means, and what to do about it: a sentence that is always there and never null, also for a number that no call
- * answers.
+ * answers. And what the place of an answer with this number is: empty, but never null, for a number that has no place.
  */
 const char *fsk_text(uint32_t number);
 const char *fsk_advice(uint32_t number);
+const char *fsk_where(uint32_t number);
 
 /*
  * The record as a SHEET: its fields one after another, each a tag (1 byte), a length (2 bytes) and a value. Numbers of more than

@@ -1,6 +1,12 @@
-// The header in C++: that it compiles and links there, with both kinds of answer, and that there are words for every number, also for
-// those that no call answers.
+// The header in C++: that it compiles and links there, with both kinds of answer, that there are words for every number, also for
+// those that no call answers, and that just 2 to 12 say what their place is.
 #include "fsk.h"
+
+static bool has_words(uint32_t number)
+{
+    const bool has_place = number >= 2 && number <= 12;
+    return *fsk_text(number) != '\0' && *fsk_advice(number) != '\0' && (*fsk_where(number) != '\0') == has_place;
+}
 
 int main()
 {
@@ -11,7 +17,7 @@ int main()
     if (held.second != 0 || held.length != sizeof old)
         return 1;
     for (uint32_t number = 0; number <= FSK_NUMBERS; number++)
-        if (*fsk_text(number) == '\0' || *fsk_advice(number) == '\0')
+        if (!has_words(number))
             return 1;
-    return *fsk_text(UINT32_MAX) == '\0' || *fsk_advice(UINT32_MAX) == '\0';
+    return !has_words(UINT32_MAX);
 }

@@ -7,9 +7,9 @@
 
 static const struct {
     int number;
-    const char *name, *text, *advice;
+    const char *name, *text, *advice, *where;
 } rows[] = {
-#define FSK_NUMBER(number, name, text, advice) {number, #name, text, advice},
+#define FSK_NUMBER(number, name, text, advice, where) {number, #name, text, advice, where},
 #include "numbers.def"
 #undef FSK_NUMBER
 };
@@ -22,10 +22,12 @@ int main(int count, char **arguments)
         return 2;
     }
     for (size_t i = 0; i < sizeof rows / sizeof *rows; i++) {
+        const char *space = *rows[i].where == '\0' ? "" : " ";
         if (enums)
-            printf("FSK_%s = %d, /* %s */\n", rows[i].name, rows[i].number, rows[i].text);
+            printf("FSK_%s = %d, /* %s%s%s */\n", rows[i].name, rows[i].number, rows[i].text, space, rows[i].where);
         else
-            printf(".TP\n.BR %d \" FSK_%s\"\n%s\n.br\n.I \"%s\"\n", rows[i].number, rows[i].name, rows[i].text, rows[i].advice);
+            printf(".TP\n.BR %d \" FSK_%s\"\n%s%s%s\n.br\n.I \"%s\"\n", rows[i].number, rows[i].name, rows[i].text, space,
+                   rows[i].where, rows[i].advice);
     }
     return 0;
 }

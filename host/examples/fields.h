@@ -1,6 +1,6 @@
 /*
- * What both examples need: a record from a file, and a walk over the fields of its sheet. A sheet that fsk_read gave is whole and in
- * order (fsk.h says in which), so the walk tests nothing.
+ * What both examples need: a record from a file, a walk over the fields of its sheet, and a refusal in words. A sheet that fsk_read
+ * gave is whole and in order (fsk.h says in which), so the walk tests nothing.
  */
 #ifndef FIELDS_H
 #define FIELDS_H
@@ -70,10 +70,16 @@ static inline long load(const char *file, uint8_t record[MOST_RECORD + 1])
     return length;
 }
 
-/* Says why a call refused and what can be done about it. */
-static inline void explain(uint32_t number)
+/* Says why a call refused, where in the record, if the number has a place, and what can be done about it. */
+static inline void explain(fsk_answer refusal)
 {
-    printf("refused, %u: %s\n    %s\n", (unsigned)number, fsk_text(number), fsk_advice(number));
+    const unsigned number = refusal.number, place = refusal.place;
+    const char *where = fsk_where(number);
+    if (*where == '\0')
+        printf("refused %u: %s\n", number, fsk_text(number));
+    else
+        printf("refused %u at byte %u, bit %u: %s\n    %s\n", number, place / 8, place % 8, fsk_text(number), where);
+    printf("    %s\n", fsk_advice(number));
 }
 
 #endif

@@ -40,7 +40,7 @@ static removal plan(uint32_t view, fields *left, size_t least_codes)
 }
 
 /* Runs the removal; which record holds then, fsk_holds says. */
-static uint32_t run(const removal *order, state *now)
+static fsk_answer run(const removal *order, state *now)
 {
     const fsk_answer removed = fsk_remove(now->record, now->length, order->view, order->count, order->lines, order->length,
                                           now->second, MOST_RECORD);
@@ -51,7 +51,7 @@ static uint32_t run(const removal *order, state *now)
         now->second = old;
     }
     now->length = held.length;
-    return removed.number;
+    return removed;
 }
 
 /* Runs the removal and says what came of it: whether it was accepted, and which record holds now. */
@@ -59,17 +59,17 @@ static uint32_t run_in_words(const char *when, const removal *order, state *now)
 {
     const size_t length = now->length;
     memcpy(before, now->record, length);
-    const uint32_t number = run(order, now);
+    const fsk_answer removed = run(order, now);
     printf("  %s: ", when);
-    if (number != FSK_ACCEPTED)
-        explain(number);
+    if (removed.number != FSK_ACCEPTED)
+        explain(removed);
     else
         puts("the lines are removed");
     if (now->length == length && memcmp(now->record, before, length) == 0)
         printf("    the record is as it was, %zu bytes\n", length);
     else
         printf("    a new record holds, %zu bytes instead of %zu\n", now->length, length);
-    return number;
+    return removed.number;
 }
 
 int main(int count, char **arguments)
@@ -86,7 +86,7 @@ int main(int count, char **arguments)
     state now = {buffers[0], buffers[1], (size_t)length};
     const fsk_answer read = fsk_read(now.record, now.length, sheet, sizeof sheet);
     if (read.number != FSK_ACCEPTED) {
-        explain(read.number);
+        explain(read);
         return 1;
     }
 

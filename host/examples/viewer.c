@@ -80,7 +80,7 @@ int main(int count, char **arguments)
         return 2;
     const fsk_answer read = fsk_read(record, (size_t)length, sheet, sizeof sheet);
     if (read.number != FSK_ACCEPTED) {
-        explain(read.number);
+        explain(read);
         return 1;
     }
     fields left = {sheet, sheet + read.length};
