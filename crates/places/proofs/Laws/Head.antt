@@ -4,11 +4,12 @@ use mathlib.Core.Path.{_≡_, sym, ap, _∙_}
 use Prim.Native.Nat.{ℕ, _+_, _^_, _≤_, _<_}
 use native.Mathlib.Omega.{arith}
 use mathlib.Core.Bool.{Bool, not}
-use mathlib.Core.Option.{some}
+use mathlib.Core.Option.{Option, none, some}
 use mathlib.Core.List.{_++_}
 use lib.ListN.{length, take}
 use lib.Dec.{T, leb, eqb}
 use lib.Seq.{take-all, take-append-add}
+use Rattle.bits.specs.Choice.{pick}
 use Rattle.bits.specs.ChoiceLaws.{pick-yes, pick-no, pick-split}
 use Rattle.bits.specs.Bits.{Bits, numberOfBits, bitsOfNumber}
 use Rattle.bits.specs.BitsLaws.{length-bits, number-bits}
@@ -41,32 +42,36 @@ first x y m u v f g e =
     let same : bitsOfNumber 8 x ≡ bitsOfNumber 8 y = append-front (bitsOfNumber 8 x) (bitsOfNumber 8 y) _ _ (l ∙ sym k) both in
     (sym (number-bits 8 x f) ∙ ap numberOfBits same ∙ number-bits 8 y g, append-rest (bitsOfNumber 8 x) (bitsOfNumber 8 y) _ _ (l ∙ sym k) both)
 
-module _ (earlier : ℕ → ℕ) where
+-- ---- four numbers, judged in their order by any tests, of which the first sees the second number too
+
+module _ (ta : ℕ → ℕ → Bool) (tb tc td : ℕ → Bool) where
+  abbrev firstFault : ℕ × (ℕ × (ℕ × ℕ)) → Option ℕ
+  firstFault (n, (p, (i, q))) = pick (ta n p) (pick (tb p) (pick (tc i) (pick (td q) none (some 24)) (some 16)) (some 8)) (some 0)
+
   -- where the fault is
   data Fault (n p i q : ℕ) : ℕ → Type 0 where
-    number : T (not (eqb n (earlier p))) → Fault n p i q 0
-    position : T (eqb n (earlier p)) → T (not (leb p 10)) → Fault n p i q 8
-    impression : T (eqb n (earlier p)) → T (leb p 10) → T (not (impressionOk i)) → Fault n p i q 16
-    quality : T (eqb n (earlier p)) → T (leb p 10) → T (impressionOk i) → T (not (leb q 100)) → Fault n p i q 24
+    number : T (not (ta n p)) → Fault n p i q 0
+    position : T (ta n p) → T (not (tb p)) → Fault n p i q 8
+    impression : T (ta n p) → T (tb p) → T (not (tc i)) → Fault n p i q 16
+    quality : T (ta n p) → T (tb p) → T (tc i) → T (not (td q)) → Fault n p i q 24
 
-  fault-of : (n p i q d : ℕ) → headFault earlier (n, (p, (i, q))) ≡ some d → Fault n p i q d
+  fault-of : (n p i q d : ℕ) → firstFault (n, (p, (i, q))) ≡ some d → Fault n p i q d
   fault-of n p i q d e =
-      pick-split (eqb n (earlier p)) _ _ e
-      (λ a e1. pick-split (leb p 10) _ _ e1
-      (λ b e2. pick-split (impressionOk i) _ _ e2
-      (λ c e3. pick-split (leb q 100) _ _ e3
+      pick-split (ta n p) _ _ e
+      (λ a e1. pick-split (tb p) _ _ e1
+      (λ b e2. pick-split (tc i) _ _ e2
+      (λ c e3. pick-split (td q) _ _ e3
       (λ f e4. let z : _≡_ {A = ℕ} 0 1 = cc in absurd (omega arith))
       (λ f e4. let z : 24 ≡ d = cc in rw (← z) (quality a b c f)))
       (λ c e3. let z : 16 ≡ d = cc in rw (← z) (impression a b c)))
       (λ b e2. let z : 8 ≡ d = cc in rw (← z) (position a b)))
       (λ a e1. let z : 0 ≡ d = cc in rw (← z) (number a))
 
-  fault-is : {n p i q d : ℕ} → Fault n p i q d → headFault earlier (n, (p, (i, q))) ≡ some d
-  fault-is {n} {p} {i} {q} (number a) = pick-no (eqb n (earlier p)) _ _ a
-  fault-is {n} {p} {i} {q} (position a b) = pick-yes (eqb n (earlier p)) _ _ a ∙ pick-no (leb p 10) _ _ b
-  fault-is {n} {p} {i} {q} (impression a b c) = pick-yes (eqb n (earlier p)) _ _ a ∙ pick-yes (leb p 10) _ _ b ∙ pick-no (impressionOk i) _ _ c
-  fault-is {n} {p} {i} {q} (quality a b c f) =
-      pick-yes (eqb n (earlier p)) _ _ a ∙ pick-yes (leb p 10) _ _ b ∙ pick-yes (impressionOk i) _ _ c ∙ pick-no (leb q 100) _ _ f
+  fault-is : {n p i q d : ℕ} → Fault n p i q d → firstFault (n, (p, (i, q))) ≡ some d
+  fault-is {n} {p} {i} {q} (number a) = pick-no (ta n p) _ _ a
+  fault-is {n} {p} {i} {q} (position a b) = pick-yes (ta n p) _ _ a ∙ pick-no (tb p) _ _ b
+  fault-is {n} {p} {i} {q} (impression a b c) = pick-yes (ta n p) _ _ a ∙ pick-yes (tb p) _ _ b ∙ pick-no (tc i) _ _ c
+  fault-is {n} {p} {i} {q} (quality a b c f) = pick-yes (ta n p) _ _ a ∙ pick-yes (tb p) _ _ b ∙ pick-yes (tc i) _ _ c ∙ pick-no (td q) _ _ f
 
   fault-near : {n p i q d : ℕ} → Fault n p i q d → d ≤ 32
   fault-near (number a) = omega arith
@@ -89,14 +94,17 @@ module _ (earlier : ℕ → ℕ) where
       let z : q ≡ k = sym (number-bits 8 q fq) ∙ ap numberOfBits u ∙ number-bits 8 k fk in
       quality a b (rw x at c) (rw z at f)
 
-  pub head-seen : Seen (four badView) badView 32 (headFault earlier)
+  first-seen : Seen (four badView) badView 32 firstFault
   unfolding reach
-  head-seen = record { near = λ a d e. fault-near (fault-of (a .0) (a .1 .0) (a .1 .1 .0) (a .1 .1 .1) d e); also = go }
+  first-seen = record { near = λ a d e. fault-near (fault-of (a .0) (a .1 .0) (a .1 .1 .0) (a .1 .1 .1) d e); also = go }
     where
-      go : (a b : ℕ × (ℕ × (ℕ × ℕ))) (d : ℕ) → four badView .Fits a → four badView .Fits b → headFault earlier a ≡ some d
-          → take (d + reach badView) (four badView .enc a) ≡ take (d + reach badView) (four badView .enc b) → headFault earlier b ≡ some d
+      go : (a b : ℕ × (ℕ × (ℕ × ℕ))) (d : ℕ) → four badView .Fits a → four badView .Fits b → firstFault a ≡ some d
+          → take (d + reach badView) (four badView .enc a) ≡ take (d + reach badView) (four badView .enc b) → firstFault b ≡ some d
       go (n, (p, (i, q))) (m, (o, (j, k))) d (fn, (fp, (fi, fq))) (fm, (fo, (fj, fk))) e same =
           let z : d + reach badView ≡ 8 + (8 + d) = omega arith in
           let (x, s) = first n m (8 + d) _ _ fn fm (rw z at same) in
           let (y, r) = first p o d _ _ fp fo s in
           rw (← x, ← y) (fault-is (fault-also j k fi fq fj fk (fault-of n p i q d e) r))
+
+pub head-seen : (earlier : ℕ → ℕ) → Seen (four badView) badView 32 (headFault earlier)
+head-seen earlier = first-seen (λ n p. eqb n (earlier p)) (λ p. leb p 10) impressionOk (λ q. leb q 100)
