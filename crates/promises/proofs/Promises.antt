@@ -1,6 +1,6 @@
 -- WHAT THE LIBRARY PROMISES, of every record, sheet and sequence of orders. Which numbers and places each call gives, and when it is
--- accepted, is promised in PromisesCalls beside it. Each promise is a statement; its proof is one citation. Every name in a statement leads to one
--- definition, and all of these stand in specs/:
+-- accepted, is promised in PromisesCalls beside it. Each promise is a statement; its proof is one citation. Every name in a statement
+-- leads to one definition, and all of these stand in specs/:
 --   bits/specs/Choice, Lists, Bits, Bytes   within; All, Along; Bits; Byte
 --   bits/specs/Codec           Codec.got, Codec.refused: what reading gives; enc, what is written
 --   outcome/specs/Refusals, Placed   otherCount, tooLong, badSheet, badValue; Placed
@@ -66,7 +66,7 @@ use Rattle.promises.proofs.Samples as ComputedSamples
 -- ---- DEMAND 1: every run of bytes gets a result; bad input is refused by a fixed number; a refusal writes nothing
 -- ("No number is given otherwise": the numbers of each call stand in PromisesCalls, and what their places show)
 
--- a record is refused by 1 to 12 and no other number, and 2 to 12 have a place: the bits left there are at most all
+-- a record is refused by 1 to 12 and no other number, at a place that the number can have: how much is left there is said, at most all
 pub record-refused : (bytes : List ℕ) (e left : ℕ) → read bytes ≡ Codec.refused e left
     → T (within 1 12 e) × (left ≤ 8 * length bytes) × Placed (8 * length bytes) e (8 * length bytes - left)
 record-refused = RecordRefusals.read-refuses
