@@ -1,8 +1,8 @@
 /*
  * The calls of fsk.h once more, written by hand in C and without proofs: what the library is
- * measured against. Signatures and answers are the host's, with the prefix plain_; the place of a
- * refusal is always 0. Behind the calls stands what the plain files share: numbers, limits and
- * tags, writers of bytes, a reader and a writer of fields, a block behind its length, the judge.
+ * measured against. Signatures and answers, the place of a refusal too, are the host's, with the
+ * prefix plain_. Behind the calls stands what the plain files share: numbers, limits and tags,
+ * writers of bytes, a reader and a writer of fields, a block behind its length, the judge.
  */
 #ifndef PLAIN_H
 #define PLAIN_H
@@ -69,8 +69,22 @@ enum {
 };
 
 /* Sizes: bytes, but for the last, which counts bits. */
-enum { HEADER = 24, VIEW_HEADER = 10, SEGMENT_HEADER = 4, COUNT_OF_CODES = 8 };
+enum {
+    HEADER = 24,
+    SCALE = 7,
+    VIEW_HEADER = 10,
+    VIEW_VALUES = 4,
+    SEGMENT_HEADER = 4,
+    COUNT_OF_CODES = 8
+};
 
+/* The answer of a call that wrote so many elements, or of a judge that refuses nothing: 0. */
+static inline fsk_answer plain_accepted(size_t length)
+{
+    return (fsk_answer){0, 0, length};
+}
+
+/* A refusal that has no place: 1, or above 12. */
 static inline fsk_answer plain_refused(uint32_t number)
 {
     return (fsk_answer){number, 0, 0};
@@ -217,15 +231,17 @@ typedef struct {
     plain_view view;
 } plain_record;
 
-/* Judges 1 to 12 and gives the number, 0 if the record is accepted. `record` then holds what is
- * said above; its view only if `wanted` is below the count of views. */
-uint32_t plain_judge(const uint8_t *bytes, size_t length, uint32_t wanted, plain_record *record);
+/* Judges 1 to 12 and gives the refusal, its place too; its number is 0 if the record is accepted.
+ * `record` then holds what is said above; its view only if `wanted` is below the count of views. */
+fsk_answer plain_judge(const uint8_t *bytes, size_t length, uint32_t wanted, plain_record *record);
 
-/* Record bytes 15 to 21, points per cm to N, are within their ranges. */
-int plain_is_scale(const uint8_t *bytes);
+/* Of record bytes 15 to 21, points per cm to N: how many stand before the first that is outside its
+ * range; SCALE if none is. */
+unsigned plain_right_scale(const uint8_t *bytes);
 
-/* A view header's values are allowed. `seen` counts the earlier views of each position; the view is
- * then counted too. */
-int plain_is_view_header(const uint8_t *header, uint8_t *seen);
+/* Of a view header's number, position, impression and quality: how many stand before the first that
+ * is not allowed; VIEW_VALUES if all are allowed. `seen` counts the earlier views of each position;
+ * the view is then counted too. */
+unsigned plain_right_values(const uint8_t *header, uint8_t *seen);
 
 #endif

@@ -1,6 +1,7 @@
 /*
  * Judges a record, refusals 1 to 12 in document 01's order, and adds up the length of its sheet on
- * the way. Every plain call starts here; none looks at a byte that was not judged.
+ * the way. Every plain call starts here; none looks at a byte that was not judged. Nothing is done
+ * for the place of a refusal before something is refused.
  */
 #include <string.h>
 
@@ -16,39 +17,65 @@ enum {
     SHEET_SEGMENT = 3 + 2
 };
 
-int plain_is_scale(const uint8_t *bytes)
+/* The refusal for what stands `bit` bits behind the byte at `from`. */
+static fsk_answer refused_at(const plain_record *record, uint32_t number, const uint8_t *from,
+                             size_t bit)
+{
+    return (fsk_answer){number, (uint32_t)(8 * (size_t)(from - record->bytes) + bit), 0};
+}
+
+unsigned plain_right_scale(const uint8_t *bytes)
 {
     const unsigned points = bytes[0], c = bytes[1], b = bytes[2], k = bytes[3];
     const unsigned step = bytes[4], half_turn = bytes[6];
-    return points >= 1 && c >= 1 && c <= 16 && b >= 4 && b <= 8 && k >= 2 && k <= 8 && step >= 1
-        && half_turn >= 1;
+    if (points < 1)
+        return 0;
+    if (c < 1 || c > 16)
+        return 1;
+    if (b < 4 || b > 8)
+        return 2;
+    if (k < 2 || k > 8)
+        return 3;
+    if (step < 1)
+        return 4;
+    return half_turn < 1 ? 6 : SCALE;
 }
 
-static uint32_t judge_header(const uint8_t *bytes, size_t length)
+static fsk_answer judge_header(const plain_record *record, size_t length)
 {
+    const uint8_t *bytes = record->bytes;
+    unsigned right;
     if (length < HEADER || length > LARGEST_RECORD)
-        return BAD_SIZE;
+        return plain_refused(BAD_SIZE);
     if (memcmp(bytes, "FSK", 4) != 0)
-        return BAD_IDENTIFIER;
+        return refused_at(record, BAD_IDENTIFIER, bytes, 0);
     if (memcmp(bytes + 4, "010", 4) != 0)
-        return BAD_VERSION;
+        return refused_at(record, BAD_VERSION, bytes + 4, 0);
     if (plain_two_bytes(bytes + 8) != 0 || plain_two_bytes(bytes + 10) != length)
-        return BAD_LENGTH;
-    if (bytes[14] < 1 || !plain_is_scale(bytes + 15) || plain_two_bytes(bytes + 22) != 0)
-        return BAD_HEADER;
-    return 0;
+        return refused_at(record, BAD_LENGTH, bytes + 8, 0);
+    if (bytes[14] < 1)
+        return refused_at(record, BAD_HEADER, bytes + 14, 0);
+    if ((right = plain_right_scale(bytes + 15)) < SCALE)
+        return refused_at(record, BAD_HEADER, bytes + 15 + right, 0);
+    if (plain_two_bytes(bytes + 22) != 0)
+        return refused_at(record, BAD_HEADER, bytes + 22, 0);
+    return plain_accepted(0);
 }
 
-int plain_is_view_header(const uint8_t *header, uint8_t *seen)
+unsigned plain_right_values(const uint8_t *header, uint8_t *seen)
 {
     const unsigned number = header[0], position = header[1];
     const unsigned impression = header[2], quality = header[3];
-    if (position >= POSITIONS || number != seen[position])
+    if (number != (position < POSITIONS ? seen[position] : 0))
         return 0;
-    if ((impression > 3 && impression != 8 && impression != 9) || quality > 100)
-        return 0;
+    if (position >= POSITIONS)
+        return 1;
+    if (impression > 3 && impression != 8 && impression != 9)
+        return 2;
+    if (quality > 100)
+        return 3;
     seen[position]++;
-    return 1;
+    return VIEW_VALUES;
 }
 
 /* The last `left` bits of a block, 0 to 7, are zero. */
@@ -57,7 +84,17 @@ static int is_padding(plain_block block, size_t left)
     return left == 0 || (plain_block_end(block)[-1] & ((1u << left) - 1)) == 0;
 }
 
-static uint32_t judge_skeleton(plain_record *record, plain_view *view)
+/* The first of the last `left` bits of a block that is 1; the eighth of them if none is. */
+static size_t bad_padding(plain_block block, size_t left)
+{
+    const size_t first = 8 * block.length - left;
+    for (size_t bit = first; bit < 8 * block.length; bit++)
+        if ((block.bytes[bit / 8] >> (7 - bit % 8) & 1) != 0)
+            return bit;
+    return first + 7;
+}
+
+static fsk_answer judge_skeleton(plain_record *record, plain_view *view)
 {
     const unsigned end_bits = record->end_bits, k = record->k;
     const uint8_t *bytes = view->skeleton.bytes;
@@ -68,126 +105,133 @@ static uint32_t judge_skeleton(plain_record *record, plain_view *view)
         size_t line_bits = 2 * end_bits + COUNT_OF_CODES;
         uint32_t codes;
         if (lines == MOST_LINES)
-            return TOO_MANY_LINES;
+            return refused_at(record, TOO_MANY_LINES, bytes, bit);
         if (bits - bit < line_bits)
-            return BAD_LINE;
+            return refused_at(record, BAD_LINE, bytes, bit);
         codes = plain_codes(bytes, bit, end_bits);
         line_bits += codes * k;
         if (bits - bit < line_bits)
-            return BAD_LINE;
+            return refused_at(record, BAD_LINE, bytes, bit);
         bit += line_bits;
         sheet_length += SHEET_LINE + codes;
         lines++;
     }
     if (!is_padding(view->skeleton, bits - bit))
-        return BAD_LINE;
+        return refused_at(record, BAD_LINE, bytes, bad_padding(view->skeleton, bits - bit));
     record->sheet_length += sheet_length;
     view->lines = lines;
-    return 0;
+    return plain_accepted(0);
 }
 
-/* One line's `count` differences of w bits: only the first may be 0, their sum at most the line. */
-static int are_differences(plain_reader *reader, unsigned w, uint32_t count, uint32_t line)
+/* One line's `count` differences of w bits: only the first may be 0, their sum at most the line.
+ * How many stand before the first that breaks this; `count` if none does. */
+static uint32_t right_differences(plain_reader *reader, unsigned w, uint32_t count, uint32_t line)
 {
     uint32_t sum = 0;
     for (uint32_t i = 0; i < count; i++) {
         const uint32_t difference = plain_take(reader, w);
         sum += difference;
         if (sum > line || (difference == 0 && i > 0))
-            return 0;
+            return i;
     }
-    return 1;
+    return count;
 }
 
-static uint32_t judge_index(plain_record *record, const plain_view *view)
+static fsk_answer judge_index(plain_record *record, const plain_view *view)
 {
-    plain_reader reader = plain_reader_at(view->index.bytes, 0);
-    size_t left = 8 * view->index.length, entries = 0; /* left: bits */
+    const uint8_t *bytes = view->index.bytes;
+    const size_t bits = 8 * view->index.length;
+    plain_reader reader = plain_reader_at(bytes, 0);
+    size_t left = bits, entries = 0; /* left: bits */
     unsigned w;
-    if (left == 0)
-        return 0;
+    if (bits == 0)
+        return plain_accepted(0);
     w = plain_take(&reader, 8);
     left -= 8;
     if (w < 1 || w > 16)
-        return BAD_INDEX;
+        return refused_at(record, BAD_INDEX, bytes, 0);
     for (uint32_t line = 0; line < view->lines; line++) {
-        uint32_t count;
+        uint32_t count, whole, right; /* whole: the differences that do not pass the end */
         if (left < w)
-            return BAD_INDEX;
+            return refused_at(record, BAD_INDEX, bytes, bits - left);
         count = plain_take(&reader, w);
         left -= w;
-        if (left < (size_t)count * w || !are_differences(&reader, w, count, line))
-            return BAD_INDEX;
+        whole = left < (size_t)count * w ? (uint32_t)(left / w) : count;
+        right = right_differences(&reader, w, whole, line);
+        if (right < count)
+            return refused_at(record, BAD_INDEX, bytes, bits - left + (size_t)right * w);
         left -= (size_t)count * w;
         entries += count;
     }
     if (left >= 8 || !is_padding(view->index, left))
-        return BAD_INDEX;
+        return refused_at(record, BAD_INDEX, bytes, bad_padding(view->index, left));
     record->sheet_length += SHEET_INDEX + (size_t)SHEET_LIST * view->lines + 2 * entries;
-    return 0;
+    return plain_accepted(0);
 }
 
-static uint32_t judge_segments(plain_record *record, const plain_view *view)
+static fsk_answer judge_segments(plain_record *record, const plain_view *view)
 {
     const uint8_t *at = view->extended.bytes;
     size_t left = view->extended.length;
     while (left > 0) {
         size_t length;
         if (left < SEGMENT_HEADER)
-            return BAD_SEGMENT;
+            return refused_at(record, BAD_SEGMENT, at, 0);
         length = plain_two_bytes(at + 2);
         if (length < SEGMENT_HEADER || length > left)
-            return BAD_SEGMENT;
+            return refused_at(record, BAD_SEGMENT, at + 2, 0);
         record->sheet_length += SHEET_SEGMENT + length - SEGMENT_HEADER;
         at += length;
         left -= length;
     }
-    return 0;
+    return plain_accepted(0);
 }
 
 /* The length field at *at and the block behind it, each found whole; *at moves on behind them. */
-static uint32_t find_block(const plain_record *record, const uint8_t **at, plain_block *block)
+static inline fsk_answer find_block(const plain_record *record, const uint8_t **at,
+                                    plain_block *block)
 {
     if (record->end - *at < 2)
-        return PAST_END;
+        return refused_at(record, PAST_END, *at, 0);
     *block = plain_block_at(*at);
     if ((size_t)(record->end - block->bytes) < block->length)
-        return PAST_END;
+        return refused_at(record, PAST_END, block->bytes, 0);
     *at = plain_block_end(*block);
-    return 0;
+    return plain_accepted(0);
 }
 
-static uint32_t judge_view(plain_record *record, const uint8_t **at, uint8_t *seen,
-                           plain_view *view)
+static fsk_answer judge_view(plain_record *record, const uint8_t **at, uint8_t *seen,
+                             plain_view *view)
 {
-    uint32_t number;
+    fsk_answer refusal;
+    unsigned right;
     if (record->end - *at < VIEW_HEADER)
-        return PAST_END;
-    if (!plain_is_view_header(*at, seen))
-        return BAD_VIEW;
+        return refused_at(record, PAST_END, *at, 0);
+    if ((right = plain_right_values(*at, seen)) < VIEW_VALUES)
+        return refused_at(record, BAD_VIEW, *at + right, 0);
     record->sheet_length += SHEET_VIEW;
     *at += VIEW_HEADER - 2; /* its last field is the skeleton's length */
-    if ((number = find_block(record, at, &view->skeleton)) != 0)
-        return number;
-    if ((number = judge_skeleton(record, view)) != 0)
-        return number;
-    if ((number = find_block(record, at, &view->index)) != 0)
-        return number;
-    if ((number = judge_index(record, view)) != 0)
-        return number;
-    if ((number = find_block(record, at, &view->extended)) != 0)
-        return number;
+    if ((refusal = find_block(record, at, &view->skeleton)).number != 0)
+        return refusal;
+    if ((refusal = judge_skeleton(record, view)).number != 0)
+        return refusal;
+    if ((refusal = find_block(record, at, &view->index)).number != 0)
+        return refusal;
+    if ((refusal = judge_index(record, view)).number != 0)
+        return refusal;
+    if ((refusal = find_block(record, at, &view->extended)).number != 0)
+        return refusal;
     return judge_segments(record, view);
 }
 
-uint32_t plain_judge(const uint8_t *bytes, size_t length, uint32_t wanted, plain_record *record)
+fsk_answer plain_judge(const uint8_t *bytes, size_t length, uint32_t wanted, plain_record *record)
 {
     uint8_t seen[POSITIONS] = {0};
     const uint8_t *at;
-    uint32_t number = judge_header(bytes, length);
-    if (number != 0)
-        return number;
+    fsk_answer refusal;
     record->bytes = bytes;
+    if ((refusal = judge_header(record, length)).number != 0)
+        return refusal;
     record->end = bytes + length;
     record->views = bytes[14];
     record->c = bytes[16];
@@ -198,10 +242,10 @@ uint32_t plain_judge(const uint8_t *bytes, size_t length, uint32_t wanted, plain
     at = bytes + HEADER;
     for (uint32_t place = 0; place < record->views; place++) {
         plain_view view;
-        if ((number = judge_view(record, &at, seen, &view)) != 0)
-            return number;
+        if ((refusal = judge_view(record, &at, seen, &view)).number != 0)
+            return refusal;
         if (place == wanted)
             record->view = view;
     }
-    return at == record->end ? 0 : BYTES_OVER;
+    return at == record->end ? plain_accepted(0) : refused_at(record, BYTES_OVER, at, 0);
 }

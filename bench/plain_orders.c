@@ -11,23 +11,23 @@
 /* ---- what every order does ---- */
 
 /* 1 to 12, 13 and 14. */
-static uint32_t judge_order(const uint8_t *bytes, size_t length, uint32_t view, uint32_t count,
-                            plain_record *record)
+static fsk_answer judge_order(const uint8_t *bytes, size_t length, uint32_t view, uint32_t count,
+                              plain_record *record)
 {
-    const uint32_t number = plain_judge(bytes, length, view, record);
-    if (number != 0)
-        return number;
+    const fsk_answer refusal = plain_judge(bytes, length, view, record);
+    if (refusal.number != 0)
+        return refusal;
     if (view >= record->views)
-        return NO_VIEW;
-    return count == record->view.lines ? 0 : OTHER_COUNT;
+        return plain_refused(NO_VIEW);
+    return count == record->view.lines ? plain_accepted(0) : plain_refused(OTHER_COUNT);
 }
 
 /* 19 and 20, of a new record with this length. */
-static uint32_t judge_length(size_t length, size_t room)
+static fsk_answer judge_length(size_t length, size_t room)
 {
     if (length > LARGEST_RECORD)
-        return TOO_LONG;
-    return length > room ? NO_ROOM : 0;
+        return plain_refused(TOO_LONG);
+    return length > room ? plain_refused(NO_ROOM) : plain_accepted(0);
 }
 
 /* The numbers of an index, counts and differences alike: how many there are, and every bit that one
@@ -256,9 +256,9 @@ fsk_answer plain_remove(const uint8_t *record, size_t record_length, uint32_t vi
     survivors kept;
     tally all = {0, 0};
     size_t skeleton, index = 0, length;
-    uint32_t number = judge_order(record, record_length, view, count, &judged);
-    if (number != 0)
-        return plain_refused(number);
+    fsk_answer refusal = judge_order(record, record_length, view, count, &judged);
+    if (refusal.number != 0)
+        return refusal;
     if (!take_out(&kept, lines, lines_length, count))
         return plain_refused(NO_LINE);
     if (old->extended.length > 0)
@@ -269,8 +269,8 @@ fsk_answer plain_remove(const uint8_t *record, size_t record_length, uint32_t vi
         index = index_length(all);
     }
     length = record_length - old->skeleton.length - old->index.length + skeleton + index;
-    if ((number = judge_length(length, out_length)) != 0)
-        return plain_refused(number);
+    if ((refusal = judge_length(length, out_length)).number != 0)
+        return refusal;
     out = put_before(out, &judged, old->skeleton.bytes - 2, length);
     out = plain_put_two_bytes(out, (uint32_t)skeleton);
     out = put_kept_skeleton(out, &judged, &kept);
@@ -278,7 +278,7 @@ fsk_answer plain_remove(const uint8_t *record, size_t record_length, uint32_t vi
     if (index > 0)
         out = put_kept_index(out, old, &kept, least_width(all));
     put_behind(out, &judged, plain_block_end(old->index));
-    return (fsk_answer){0, 0, length};
+    return plain_accepted(length);
 }
 
 /* ---- join and part ---- */
@@ -404,9 +404,9 @@ static fsk_answer change_pair(pair_order order, const uint8_t *record, size_t re
     change by;
     tally all = {0, 0};
     size_t index, length;
-    uint32_t number = judge_order(record, record_length, view, count, &judged);
-    if (number != 0)
-        return plain_refused(number);
+    fsk_answer refusal = judge_order(record, record_length, view, count, &judged);
+    if (refusal.number != 0)
+        return refusal;
     if (old->length == 0)
         return plain_refused(NO_INDEX);
     if (higher >= count)
@@ -415,13 +415,13 @@ static fsk_answer change_pair(pair_order order, const uint8_t *record, size_t re
         return plain_refused(WRONG_PAIR);
     index = index_length(all);
     length = record_length - old->length + index;
-    if ((number = judge_length(length, out_length)) != 0)
-        return plain_refused(number);
+    if ((refusal = judge_length(length, out_length)).number != 0)
+        return refusal;
     out = put_before(out, &judged, old->bytes - 2, length);
     out = plain_put_two_bytes(out, (uint32_t)index);
     out = put_changed_index(out, *old, &by, least_width(all));
     put_behind(out, &judged, plain_block_end(*old));
-    return (fsk_answer){0, 0, length};
+    return plain_accepted(length);
 }
 
 fsk_answer plain_join(const uint8_t *record, size_t record_length, uint32_t view, uint32_t count,

@@ -109,11 +109,11 @@ fsk_answer plain_read(const uint8_t *record, size_t record_length, uint8_t *shee
                       size_t sheet_length)
 {
     plain_record judged;
-    const uint32_t number = plain_judge(record, record_length, 0, &judged);
-    if (number != 0)
-        return plain_refused(number);
+    const fsk_answer refusal = plain_judge(record, record_length, 0, &judged);
+    if (refusal.number != 0)
+        return refusal;
     if (judged.sheet_length > sheet_length)
         return plain_refused(NO_ROOM);
     put_sheet(sheet, &judged);
-    return (fsk_answer){0, 0, judged.sheet_length};
+    return plain_accepted(judged.sheet_length);
 }

@@ -69,9 +69,9 @@ fsk_answer plain_trail(const uint8_t *record, size_t record_length, uint32_t vie
     const size_t room = trail_length / 2;
     plain_record judged;
     line_codes codes;
-    const uint32_t number = plain_judge(record, record_length, view, &judged);
-    if (number != 0)
-        return plain_refused(number);
+    const fsk_answer refusal = plain_judge(record, record_length, view, &judged);
+    if (refusal.number != 0)
+        return refusal;
     if (view >= judged.views)
         return plain_refused(NO_VIEW);
     if (line >= judged.view.lines)
@@ -80,7 +80,7 @@ fsk_answer plain_trail(const uint8_t *record, size_t record_length, uint32_t vie
     /* Level turns need no room: they are counted only where the codes might not fit. */
     if (codes.count > room && drawn(codes, judged.k) > room)
         return plain_refused(NO_ROOM);
-    return (fsk_answer){0, 0, put_trail(trail, codes, &judged)};
+    return plain_accepted(put_trail(trail, codes, &judged));
 }
 
 fsk_answer plain_segment(const uint8_t *record, size_t record_length, uint32_t view,
@@ -88,9 +88,9 @@ fsk_answer plain_segment(const uint8_t *record, size_t record_length, uint32_t v
 {
     plain_record judged;
     const uint8_t *at, *end;
-    const uint32_t number = plain_judge(record, record_length, view, &judged);
-    if (number != 0)
-        return plain_refused(number);
+    const fsk_answer refusal = plain_judge(record, record_length, view, &judged);
+    if (refusal.number != 0)
+        return refusal;
     if (view >= judged.views)
         return plain_refused(NO_VIEW);
     at = judged.view.extended.bytes;

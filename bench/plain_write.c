@@ -188,7 +188,9 @@ static int judge_index(fields *rest, judged_sheet *sheet)
 
 static int judge_view(fields *rest, judged_sheet *sheet, uint8_t *seen)
 {
-    if (!plain_is_view_header(take_value(rest).bytes, seen) || !judge_lines(rest, sheet))
+    if (plain_right_values(take_value(rest).bytes, seen) < VIEW_VALUES)
+        return 0;
+    if (!judge_lines(rest, sheet))
         return 0;
     if (next_is(rest, TAG_INDEX) && !judge_index(rest, sheet))
         return 0;
@@ -202,7 +204,7 @@ static int judge_values(fields rest, judged_sheet *sheet)
 {
     uint8_t seen[POSITIONS] = {0};
     const uint8_t *scale = take_value(&rest).bytes + 2;
-    if (!plain_is_scale(scale))
+    if (plain_right_scale(scale) < SCALE)
         return 0;
     sheet->c = scale[1];
     sheet->b = scale[2];
@@ -335,5 +337,5 @@ fsk_answer plain_write(const uint8_t *sheet, size_t sheet_length, uint8_t *recor
     if (judged.record_length > record_length)
         return plain_refused(NO_ROOM);
     put_record(record, all, &judged);
-    return (fsk_answer){0, 0, judged.record_length};
+    return plain_accepted(judged.record_length);
 }
