@@ -3,8 +3,6 @@
  * the way. Every plain call starts here; none looks at a byte that was not judged. Nothing is done
  * for the place of a refusal before something is refused.
  */
-#include <string.h>
-
 #include "plain.h"
 
 /* Bytes of the sheet's fields, tag and length included, without what comes in varying number. */
