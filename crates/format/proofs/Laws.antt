@@ -4,4 +4,3 @@ pub mod Record
 pub mod Call
 pub mod Refuses
 pub mod Numbers
-pub mod Placed

@@ -5,15 +5,15 @@ use mathlib.Core.Logic.{_≢_}
 use Prim.Native.Nat.{ℕ, _≤_}
 use mathlib.Core.Bool.{Bool, true, false, not, _||_}
 use mathlib.Core.List.{List, _∷_}
-use lib.ListN.{length}
-use lib.Dec.{T, leb, eqb}
+use lib.Dec.{T, eqb}
 use mir.Facts.{T-not}
 use Rattle.bits.specs.Choice.{within}
-use Rattle.bits.specs.ChoiceLaws.{within-yes, pick-case}
+use Rattle.bits.specs.ChoiceLaws.{within-yes}
 use Rattle.outcome.specs.Refusals.{noRoom}
 use Rattle.outcome.specs.Numbers.{among, Gives}
 use Rattle.outcome.specs.Outcome.{Outcome, refused, given, room, numberOf, AnswersAs, told}
 use Rattle.outcome.specs.declared.Answer.{Answer}
+use Rattle.outcome.proofs.Refused.{Refused, room-refused}
 
 or-first : (a b : Bool) → T a → T (a || b)
 or-first true b t = tt
@@ -29,23 +29,20 @@ among-first low high ranges n l h = or-first (within low high n) _ (within-yes l
 
 -- every refusal has one of the numbers
 abbrev pub RefusedBy : {A : Type 0} → List (ℕ × ℕ) → Outcome A → Type 0
-RefusedBy ranges (refused e p) = T (among ranges e)
-RefusedBy ranges (given xs) = Unit {0}
+RefusedBy ranges o = Refused (λ e p. T (among ranges e)) o
 
 module _ (ranges : List (ℕ × ℕ)) where
   gives : {A : Type 0} (o : Outcome A) → RefusedBy ranges o → Gives ranges (numberOf o)
   gives (refused e p) h = or-second (eqb e 0) _ h
   gives (given xs) h = tt
 
-  -- 20 comes with the room
-  pub room-refused : {A : Type 0} → T (among ranges noRoom) → (n : ℕ) (o : Outcome A) → RefusedBy ranges o → RefusedBy ranges (room n o)
-  room-refused t n (refused e p) h = h
-  room-refused t n (given xs) h = pick-case (RefusedBy ranges) (leb (length xs) n) _ _ (λ u. tt) (λ u. t)
+  pub room-by : {A : Type 0} → T (among ranges noRoom) → (n : ℕ) (o : Outcome A) → RefusedBy ranges o → RefusedBy ranges (room n o)
+  room-by t n o h = room-refused (λ e p. T (among ranges e)) t n o h
 
   -- a call that writes
   pub answer-number : {A B : Type 0} {form : List A → List B} {lent : ℕ} {o : Outcome A} {before after : List B} {a : Answer}
       → T (among ranges noRoom) → RefusedBy ranges o → AnswersAs form lent o before after a → Gives ranges (a .number)
-  answer-number {lent = lent} {o = o} t h k = rw (k .number) (gives (room lent o) (room-refused t lent o h))
+  answer-number {lent = lent} {o = o} t h k = rw (k .number) (gives (room lent o) (room-by t lent o h))
 
   -- a call that says where something stands
   pub told-number : {A : Type 0} (p : ℕ) (o : Outcome A) → RefusedBy ranges o → Gives ranges (told p o .number)

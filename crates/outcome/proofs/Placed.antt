@@ -5,39 +5,27 @@ use mathlib.Core.Logic.{_≢_}
 use Prim.Native.Nat.{ℕ}
 use native.Mathlib.Omega.{arith}
 use mathlib.Core.List.{List}
-use lib.ListN.{length}
 use lib.Dec.{T, leb, eqb, le→leb}
 use Rattle.bits.specs.Choice.{within}
 use Rattle.bits.specs.ChoiceLaws.{pick-case}
-use Rattle.outcome.specs.Outcome.{Outcome, refused, given, room, numberOf, placeOf, AnswersAs, told}
+use Rattle.outcome.specs.Outcome.{Outcome, refused, given, room, AnswersAs, told}
 use Rattle.outcome.specs.Placed.{Placed}
 use Rattle.outcome.specs.declared.Answer.{Answer}
+use Rattle.outcome.proofs.Refused.{Refused, room-refused, refused-shown}
 
 -- every number can have the place 0
 pub no-place : (bits number : ℕ) → Placed bits number 0
 no-place bits number = pick-case T (within 2 12 number) (leb 0 bits) (eqb 0 0) (λ t. le→leb 0 bits (omega arith)) (λ t. tt)
 
--- every refusal has a place that its number can have
-abbrev pub RefusedIn : {A : Type 0} → ℕ → Outcome A → Type 0
-RefusedIn bits (refused e p) = Placed bits e p
-RefusedIn bits (given xs) = Unit {0}
-
 module _ (bits : ℕ) where
-  placed : {A : Type 0} (o : Outcome A) → RefusedIn bits o → Placed bits (numberOf o) (placeOf o)
-  placed (refused e p) h = h
-  placed (given xs) h = tt
-
-  -- 20 has no place
-  room-placed : {A : Type 0} (n : ℕ) (o : Outcome A) → RefusedIn bits o → RefusedIn bits (room n o)
-  room-placed n (refused e p) h = h
-  room-placed n (given xs) h = pick-case (RefusedIn bits) (leb (length xs) n) _ _ (λ t. tt) (λ t. tt)
-
   -- a call that writes
   pub answer-place : {A B : Type 0} {form : List A → List B} {lent : ℕ} {o : Outcome A} {before after : List B} {a : Answer}
-      → RefusedIn bits o → AnswersAs form lent o before after a → Placed bits (a .number) (a .place)
-  answer-place {lent = lent} {o = o} h k = rw (k .number, k .place) (placed (room lent o) (room-placed lent o h))
+      → Refused (Placed bits) o → AnswersAs form lent o before after a → Placed bits (a .number) (a .place)
+  answer-place {lent = lent} {o = o} h k =
+      rw (k .number, k .place) (refused-shown (Placed bits) tt (room lent o) (room-refused (Placed bits) tt lent o h))
 
   -- a call that says where something stands, where it is refused
-  pub told-place : {A : Type 0} (p : ℕ) (o : Outcome A) → RefusedIn bits o → told p o .number ≢ 0 → Placed bits (told p o .number) (told p o .place)
+  pub told-place : {A : Type 0} (p : ℕ) (o : Outcome A) → Refused (Placed bits) o → told p o .number ≢ 0
+      → Placed bits (told p o .number) (told p o .place)
   told-place p (refused e q) h n = h
   told-place p (given xs) h n = absurd (n refl)

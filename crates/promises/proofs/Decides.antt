@@ -19,7 +19,7 @@ use Rattle.sheet.specs.Sheet.{sheetOf, reading}
 use Rattle.trail.specs.Trail.{trailIn, trailing}
 use Rattle.segment.specs.Segment.{payloadIn, payload, firstBitRead, segmentAnswer}
 use Rattle.orders.specs.Order.{Order, verdict, ordered, order}
-use Rattle.orders.proofs.Laws.Numbers.{verdict-own}
+use Rattle.orders.proofs.Laws.Numbers.{verdict-above}
 
 -- a call on a view
 view-alike : {A : Type 0} (view : ℕ) (f : ℕ → Record → Outcome A) → ((r : Record) → Own (f view r)) → (a b : List ℕ) {x y : Answer}
@@ -50,5 +50,5 @@ pub order-decided : (o : Order) (a b : List ℕ) {before after before₂ after�
     → Answers (order o b) before₂ after₂ y → T (within 2 12 (x .number)) → Agree (x .place + reach (x .number)) a b → AnsweredAlike x y
 unfolding order
 order-decided o a b h k =
-    view-alike (o .view) (λ i. ordered o) (λ r. pick-case Own (eqb (verdict o r) 0) _ _ (λ t. tt) (λ t. verdict-own o r (eqb-no t))) a b
+    view-alike (o .view) (λ i. ordered o) (λ r. pick-case Own (eqb (verdict o r) 0) _ _ (λ t. tt) (λ t. verdict-above o r (eqb-no t))) a b
     (answer-shows h) (answer-shows k)

@@ -12,19 +12,20 @@ use Rattle.bits.specs.Codec as C
 use Rattle.outcome.specs.Outcome.{Outcome, given, room, placeOf, AnswersAs, Answers}
 use Rattle.outcome.specs.Placed.{Placed}
 use Rattle.outcome.specs.declared.Answer.{Answer}
-use Rattle.outcome.proofs.Placed.{no-place, RefusedIn, answer-place, told-place}
+use Rattle.outcome.proofs.Refused.{Refused}
+use Rattle.outcome.proofs.Placed.{no-place, answer-place, told-place}
 use Rattle.format.specs.Record.{Record, read, write}
 use Rattle.format.specs.Places.{viewAt, count}
-use Rattle.format.proofs.Laws.Placed.{record-placed, view-placed}
+use Rattle.format.proofs.Laws.Numbers.{record-placed, view-placed}
 use Rattle.sheet.specs.Sheet.{sheetOf, readSheet, writes, reading, writing}
 use Rattle.trail.specs.Trail.{trailIn, trailing}
 use Rattle.segment.specs.Segment.{payloadIn, payload, firstBitRead, segmentAnswer}
-use Rattle.orders.specs.Order.{Order, verdict, order}
+use Rattle.orders.specs.Order.{Order, verdict, ordered, order}
 
 pub read-place : {before after : List ℕ} {a : Answer} (bytes : List ℕ) → Answers (reading bytes) before after a
     → Placed (8 * length bytes) (a .number) (a .place)
 unfolding reading
-read-place bytes = answer-place (8 * length bytes) (record-placed (λ r. given (sheetOf r)) (λ bits r. tt) bytes)
+read-place bytes = answer-place (8 * length bytes) (record-placed bytes (λ r. given (sheetOf r)) (λ r. tt))
 
 pub write-place : {before after : List ℕ} {a : Answer} (sheet : List ℕ) → Answers (writing sheet) before after a → a .place ≡ 0
 unfolding writing
@@ -39,12 +40,14 @@ pub trail-place : {B : Type 0} {form : List ℕ → List B} {lent : ℕ} {before
 unfolding trailing
 trail-place view line bytes =
     answer-place (8 * length bytes)
-    (view-placed view (trailIn line) (λ bits r. pick-case (RefusedIn bits) (ltb line (count (viewAt r view))) _ _ (λ t. tt) (λ t. tt)) bytes)
+    (view-placed bytes view (trailIn line) λ r.
+    pick-case (Refused (Placed (8 * length bytes))) (ltb line (count (viewAt r view))) _ _ (λ t. tt) (λ t. tt))
 
-payload-placed : (view place : ℕ) (bytes : List ℕ) → RefusedIn (8 * length bytes) (payload view place bytes)
+payload-placed : (view place : ℕ) (bytes : List ℕ) → Refused (Placed (8 * length bytes)) (payload view place bytes)
 unfolding payload
-payload-placed view place =
-    view-placed view (payloadIn place) λ bits r. pick-case (RefusedIn bits) (ltb place (length (viewAt r view .segments))) _ _ (λ t. tt) (λ t. tt)
+payload-placed view place bytes =
+    view-placed bytes view (payloadIn place) λ r.
+    pick-case (Refused (Placed (8 * length bytes))) (ltb place (length (viewAt r view .segments))) _ _ (λ t. tt) (λ t. tt)
 
 pub segment-place : {a : Answer} (view place : ℕ) (bytes : List ℕ) → a ≡ segmentAnswer view place bytes → a .number ≢ 0
     → Placed (8 * length bytes) (a .number) (a .place)
@@ -57,4 +60,5 @@ pub order-place : (o : Order) (bytes : List ℕ) {before after : List ℕ} {a : 
 unfolding order
 order-place o bytes =
     answer-place (8 * length bytes)
-    (view-placed (o .view) _ (λ bits r. pick-case (RefusedIn bits) (eqb (verdict o r) 0) _ _ (λ t. tt) (λ t. no-place bits (verdict o r))) bytes)
+    (view-placed bytes (o .view) (λ i. ordered o) λ r.
+    pick-case (Refused (Placed (8 * length bytes))) (eqb (verdict o r) 0) _ _ (λ t. tt) (λ t. no-place (8 * length bytes) (verdict o r)))

@@ -1,14 +1,13 @@
 -- The numbers of the call for a segment: 1 to 13 and 23. It writes nothing, so that it never gives 20.
 use mathlib.Core.Path.{_≡_}
 use Prim.Native.Nat.{ℕ}
-use native.Mathlib.Omega.{arith}
 use mathlib.Core.List.{List}
-use lib.ListN.{length}
+use lib.ListN.{length, drop}
 use lib.Dec.{ltb}
 use Rattle.bits.specs.ChoiceLaws.{pick-case}
 use Rattle.outcome.specs.Numbers.{Gives, segmentNumbers}
 use Rattle.outcome.specs.declared.Answer.{Answer}
-use Rattle.outcome.proofs.Numbers.{RefusedBy, told-number}
+use Rattle.outcome.proofs.Numbers.{RefusedBy, among-first, told-number}
 use Rattle.format.specs.Record.{read}
 use Rattle.format.specs.Places.{viewAt}
 use Rattle.format.proofs.Laws.Numbers.{view-numbers}
@@ -17,7 +16,7 @@ use Rattle.segment.specs.Segment.{payloadIn, payload, firstBitRead, segm
 payload-by : (view place : ℕ) (bytes : List ℕ) → RefusedBy segmentNumbers (payload view place bytes)
 unfolding payload
 payload-by view place =
-    view-numbers 13 _ (omega arith) view (payloadIn place) λ r.
+    view-numbers segmentNumbers (among-first 1 13 (drop 1 segmentNumbers)) view (payloadIn place) λ r.
     pick-case (RefusedBy segmentNumbers) (ltb place (length (viewAt r view .segments))) _ _ (λ t. tt) (λ t. tt)
 
 pub segment-numbers : {a : Answer} (view place : ℕ) (bytes : List ℕ) → a ≡ segmentAnswer view place bytes → Gives segmentNumbers (a .number)

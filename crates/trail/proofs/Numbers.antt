@@ -1,13 +1,13 @@
 -- The numbers of the call for a trail, as 16-bit numbers or as bytes: 1 to 13, 15 and 20.
 use Prim.Native.Nat.{ℕ}
-use native.Mathlib.Omega.{arith}
 use mathlib.Core.List.{List}
+use lib.ListN.{drop}
 use lib.Dec.{ltb}
 use Rattle.bits.specs.ChoiceLaws.{pick-case}
 use Rattle.outcome.specs.Numbers.{Gives, trailNumbers}
 use Rattle.outcome.specs.Outcome.{AnswersAs}
 use Rattle.outcome.specs.declared.Answer.{Answer}
-use Rattle.outcome.proofs.Numbers.{RefusedBy, answer-number}
+use Rattle.outcome.proofs.Numbers.{RefusedBy, among-first, answer-number}
 use Rattle.format.specs.Places.{viewAt, count}
 use Rattle.format.proofs.Laws.Numbers.{view-numbers}
 use Rattle.trail.specs.Trail.{trailIn, trailing}
@@ -15,7 +15,7 @@ use Rattle.trail.specs.Trail.{trailIn, trailing}
 trailing-by : (view line : ℕ) (bytes : List ℕ) → RefusedBy trailNumbers (trailing view line bytes)
 unfolding trailing
 trailing-by view line =
-    view-numbers 13 _ (omega arith) view (trailIn line) λ r.
+    view-numbers trailNumbers (among-first 1 13 (drop 1 trailNumbers)) view (trailIn line) λ r.
     pick-case (RefusedBy trailNumbers) (ltb line (count (viewAt r view))) _ _ (λ t. tt) (λ t. tt)
 
 pub trailing-numbers : {B : Type 0} {form : List ℕ → List B} {lent : ℕ} {before after : List B} {a : Answer} (view line : ℕ) (bytes : List ℕ)

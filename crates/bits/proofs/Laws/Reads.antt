@@ -3,7 +3,7 @@
 use mathlib.Core.Path.{_≡_, refl, sym, ap, ap₂, _∙_, subst}
 use Prim.Native.Nat.{ℕ, _+_, _-_, _*_, _^_, _≤_, _<_}
 use native.Mathlib.Omega.{arith}
-use mathlib.Core.Bool.{Bool, true, false, not}
+use mathlib.Core.Bool.{Bool, not}
 use mathlib.Core.Option.{Option, none, some}
 use mathlib.Core.List.{List}
 use lib.ListN.{length, take, drop, length-drop}
@@ -11,7 +11,7 @@ use lib.Seq.{drop-drop}
 use lib.Dec.{T, leb, eqb, le→leb}
 use mir.Facts.{no-leb}
 use borrow.Author.Tests.{eq-eqb, ne-eqb}
-use Rattle.bits.specs.Choice.{pick, within}
+use Rattle.bits.specs.Choice.{within}
 use Rattle.bits.specs.ChoiceLaws.{pick-yes, pick-no, within-yes, within-not-low, within-not-high}
 use Rattle.bits.specs.Bits.{Bits, numberOfBits}
 use Rattle.bits.specs.Bytes.{bitsOf}
@@ -19,6 +19,7 @@ use Rattle.bits.specs.BytesLaws.{length-bitsOf}
 use Rattle.bits.specs.Codec.{Read, got, refused, next, Codec, fieldDec, thenDec, viaDec, onlyDec, wholeDec, judgedDec, roomDec}
 use Rattle.bits.specs.CodecLaws.{field, field-back, fixed, ranged}
 use Rattle.bits.specs.Reads.{Found, found, fault, placed, placeFound, Reads, keeping}
+use Rattle.bits.proofs.Laws.Refuses.{Refusal, accepted, by, refused-by, next-refusal, pick-refusal}
 
 pub length-rest : (s : List ℕ) (p : ℕ) → length (drop p (bitsOf s)) ≡ 8 * length s - p
 length-rest s p = simp (length-drop, length-bitsOf)
@@ -139,14 +140,24 @@ module _ {A : Type 0} (c : Codec Bool A) {s : List ℕ} {p : ℕ} where
   unfolding wholeDec
   none-of {e} i h = record { is = rw (h .is) (ap (refused e) (length-rest s p)); within = i }
 
--- a field that passes the end says its own place
-pub own : (e : ℕ) (s : List ℕ) (p n x q : ℕ) → p ≤ 8 * length s → Reads (fieldDec e n) s p (fault x q) → Reads (fieldDec e n) s p (fault e p)
-own e s p n x q i h = record { is = go (leb n (length (drop p (bitsOf s)))) (h .is) ∙ ap (refused e) (length-rest s p); within = i }
-  where
-    go : (t : Bool) → pick t (got (numberOfBits (take n (drop p (bitsOf s)))) (drop n (drop p (bitsOf s)))) (refused e (length (drop p (bitsOf s)))) ≡ refused x (8 * length s - q)
-        → pick t (got (numberOfBits (take n (drop p (bitsOf s)))) (drop n (drop p (bitsOf s)))) (refused e (length (drop p (bitsOf s)))) ≡ refused e (length (drop p (bitsOf s)))
-    go true y = let z : _≡_ {A = ℕ} 0 1 = cc in absurd (omega arith)
-    go false y = refl
+-- ---- a single field says its own place
+
+-- d refuses at its first bit, where all is left
+pub record AtFirst {A : Type 0} (d : Bits → Read Bool A) : Type 0 where
+  pub at : (s : Bits) → Refusal (λ e l. l ≡ length s) (d s)
+
+pub field-first : (e w : ℕ) → AtFirst (fieldDec e w)
+field-first e w = record { at = λ s. pick-refusal (leb w (length s)) accepted (by refl) }
+
+pub ranged-first : (e w low high : ℕ) → AtFirst (ranged e w low high .dec)
+unfolding onlyDec
+ranged-first e w low high =
+    record { at = λ s. next-refusal (field-first e w .at s) λ a r _. pick-refusal (within low high a) accepted (by {l = length s} refl) }
+
+pub own : {A : Type 0} {d : Bits → Read Bool A} {s : List ℕ} {p x q : ℕ} → AtFirst d → p ≤ 8 * length s → Reads d s p (fault x q)
+    → Reads d s p (fault x p)
+own {s = s} {p = p} {x = x} f i h =
+    record { is = h .is ∙ ap (refused x) (refused-by (f .at (drop p (bitsOf s))) (h .is) ∙ length-rest s p); within = i }
 
 -- ---- what is kept of a value
 
@@ -193,22 +204,3 @@ module _ (e w : ℕ) {s : List ℕ} {p x q : ℕ} (h : Reads (fieldDec e w) s p 
 
   pub ranged-high : (low high : ℕ) → p ≤ 8 * length s → high < x → Reads (ranged e w low high .dec) s p (fault e p)
   ranged-high low high i a = fail (field e w) e (within low high) i h (within-not-high low high x a)
-
--- a number outside its range says its own place, as one that passes the end does
-pub own-ranged : (e w low high : ℕ) {s : List ℕ} {p x q : ℕ} → p ≤ 8 * length s → Reads (ranged e w low high .dec) s p (fault x q)
-    → Reads (ranged e w low high .dec) s p (fault e p)
-unfolding onlyDec
-own-ranged e w low high {s} {p} {x} {q} i h = record { is = go (leb w (length u)) (h .is) ∙ ap (refused e) (length-rest s p); within = i }
-  where
-    u : Bits
-    u = drop p (bitsOf s)
-
-    tested : (y : Bool) (a : ℕ) (r : Bits) → pick y (got a r) (refused e (length u)) ≡ refused x (8 * length s - q) → pick y (got a r) (refused e (length u)) ≡ refused e (length u)
-    tested true a r z = let v : _≡_ {A = ℕ} 0 1 = cc in absurd (omega arith)
-    tested false a r z = refl
-
-    go : (y : Bool)
-        → next (pick y (got (numberOfBits (take w u)) (drop w u)) (refused e (length u))) (λ a r. pick (within low high a) (got a r) (refused e (length u))) ≡ refused x (8 * length s - q)
-        → next (pick y (got (numberOfBits (take w u)) (drop w u)) (refused e (length u))) (λ a r. pick (within low high a) (got a r) (refused e (length u))) ≡ refused e (length u)
-    go true z = tested (within low high (numberOfBits (take w u))) (numberOfBits (take w u)) (drop w u) z
-    go false z = refl

@@ -1,37 +1,64 @@
--- The numbers of a call on a record, and on one of its views: 1 to 12, and 13, and those of the call's own outcome.
+-- The numbers and the places of a call on a record, and on one of its views: 1 to 12 at the record's places, 13, and those of the
+-- call's own outcome.
 use mathlib.Core.Path.{_≡_, refl}
-use Prim.Native.Nat.{ℕ, _*_, _≤_}
+use Prim.Native.Nat.{ℕ, _-_, _*_, _≤_}
 use native.Mathlib.Omega.{arith}
 use mathlib.Core.Bool.{Bool}
-use mathlib.Core.List.{List, _∷_}
+use mathlib.Core.List.{List}
 use lib.ListN.{length}
-use lib.Dec.{ltb}
+use lib.Dec.{T, ltb}
 use Rattle.bits.specs.ChoiceLaws.{pick-case, within-low, within-high}
 use Rattle.bits.specs.Codec.{Read}
 use Rattle.bits.specs.Codec as C
 use Rattle.outcome.specs.Refusals.{noView}
+use Rattle.outcome.specs.Numbers.{among}
 use Rattle.outcome.specs.Outcome.{Outcome}
-use Rattle.outcome.proofs.Numbers.{RefusedBy, among-first}
+use Rattle.outcome.specs.Placed.{Placed}
+use Rattle.outcome.proofs.Refused.{Refused}
+use Rattle.outcome.proofs.Numbers.{RefusedBy}
 use Rattle.format.specs.Record.{Record, read}
 use Rattle.format.specs.Call.{fromRead, onRecord, inView, onView}
 use Rattle.format.proofs.Laws.Refuses.{read-refuses}
 
--- the first range is 1 to last
-module _ {A : Type 0} (last : ℕ) (ranges : List (ℕ × ℕ)) where
-  pub record-numbers : 12 ≤ last → (f : Record → Outcome A) → ((r : Record) → RefusedBy ((1, last) ∷ ranges) (f r))
-      → (bytes : List ℕ) → RefusedBy ((1, last) ∷ ranges) (onRecord f bytes)
-  unfolding onRecord
-  record-numbers l f h bytes = go (read bytes) refl
-    where
-      go : (o : Read Bool Record) → read bytes ≡ o → RefusedBy ((1, last) ∷ ranges) (fromRead (8 * length bytes) f o)
-      go (C.got r rest) e = h r
-      go (C.refused n left) e =
-          let (t, _, _) = read-refuses bytes n left e in
-          among-first 1 last ranges n (within-low 1 12 n t) (omega (arith, within-high 1 12 n t))
+-- ---- what holds of the record's refusals and of the call's holds of all
 
-  pub view-numbers : 13 ≤ last → (view : ℕ) (f : ℕ → Record → Outcome A)
-      → ((r : Record) → RefusedBy ((1, last) ∷ ranges) (f view r)) → (bytes : List ℕ) → RefusedBy ((1, last) ∷ ranges) (onView view f bytes)
+module _ (P : ℕ → ℕ → Type 0) {A : Type 0} (bytes : List ℕ) (own : (e left : ℕ) → read bytes ≡ C.refused e left → P e (8 * length bytes - left)) where
+  on-record-refused : (f : Record → Outcome A) → ((r : Record) → Refused P (f r)) → Refused P (onRecord f bytes)
+  unfolding onRecord
+  on-record-refused f h = go (read bytes) refl
+    where
+      go : (o : Read Bool Record) → read bytes ≡ o → Refused P (fromRead (8 * length bytes) f o)
+      go (C.got r rest) e = h r
+      go (C.refused n left) e = own n left e
+
+-- ---- numbers; the record's are among those of the call
+
+module _ (ranges : List (ℕ × ℕ)) {A : Type 0} where
+  pub record-numbers : ((e : ℕ) → 1 ≤ e → e ≤ 12 → T (among ranges e)) → (f : Record → Outcome A) → ((r : Record) → RefusedBy ranges (f r))
+      → (bytes : List ℕ) → RefusedBy ranges (onRecord f bytes)
+  record-numbers own f h bytes =
+      on-record-refused (λ e p. T (among ranges e)) bytes
+      (λ e left q. let (t, _, _) = read-refuses bytes e left q in own e (within-low 1 12 e t) (within-high 1 12 e t)) f h
+
+  pub view-numbers : ((e : ℕ) → 1 ≤ e → e ≤ 13 → T (among ranges e)) → (view : ℕ) (f : ℕ → Record → Outcome A)
+      → ((r : Record) → RefusedBy ranges (f view r)) → (bytes : List ℕ) → RefusedBy ranges (onView view f bytes)
   unfolding onView
-  view-numbers l view f h =
-      record-numbers (omega arith) (inView view f) λ r.
-      pick-case (RefusedBy ((1, last) ∷ ranges)) (ltb view (length (r .views))) _ _ (λ t. h r) (λ t. among-first 1 last ranges noView (omega arith) l)
+  view-numbers own view f h =
+      record-numbers (λ e l k. own e l (omega arith)) (inView view f) λ r.
+      pick-case (RefusedBy ranges) (ltb view (length (r .views))) _ _ (λ u. h r) (λ u. own noView (omega arith) (omega arith))
+
+-- ---- places
+
+module _ (bytes : List ℕ) where
+  abbrev PlacedHere : ℕ → ℕ → Type 0
+  PlacedHere = Placed (8 * length bytes)
+
+  at-record : (e left : ℕ) → read bytes ≡ C.refused e left → PlacedHere e (8 * length bytes - left)
+  at-record e left q = read-refuses bytes e left q .2
+
+  pub record-placed : {A : Type 0} (f : Record → Outcome A) → ((r : Record) → Refused PlacedHere (f r)) → Refused PlacedHere (onRecord f bytes)
+  record-placed f h = on-record-refused PlacedHere bytes at-record f h
+
+  pub view-placed : {A : Type 0} (view : ℕ) (f : ℕ → Record → Outcome A) → ((r : Record) → Refused PlacedHere (f view r)) → Refused PlacedHere (onView view f bytes)
+  unfolding onView
+  view-placed view f h = record-placed (inView view f) λ r. pick-case (Refused PlacedHere) (ltb view (length (r .views))) _ _ (λ u. h r) (λ u. tt)

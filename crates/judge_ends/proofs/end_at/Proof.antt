@@ -5,7 +5,7 @@ use native.Mathlib.Omega.{arith}
 use mathlib.Core.Path.{ap}
 use Rattle.bits.specs.Codec.{fieldDec}
 use Rattle.bits.specs.Reads.{Reads, taken, found}
-use Rattle.bits.proofs.Laws.Reads.{known, own, go-on, stop, made}
+use Rattle.bits.proofs.Laws.Reads.{known, field-first, own, go-on, stop, made}
 use Rattle.outcome.specs.Refusals.{badLine}
 use Rattle.format.specs.Line.{end}
 use Rattle.judge_ends.specs.Ends.{endDec}
@@ -34,7 +34,7 @@ enum-told c = search needs
 returns : tie.Need-returns
 unfolding endDec end
 returns c =
-    made _ _ (stop _ _ (own badLine _ _ _ _ _ (omega arith) (known (ap (taken badLine) (c .enum-told .given .1)) (c .before .before .field .ensures badLine))))
+    made _ _ (stop _ _ (own (field-first badLine _) (omega arith) (known (ap (taken badLine) (c .enum-told .given .1)) (c .before .before .field .ensures badLine))))
 
 field-requires-2 : tie.Need-field-requires-2
 field-requires-2 c κs =
@@ -50,7 +50,7 @@ returns-2 : tie.Need-returns-2
 unfolding endDec end
 returns-2 c =
     let k = read-kind (c .before .before .before .before) in
-    made _ _ (go-on _ _ k (stop _ _ (own badLine _ _ _ _ _ (k .within) (known (ap (taken badLine) (c .enum-told2 .given .1)) (c .before .before .field2 .ensures badLine)))))
+    made _ _ (go-on _ _ k (stop _ _ (own (field-first badLine _) (k .within) (known (ap (taken badLine) (c .enum-told2 .given .1)) (c .before .before .field2 .ensures badLine)))))
 
 field-requires-3 : tie.Need-field-requires-3
 field-requires-3 c κs =
@@ -67,7 +67,7 @@ unfolding endDec end
 returns-3 c =
     let k = read-kind (c .before .before .before .before .before .before .before .before) in
     let d = read-direction (c .before .before .before .before) in
-    made _ _ (go-on _ _ k (go-on _ _ d (stop _ _ (own badLine _ _ _ _ _ (d .within) (known (ap (taken badLine) (c .enum-told3 .given .1)) (c .before .before .field3 .ensures badLine))))))
+    made _ _ (go-on _ _ k (go-on _ _ d (stop _ _ (own (field-first badLine _) (d .within) (known (ap (taken badLine) (c .enum-told3 .given .1)) (c .before .before .field3 .ensures badLine))))))
 
 field-requires-4 : tie.Need-field-requires-4
 field-requires-4 c κs =
@@ -85,7 +85,7 @@ returns-4 c =
     let k = read-kind (c .before .before .before .before .before .before .before .before .before .before .before .before) in
     let d = read-direction (c .before .before .before .before .before .before .before .before) in
     let x = read-x (c .before .before .before .before) in
-    made _ _ (go-on _ _ k (go-on _ _ d (go-on _ _ x (own badLine _ _ _ _ _ (x .within) (known (ap (taken badLine) (c .enum-told4 .given .1)) (c .before .before .field4 .ensures badLine))))))
+    made _ _ (go-on _ _ k (go-on _ _ d (go-on _ _ x (own (field-first badLine _) (x .within) (known (ap (taken badLine) (c .enum-told4 .given .1)) (c .before .before .field4 .ensures badLine))))))
 
 returns-5 : tie.Need-returns-5
 unfolding endDec end

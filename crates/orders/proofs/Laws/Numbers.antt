@@ -5,6 +5,7 @@ use Prim.Native.Nat.{ℕ}
 use native.Mathlib.Omega.{arith}
 use mathlib.Core.Bool.{Bool, not}
 use mathlib.Core.List.{List, [], _∷_}
+use lib.ListN.{drop}
 use lib.Dec.{T, eqb}
 use mir.Facts.{eqb-no}
 use Rattle.bits.specs.Choice.{within}
@@ -15,7 +16,7 @@ use Rattle.outcome.specs.Refusals.{otherCount, tooLong, noRoom}
 use Rattle.outcome.specs.Numbers.{among, Gives, removalNumbers, pairNumbers}
 use Rattle.outcome.specs.Outcome.{Answers}
 use Rattle.outcome.specs.declared.Answer.{Answer}
-use Rattle.outcome.proofs.Numbers.{RefusedBy, room-refused, answer-number, not-zero}
+use Rattle.outcome.proofs.Numbers.{RefusedBy, among-first, room-by, answer-number, not-zero}
 use Rattle.format.specs.View.{View}
 use Rattle.format.specs.Record.{Record}
 use Rattle.format.specs.Places.{viewAt}
@@ -64,9 +65,9 @@ first-of P [] h n = absurd (n refl)
 first-of P (t ∷ ts) h n = pick-case (λ (x : ℕ). x ≢ 0 → P x) (t .0) _ _ (λ u. first-of P ts (h .1)) (λ u _. h .0) n
 
 -- an order's own numbers are above 12
-pub verdict-own : (o : Order) (r : Record) → verdict o r ≢ 0 → T (not (within 2 12 (verdict o r)))
+pub verdict-above : (o : Order) (r : Record) → verdict o r ≢ 0 → T (not (within 2 12 (verdict o r)))
 unfolding verdict allTests tests
-verdict-own o r = first-of P (allTests o r) (tt, all-append (λ t. P (t .1)) (tests (o .act) v) _ (own (o .act)) (tt, tt))
+verdict-above o r = first-of P (allTests o r) (tt, all-append (λ t. P (t .1)) (tests (o .act) v) _ (own (o .act)) (tt, tt))
   where
     P : ℕ → Type 0
     P e = T (not (within 2 12 e))
@@ -85,7 +86,8 @@ pub order-by : (o : Order) (bytes : List ℕ) → RefusedBy (numbersOf (o .act))
 unfolding order verdict
 order-by o =
     both (λ ns. ((r : Record) → RefusedBy ns (ordered o r)) → (bytes : List ℕ) → RefusedBy ns (order o bytes))
-    (view-numbers 16 _ (omega arith) (o .view) (λ i. ordered o)) (view-numbers 15 _ (omega arith) (o .view) (λ i. ordered o)) (o .act) λ r.
+    (view-numbers removalNumbers (λ e l h. among-first 1 16 (drop 1 removalNumbers) e l (omega arith)) (o .view) (λ i. ordered o))
+    (view-numbers pairNumbers (λ e l h. among-first 1 15 (drop 1 pairNumbers) e l (omega arith)) (o .view) (λ i. ordered o)) (o .act) λ r.
     pick-case (RefusedBy (numbersOf (o .act))) (eqb (verdict o r) 0) _ _ (λ t. tt) (λ t. first-of (λ e. T (among (numbersOf (o .act)) e)) (allTests o r) (all-by o r) (eqb-no t))
 
 numbers-room : (a : Act) → T (among (numbersOf a) noRoom)
@@ -93,7 +95,7 @@ numbers-room a = both (λ ns. T (among ns noRoom)) tt tt a
 
 pub outcome-by : (c : Call) (bytes : List ℕ) → RefusedBy (numbersOf (c .order .act)) (outcome c bytes)
 unfolding outcome
-outcome-by c bytes = room-refused (numbersOf (c .order .act)) (numbers-room (c .order .act)) (c .lent) (order (c .order) bytes) (order-by (c .order) bytes)
+outcome-by c bytes = room-by (numbersOf (c .order .act)) (numbers-room (c .order .act)) (c .lent) (order (c .order) bytes) (order-by (c .order) bytes)
 
 module _ (o : Order) (bytes : List ℕ) {before after : List ℕ} {a : Answer} (h : Answers (order o bytes) before after a) where
   order-numbers : Gives (numbersOf (o .act)) (a .number)

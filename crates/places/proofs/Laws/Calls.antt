@@ -6,23 +6,26 @@ use native.Mathlib.Omega.{arith}
 use mathlib.Core.Bool.{Bool, not}
 use mathlib.Core.List.{List}
 use lib.ListN.{length}
-use lib.Dec.{T, leb}
+use lib.Dec.{T}
 use mir.Facts.{T-not}
 use Rattle.bits.specs.Choice.{within}
-use Rattle.bits.specs.ChoiceLaws.{pick-case}
 use Rattle.bits.specs.Codec.{Read}
 use Rattle.bits.specs.Codec as C
 use Rattle.outcome.specs.Outcome.{Outcome, refused, given, room, numberOf, placeOf, AnswersAs, told}
 use Rattle.outcome.specs.declared.Answer.{Answer}
+use Rattle.outcome.proofs.Refused.{Refused, room-refused, refused-shown}
 use Rattle.format.specs.Record.{Record, read}
 use Rattle.format.specs.Call.{fromRead, onRecord}
 use Rattle.places.specs.Reach.{reach, Agree, AnsweredAlike}
 use Rattle.places.proofs.Laws.Place.{read-alike}
 
--- no refusal is 2 to 12
+-- none of 2 to 12, whatever the place
+abbrev Other : ℕ → ℕ → Type 0
+Other e p = T (not (within 2 12 e))
+
+-- no refusal of a call's own is
 abbrev pub Own : {A : Type 0} → Outcome A → Type 0
-Own (refused e p) = T (not (within 2 12 e))
-Own (given xs) = Unit {0}
+Own o = Refused Other o
 
 -- ---- what an answer shows of an outcome
 
@@ -30,21 +33,13 @@ pub record Shows {A : Type 0} (o : Outcome A) (x : Answer) : Type 0 where
   pub refusal : (e p : ℕ) → o ≡ refused e p → (x .number ≡ e) × (x .place ≡ p)
   pub own : Own o → T (not (within 2 12 (x .number)))
 
-own-number : {A : Type 0} (o : Outcome A) → Own o → T (not (within 2 12 (numberOf o)))
-own-number (refused e p) h = h
-own-number (given xs) h = tt
-
-room-own : {A : Type 0} (n : ℕ) (o : Outcome A) → Own o → Own (room n o)
-room-own n (refused e p) h = h
-room-own n (given xs) h = pick-case Own (leb (length xs) n) _ _ (λ t. tt) (λ t. tt)
-
 -- a call that writes
 pub answer-shows : {A B : Type 0} {form : List A → List B} {lent : ℕ} {o : Outcome A} {before after : List B} {x : Answer}
     → AnswersAs form lent o before after x → Shows o x
 answer-shows {lent = lent} {o = o} h =
     record {
       refusal = λ e p q. (h .number ∙ ap (λ z. numberOf (room lent z)) q, h .place ∙ ap (λ z. placeOf (room lent z)) q);
-      own = λ k. rw (h .number) (own-number (room lent o) (room-own lent o k));
+      own = λ k. rw (h .number) (refused-shown Other tt (room lent o) (room-refused Other tt lent o k));
     }
 
 -- a call that says where something stands

@@ -6,7 +6,7 @@ use Prim.Native.Nat.{ℕ, _≤_}
 use native.Mathlib.Omega.{arith}
 use mathlib.Core.Bool.{Bool, _||_}
 use mathlib.Core.List.{List, []}
-use lib.ListN.{length}
+use lib.ListN.{length, drop}
 use lib.Dec.{T, eqb, eqb→eq}
 use mir.Facts.{or-yes}
 use Rattle.bits.specs.Lists.{All}
@@ -34,7 +34,7 @@ use Rattle.sheet.proofs.Laws.Calls.{reading-is, writing-is, written}
 
 reading-by : (bytes : List ℕ) → RefusedBy readNumbers (reading bytes)
 unfolding reading
-reading-by = record-numbers 12 _ (omega arith) (λ r. given (sheetOf r)) (λ r. tt)
+reading-by = record-numbers readNumbers (among-first 1 12 (drop 1 readNumbers)) (λ r. given (sheetOf r)) (λ r. tt)
 
 sheet-number : (e : ℕ) → T (eqb e badSheet || eqb e badValue || eqb e tooLong) → T (among writeNumbers e)
 sheet-number e t =

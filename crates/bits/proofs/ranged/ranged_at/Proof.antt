@@ -7,13 +7,13 @@ use mathlib.Core.Path.{ap}
 use Rattle.bits.specs.Codec.{fieldDec}
 use Rattle.bits.specs.CodecLaws.{ranged}
 use Rattle.bits.specs.Reads.{Reads, taken, found, fault}
-use Rattle.bits.proofs.Laws.Reads.{known, own, stays, ranged-ok, ranged-low, ranged-high}
+use Rattle.bits.proofs.Laws.Reads.{known, field-first, own, stays, ranged-ok, ranged-low, ranged-high}
 use borrow.Author.Needs.{needs}
 use Rattle.bits.proofs.ranged.ranged_at.Statement.{statement}
 use Rattle.bits.proofs.ranged.ranged_at.Tie as tie
 
 short : (c : tie.After-enum-told) (e : ℕ) → Reads (ranged e 8 (c .before .before .before .before .args .low) (c .before .before .before .before .args .high) .dec) (c .before .before .before .before .args .bytes .now) (c .before .before .before .before .args .p .at) (fault e (c .before .before .before .before .args .p .at))
-short c e = stays _ e _ (own e _ _ _ _ _ (omega arith) (known (ap (taken e) (c .enum-told .given .1)) (c .before .before .field .ensures e)))
+short c e = stays _ e _ (own (field-first e _) (omega arith) (known (ap (taken e) (c .enum-told .given .1)) (c .before .before .field .ensures e)))
 
 read : (c : tie.After-x) (e : ℕ) → Reads (fieldDec e 8) (c .before .before .before .before .args .bytes .now) (c .before .before .before .before .args .p .at) (found (c .x .given .0 .0) (c .x .given .0 .1 .0 .at))
 read c e = known (ap (taken e) (c .x .given .1)) (c .before .before .field .ensures e)

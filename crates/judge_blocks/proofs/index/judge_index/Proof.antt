@@ -11,7 +11,7 @@ use Rattle.bits.specs.Codec.{fieldDec}
 use Rattle.bits.specs.CodecLaws.{ranged}
 use Rattle.bits.specs.Lists.{total}
 use Rattle.bits.specs.Reads.{Reads, found, fault, taken}
-use Rattle.bits.proofs.Laws.Reads.{made, stop, known, own, own-ranged, stays, at-place, ranged-ok, ranged-low, ranged-high}
+use Rattle.bits.proofs.Laws.Reads.{made, stop, known, field-first, ranged-first, own, stays, at-place, ranged-ok, ranged-low, ranged-high}
 use Rattle.outcome.specs.Refusals.{badIndex}
 use Rattle.format.specs.Differences.{diff}
 use Rattle.format.specs.Index.{Index, neighbours, index}
@@ -94,7 +94,7 @@ enum-told c = search needs
 
 returns-2 : tie.Need-returns-2 Inv-loop2 μ-loop2 Inv-loop μ-loop
 returns-2 c =
-    width-bad _ _ (omega arith) (own-ranged badIndex 8 1 16 (omega arith) (at-place (c .before .before .before .start .ensures) (known (ap (rangedAt badIndex) (c .enum-told .given .1)) (c .before .before .ranged-at .ensures badIndex))))
+    width-bad _ _ (omega arith) (own (ranged-first badIndex 8 1 16) (omega arith) (at-place (c .before .before .before .start .ensures) (known (ap (rangedAt badIndex) (c .enum-told .given .1)) (c .before .before .ranged-at .ensures badIndex))))
 
 loop-holds : tie.Need-loop-holds Inv-loop2 μ-loop2 Inv-loop μ-loop
 loop-holds c =
@@ -112,7 +112,7 @@ enum-told-2 c = search needs
 
 returns-3 : tie.Need-returns-3 Inv-loop2 μ-loop2 Inv-loop μ-loop
 returns-3 c =
-    list-bad (c .before .before .before) (made _ _ (stop _ _ (own badIndex _ _ _ _ _ (c .before .before .before .before .loop .inv .1) (known (ap (taken badIndex) (c .enum-told2 .given .1)) (c .before .before .field .ensures badIndex)))))
+    list-bad (c .before .before .before) (made _ _ (stop _ _ (own (field-first badIndex _) (c .before .before .before .before .loop .inv .1) (known (ap (taken badIndex) (c .enum-told2 .given .1)) (c .before .before .field .ensures badIndex)))))
 
 loop2-holds : tie.Need-loop2-holds Inv-loop2 μ-loop2 Inv-loop μ-loop
 loop2-holds c =
@@ -130,7 +130,7 @@ enum-told-3 c = search needs
 
 returns-4 : tie.Need-returns-4 Inv-loop2 μ-loop2 Inv-loop μ-loop
 returns-4 c =
-    diff-bad (c .before .before .before) (stays _ badIndex _ (own badIndex _ _ _ _ _ (c .before .before .before .before .loop2 .inv .1) (known (ap (taken badIndex) (c .enum-told3 .given .1)) (c .before .before .field2 .ensures badIndex))))
+    diff-bad (c .before .before .before) (stays _ badIndex _ (own (field-first badIndex _) (c .before .before .before .before .loop2 .inv .1) (known (ap (taken badIndex) (c .enum-told3 .given .1)) (c .before .before .field2 .ensures badIndex))))
 
 returns-5 : tie.Need-returns-5 Inv-loop2 μ-loop2 Inv-loop μ-loop
 returns-5 c =

@@ -7,7 +7,7 @@ use mathlib.Core.Path.{ap}
 use Rattle.bits.specs.Codec.{fieldDec}
 use Rattle.bits.specs.CodecLaws.{ranged}
 use Rattle.bits.specs.Reads.{Reads, taken, found}
-use Rattle.bits.proofs.Laws.Reads.{known, own, own-ranged, go-on, stop, made}
+use Rattle.bits.proofs.Laws.Reads.{known, field-first, ranged-first, own, go-on, stop, made}
 use Rattle.bits.specs.Reads.{rangedAt}
 use borrow.Author.Needs.{needs}
 use Rattle.judge_heads.proofs.header.scale_at.Statement.{statement}
@@ -45,7 +45,7 @@ enum-told c = search needs
 
 returns : tie.Need-returns
 returns c =
-    λ e. made _ _ (stop _ _ (own-ranged e 8 1 255 (c .before .before .before .before .pre .1) (known (ap (rangedAt e) (c .enum-told .given .1)) (c .before .before .ranged-at .ensures e))))
+    λ e. made _ _ (stop _ _ (own (ranged-first e 8 1 255) (c .before .before .before .before .pre .1) (known (ap (rangedAt e) (c .enum-told .given .1)) (c .before .before .ranged-at .ensures e))))
 
 ranged-at-requires-2 : tie.Need-ranged-at-requires-2
 ranged-at-requires-2 c κs =
@@ -59,7 +59,7 @@ enum-told-2 c = search needs
 
 returns-2 : tie.Need-returns-2
 returns-2 c =
-    λ e. made _ _ (go-on _ _ (read-points (c .before .before .before .before) e) (stop _ _ (own-ranged e 8 1 16 (read-points (c .before .before .before .before) e .within) (known (ap (rangedAt e) (c .enum-told2 .given .1)) (c .before .before .ranged-at2 .ensures e)))))
+    λ e. made _ _ (go-on _ _ (read-points (c .before .before .before .before) e) (stop _ _ (own (ranged-first e 8 1 16) (read-points (c .before .before .before .before) e .within) (known (ap (rangedAt e) (c .enum-told2 .given .1)) (c .before .before .ranged-at2 .ensures e)))))
 
 ranged-at-requires-3 : tie.Need-ranged-at-requires-3
 ranged-at-requires-3 c κs =
@@ -73,7 +73,7 @@ enum-told-3 c = search needs
 
 returns-3 : tie.Need-returns-3
 returns-3 c =
-    λ e. made _ _ (go-on _ _ (read-points (c .before .before .before .before .before .before .before .before) e) (go-on _ _ (read-c (c .before .before .before .before) e) (stop _ _ (own-ranged e 8 4 8 (read-c (c .before .before .before .before) e .within) (known (ap (rangedAt e) (c .enum-told3 .given .1)) (c .before .before .ranged-at3 .ensures e))))))
+    λ e. made _ _ (go-on _ _ (read-points (c .before .before .before .before .before .before .before .before) e) (go-on _ _ (read-c (c .before .before .before .before) e) (stop _ _ (own (ranged-first e 8 4 8) (read-c (c .before .before .before .before) e .within) (known (ap (rangedAt e) (c .enum-told3 .given .1)) (c .before .before .ranged-at3 .ensures e))))))
 
 ranged-at-requires-4 : tie.Need-ranged-at-requires-4
 ranged-at-requires-4 c κs =
@@ -87,7 +87,7 @@ enum-told-4 c = search needs
 
 returns-4 : tie.Need-returns-4
 returns-4 c =
-    λ e. made _ _ (go-on _ _ (read-points (c .before .before .before .before .before .before .before .before .before .before .before .before) e) (go-on _ _ (read-c (c .before .before .before .before .before .before .before .before) e) (go-on _ _ (read-b (c .before .before .before .before) e) (stop _ _ (own-ranged e 8 2 8 (read-b (c .before .before .before .before) e .within) (known (ap (rangedAt e) (c .enum-told4 .given .1)) (c .before .before .ranged-at4 .ensures e)))))))
+    λ e. made _ _ (go-on _ _ (read-points (c .before .before .before .before .before .before .before .before .before .before .before .before) e) (go-on _ _ (read-c (c .before .before .before .before .before .before .before .before) e) (go-on _ _ (read-b (c .before .before .before .before) e) (stop _ _ (own (ranged-first e 8 2 8) (read-b (c .before .before .before .before) e .within) (known (ap (rangedAt e) (c .enum-told4 .given .1)) (c .before .before .ranged-at4 .ensures e)))))))
 
 ranged-at-requires-5 : tie.Need-ranged-at-requires-5
 ranged-at-requires-5 c κs =
@@ -101,7 +101,7 @@ enum-told-5 c = search needs
 
 returns-5 : tie.Need-returns-5
 returns-5 c =
-    λ e. made _ _ (go-on _ _ (read-points (c .before .before .before .before .before .before .before .before .before .before .before .before .before .before .before .before) e) (go-on _ _ (read-c (c .before .before .before .before .before .before .before .before .before .before .before .before) e) (go-on _ _ (read-b (c .before .before .before .before .before .before .before .before) e) (go-on _ _ (read-k (c .before .before .before .before) e) (stop _ _ (own-ranged e 8 1 255 (read-k (c .before .before .before .before) e .within) (known (ap (rangedAt e) (c .enum-told5 .given .1)) (c .before .before .ranged-at5 .ensures e))))))))
+    λ e. made _ _ (go-on _ _ (read-points (c .before .before .before .before .before .before .before .before .before .before .before .before .before .before .before .before) e) (go-on _ _ (read-c (c .before .before .before .before .before .before .before .before .before .before .before .before) e) (go-on _ _ (read-b (c .before .before .before .before .before .before .before .before) e) (go-on _ _ (read-k (c .before .before .before .before) e) (stop _ _ (own (ranged-first e 8 1 255) (read-k (c .before .before .before .before) e .within) (known (ap (rangedAt e) (c .enum-told5 .given .1)) (c .before .before .ranged-at5 .ensures e))))))))
 
 field-requires : tie.Need-field-requires
 field-requires c κs =
@@ -115,7 +115,7 @@ enum-told-6 c = search needs
 
 returns-6 : tie.Need-returns-6
 returns-6 c =
-    λ e. made _ _ (go-on _ _ (read-points (c .before .before .before .before .before .before .before .before .before .before .before .before .before .before .before .before .before .before .before .before) e) (go-on _ _ (read-c (c .before .before .before .before .before .before .before .before .before .before .before .before .before .before .before .before) e) (go-on _ _ (read-b (c .before .before .before .before .before .before .before .before .before .before .before .before) e) (go-on _ _ (read-k (c .before .before .before .before .before .before .before .before) e) (go-on _ _ (read-step (c .before .before .before .before) e) (stop _ _ (own e _ _ _ _ _ (read-step (c .before .before .before .before) e .within) (known (ap (taken e) (c .enum-told6 .given .1)) (c .before .before .field .ensures e)))))))))
+    λ e. made _ _ (go-on _ _ (read-points (c .before .before .before .before .before .before .before .before .before .before .before .before .before .before .before .before .before .before .before .before) e) (go-on _ _ (read-c (c .before .before .before .before .before .before .before .before .before .before .before .before .before .before .before .before) e) (go-on _ _ (read-b (c .before .before .before .before .before .before .before .before .before .before .before .before) e) (go-on _ _ (read-k (c .before .before .before .before .before .before .before .before) e) (go-on _ _ (read-step (c .before .before .before .before) e) (stop _ _ (own (field-first e _) (read-step (c .before .before .before .before) e .within) (known (ap (taken e) (c .enum-told6 .given .1)) (c .before .before .field .ensures e)))))))))
 
 ranged-at-requires-6 : tie.Need-ranged-at-requires-6
 ranged-at-requires-6 c κs =
@@ -129,7 +129,7 @@ enum-told-7 c = search needs
 
 returns-7 : tie.Need-returns-7
 returns-7 c =
-    λ e. made _ _ (go-on _ _ (read-points (c .before .before .before .before .before .before .before .before .before .before .before .before .before .before .before .before .before .before .before .before .before .before .before .before) e) (go-on _ _ (read-c (c .before .before .before .before .before .before .before .before .before .before .before .before .before .before .before .before .before .before .before .before) e) (go-on _ _ (read-b (c .before .before .before .before .before .before .before .before .before .before .before .before .before .before .before .before) e) (go-on _ _ (read-k (c .before .before .before .before .before .before .before .before .before .before .before .before) e) (go-on _ _ (read-step (c .before .before .before .before .before .before .before .before) e) (go-on _ _ (read-ratio (c .before .before .before .before) e) (own-ranged e 8 1 255 (read-ratio (c .before .before .before .before) e .within) (known (ap (rangedAt e) (c .enum-told7 .given .1)) (c .before .before .ranged-at6 .ensures e)))))))))
+    λ e. made _ _ (go-on _ _ (read-points (c .before .before .before .before .before .before .before .before .before .before .before .before .before .before .before .before .before .before .before .before .before .before .before .before) e) (go-on _ _ (read-c (c .before .before .before .before .before .before .before .before .before .before .before .before .before .before .before .before .before .before .before .before) e) (go-on _ _ (read-b (c .before .before .before .before .before .before .before .before .before .before .before .before .before .before .before .before) e) (go-on _ _ (read-k (c .before .before .before .before .before .before .before .before .before .before .before .before) e) (go-on _ _ (read-step (c .before .before .before .before .before .before .before .before) e) (go-on _ _ (read-ratio (c .before .before .before .before) e) (own (ranged-first e 8 1 255) (read-ratio (c .before .before .before .before) e .within) (known (ap (rangedAt e) (c .enum-told7 .given .1)) (c .before .before .ranged-at6 .ensures e)))))))))
 
 returns-8 : tie.Need-returns-8
 returns-8 c =

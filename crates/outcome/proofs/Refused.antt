@@ -1,0 +1,23 @@
+-- What is said of every refusal of an outcome, by its number and its place: how it goes over to the answers.
+use Prim.Native.Nat.{ℕ}
+use lib.ListN.{length}
+use lib.Dec.{leb}
+use Rattle.bits.specs.ChoiceLaws.{pick-case}
+use Rattle.outcome.specs.Refusals.{noRoom}
+use Rattle.outcome.specs.Outcome.{Outcome, refused, given, room, numberOf, placeOf}
+
+-- P holds of a refusal's number and place; of what is given nothing is said
+abbrev pub Refused : {A : Type 0} → (ℕ → ℕ → Type 0) → Outcome A → Type 0
+Refused P (refused e p) = P e p
+Refused P (given xs) = Unit {0}
+
+module _ (P : ℕ → ℕ → Type 0) {A : Type 0} where
+  -- 20, which has no place, comes with the room
+  pub room-refused : P noRoom 0 → (n : ℕ) (o : Outcome A) → Refused P o → Refused P (room n o)
+  room-refused t n (refused e p) h = h
+  room-refused t n (given xs) h = pick-case (Refused P) (leb (length xs) n) _ _ (λ u. tt) (λ u. t)
+
+  -- what is given has the number 0 and no place
+  pub refused-shown : P 0 0 → (o : Outcome A) → Refused P o → P (numberOf o) (placeOf o)
+  refused-shown z (refused e p) h = h
+  refused-shown z (given xs) h = z
