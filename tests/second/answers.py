@@ -12,7 +12,7 @@ from build import build
 from judge import judge
 from model import Refusal
 from sheet import from_sheet, to_sheet
-from trail import trail
+from trail import rounding, trail
 
 CALLS = {"read": 1, "write": 2, "trail": 3, "segment": 4,
          "remove": 5, "join": 6, "part": 7, "holds": 8}
@@ -20,7 +20,10 @@ CALLS = {"read": 1, "write": 2, "trail": 3, "segment": 4,
 
 @dataclass
 class Outcome:
-    """A refusal, or what is written; `length` counts elements of `size` bytes."""
+    """A refusal, or what is written; `length` counts elements of `size` bytes.
+
+    The fault (model.FAULTS) and the rounding (trail.ROUNDINGS) are only counted.
+    """
 
     number: int
     place: int = 0
@@ -28,6 +31,7 @@ class Outcome:
     written: bytes = b""
     size: int = 1
     fault: str = ""
+    rounding: str = ""
 
 
 @lru_cache(maxsize=128)
@@ -61,7 +65,10 @@ def answer_write(sheet):
 
 
 def answer_trail(view, line, record):
-    """Record, then 13, 15; two bytes for each element, high byte first."""
+    """Record, then 13, 15; two bytes for each element, high byte first.
+
+    A trail without elements has no rounding, as it shows none.
+    """
     whole = record_of(record)
     if view >= len(whole.views):
         raise Refusal(13)
@@ -69,7 +76,11 @@ def answer_trail(view, line, record):
     if line >= len(lines):
         raise Refusal(15)
     elements = trail(lines[line], whole)
-    return written(b"".join(element.to_bytes(2, "big") for element in elements), 2)
+    found = written(b"".join(element.to_bytes(2, "big") for element in elements), 2)
+    if elements:
+        found.rounding = rounding(lines[line].start_direction, whole.half_turn,
+                                  whole.b)
+    return found
 
 
 def answer_segment(view, segment, record):

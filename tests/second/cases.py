@@ -22,10 +22,11 @@ unsigned and stand high byte first:
            4 bytes  number of bytes written, then these bytes; every byte of
                     the output beyond them must keep its fill
 
-Two tables go to standard error: how often each number was met, and how often
-each fault that has a place (model.FAULTS). A number or a fault that a chosen
-call can meet and never met is a failure. How many cases are refused with a
-place goes to standard output.
+Tables go to standard error: how often each number was met, how often each fault
+that has a place (model.FAULTS), and of accepted trails that draw an element how
+often the first heading was rounded in each way (trail.ROUNDINGS). What a chosen
+call can meet and never met is a failure. How many cases are refused with a place
+goes to standard output.
 """
 
 import argparse
@@ -38,6 +39,7 @@ from itertools import islice
 from answers import CALLS
 from model import FAULTS
 from plan import Stock, streams
+from trail import ROUNDINGS
 
 OF_A_RECORD = {1} | set(FAULTS)
 MUST_MEET = {
@@ -80,11 +82,16 @@ def all_cases(calls, seed, count):
         yield from islice(makers[call](rng, stock, share), max(0, wanted))
 
 
-def must_meet(calls):
-    """All that the calls can meet: each with its call, number and fault."""
-    return [(call, number, fault) for call in calls
-            for number in sorted(MUST_MEET[call])
-            for fault in FAULTS.get(number, ("",))]
+def never_met(met, rounded, calls):
+    """What the calls can meet and never met, as texts."""
+    wanted = [(call, number, fault) for call in calls
+              for number in sorted(MUST_MEET[call])
+              for fault in FAULTS.get(number, ("",))]
+    missing = ["%s gives %d %s" % each for each in wanted if met[each] == 0]
+    if "trail" in calls:
+        missing += ["trail, first heading rounded: %s" % way
+                    for way in ROUNDINGS if rounded[way] == 0]
+    return missing
 
 
 def number_table(met, calls):
@@ -110,6 +117,14 @@ def fault_table(met, calls):
     return "\n".join(lines)
 
 
+def rounding_table(rounded):
+    """How often the first heading was rounded in each way, as text."""
+    lines = ["%-28s%8s" % ("first heading rounded", "trail")]
+    for way in ROUNDINGS:
+        lines.append("   %-25s%8s" % (way, rounded[way] or "."))
+    return "\n".join(lines)
+
+
 def arguments():
     parser = argparse.ArgumentParser(description="writes a file of cases")
     parser.add_argument("--calls", default=",".join(CALLS))
@@ -126,19 +141,21 @@ def arguments():
 
 def main():
     chosen = arguments()
-    met = Counter()
-    written = 0
+    met, rounded = Counter(), Counter()
     with open(chosen.out, "wb") as out:
         out.write(b"FSKCASES" + struct.pack(">I", chosen.count))
         for case in all_cases(chosen.calls, chosen.seed, chosen.count):
             out.write(case_bytes(case))
             met[case.call, case.expected.number, case.expected.fault] += 1
-            written += 1
+            rounded[case.expected.rounding] += 1
     print(number_table(met, chosen.calls), file=sys.stderr)
     print(fault_table(met, chosen.calls), file=sys.stderr)
-    missing = [wanted for wanted in must_meet(chosen.calls) if met[wanted] == 0]
-    for call, number, fault in missing:
-        print("never met: %s gives %d %s" % (call, number, fault), file=sys.stderr)
+    if "trail" in chosen.calls:
+        print(rounding_table(rounded), file=sys.stderr)
+    missing = never_met(met, rounded, chosen.calls)
+    for text in missing:
+        print("never met: " + text, file=sys.stderr)
+    written = sum(met.values())
     placed = sum(times for (_, _, fault), times in met.items() if fault != "")
     print("cases: %d, %d of them refused with a place" % (written, placed))
     if written != chosen.count:

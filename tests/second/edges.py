@@ -1,8 +1,8 @@
 """Records at the edges, listed one by one and not left to chance.
 
 Every fault that has a place is there, every byte of a small record is cut,
-every bit of a few small records is turned, and every header value stands at
-and beyond its limits.
+every bit of a few small records is turned, every header value stands at and
+beyond its limits, and first headings are rounded in every way.
 """
 
 from bits import with_bit_turned
@@ -42,6 +42,26 @@ def two_view_record():
 def small_records():
     return [build(empty_view_record()), build(two_line_record()),
             build(two_view_record())]
+
+
+def around_quarters(b):
+    """The directions up to 2 away from a quarter of the turn; at b = 4 all."""
+    return sorted({(quarter * (1 << (b - 2)) + away) % (1 << b)
+                   for quarter in range(4) for away in range(-2, 3)})
+
+
+def heading_record(half_turn, b):
+    """Lines with the code 0 alone, so that each trail is twice its first heading."""
+    record = Record(0, 1, 1, b, 2, 1, 0, half_turn, [View(0, 1, 0, 0, 0, 0)])
+    record.views[0].lines = [Line(1, direction, 0, 1, [0], 2, 3, 1, 0)
+                             for direction in around_quarters(b)]
+    return record
+
+
+def heading_records():
+    """N at its limits and at 32, each at the least b and at the greatest."""
+    return [build(heading_record(half_turn, b))
+            for half_turn in (1, 32, 255) for b in (4, 8)]
 
 
 def cut_everywhere():

@@ -12,7 +12,7 @@ from build import build
 from damage import KINDS, LONG_KINDS, damaged
 from damage_sheet import KINDS as SHEET_KINDS
 from damage_sheet import damaged_sheet, long_sheets
-from edges import edge_records, small_records
+from edges import edge_records, heading_records, small_records
 from edges_sheet import some_edge_sheets
 from lend import lend, place_in
 from make import long_records, random_record
@@ -99,11 +99,17 @@ def view_with(rng, record, name):
 
 
 def trail_stream(rng, stock, budget):
-    """Every line of a few records, otherwise some lines of many."""
+    """Every line of a few records, otherwise some lines of many.
+
+    Where the first heading is all there is to see, the room just fits.
+    """
     for data in small_records():
         for view in range(3):
             for line in range(4):
                 yield lend(rng, "trail", [view, line], [data])
+    for data in heading_records():
+        for line in range(len(judged(data).views[0].lines)):
+            yield lend(rng, "trail", [0, line], [data], 2)
     for data in records(rng, stock, budget * 2 // 5, 0.75):
         record = judged(data)
         if not isinstance(record, Record):

@@ -1,8 +1,9 @@
-"""Document 01's samples P1 to P11, its run-only samples, and places, as assertions.
+"""Document 01's samples P1 to P11, its run-only samples, places and first headings.
 
-Run it alone; it prints one line when all hold. It shows that the second
-program reads document 01 as its own samples do, and that every fault has the
-place worked out by hand, before it judges anything.
+All are assertions. Run it alone; it prints one line when all hold. It shows
+that the second program reads document 01 as its own samples do, and that every
+fault has the place worked out by hand, and every direction the nearest heading,
+before it judges anything.
 """
 
 from dataclasses import replace
@@ -14,13 +15,29 @@ from faults import all_faults, base_bytes
 from judge import judge
 from model import FAULTS, Index, Line, Record, Refusal, Segment, View, least_width
 from sheet import to_sheet
-from trail import first_heading, trail
+from trail import first_heading, rounding, trail
 
 SAMPLE_A = bytes.fromhex(
     "46534B003031300000000038000001C5"
     "08080410402000000002005001000100"
     "00105002850048C00E145002850048C0"
     "0E14000201600000")
+
+# First headings of request [2], worked out by hand: N, b, and for some directions
+# the heading. The number behind a row is 2N divided by 2 to the b.
+HEADINGS = (
+    (32, 8, {0: 0, 1: 0, 2: 1, 3: 1, 4: 1, 5: 1, 6: 2, 7: 2, 10: 3, 14: 4,  # 0.25
+             126: 32, 127: 32, 128: 32, 130: 33, 253: 63, 254: 0, 255: 0}),
+    (32, 7, {1: 1, 3: 2, 125: 63, 126: 63, 127: 0}),                        # 0.5
+    (64, 8, {1: 1, 3: 2, 253: 127, 254: 127, 255: 0}),                      # 0.5
+    (255, 4, {0: 0, 1: 32, 2: 64, 3: 96, 4: 128, 5: 159, 6: 191, 7: 223,    # 31.875
+              8: 255, 9: 287, 10: 319, 11: 351, 12: 383, 13: 414, 14: 446,
+              15: 478}),
+    (255, 8, {1: 2, 63: 126, 64: 128, 65: 129, 128: 255, 192: 383,          # 1.9921875
+              255: 508}),
+    (1, 4, {0: 0, 3: 0, 4: 1, 8: 1, 11: 1, 12: 0, 15: 0}),                  # 0.125
+    (1, 8, {0: 0, 63: 0, 64: 1, 65: 1, 128: 1, 191: 1, 192: 0, 193: 0,      # 0.0078125
+            255: 0}))
 
 
 def number_and_place(data):
@@ -80,7 +97,7 @@ def proved_samples():
     assert signed(0b1001, 4) == -7                                       # P9
     turning = Line(0, 0, 0, 0, [-8, -7], 0, 0, 0, 0)
     assert trail(turning, plain_record()) == [2 * (64 - 7) + 1]
-    assert first_heading(3, 32, 8) == 0                                  # P10
+    assert first_heading(3, 32, 8) == 1                                  # P10
     view = View(0, 2, 0, 80, 256, 256, [plain_line() for _ in range(31)],
                 Index(4, [[] for _ in range(30)] + [[15, 0]]))           # P11
     p11 = build(plain_record(views=[view]))
@@ -146,9 +163,44 @@ def places():
     assert (found.number, found.place, found.length) == (0, 8 * 83, 2)
 
 
+def nearest_headings(half_turn, b):
+    """The first heading of every direction in turn, by comparing distances.
+
+    A heading is left for the next one as soon as that is no farther off; so
+    halves go upwards. Distances are counted in parts of 2 to the b.
+    """
+    heading, found = 0, []
+    for direction in range(1 << b):
+        at = direction * 2 * half_turn
+        while abs(((heading + 1) << b) - at) <= abs((heading << b) - at):
+            heading += 1
+        found.append(0 if heading == 2 * half_turn else heading)
+    return found
+
+
+def headings():
+    """Request [2]: the nearest heading, halves upwards, then modulo 2N."""
+    for half_turn, b, by_hand in HEADINGS:
+        for direction, heading in by_hand.items():
+            found = first_heading(direction, half_turn, b)
+            assert found == heading, (half_turn, b, direction, found)
+    for b in range(4, 9):
+        for half_turn in range(1, 256):
+            found = [first_heading(direction, half_turn, b)
+                     for direction in range(1 << b)]
+            assert found == nearest_headings(half_turn, b), (half_turn, b)
+    for direction, way in ((1, "down"), (2, "half"), (3, "up"), (4, "exact"),
+                           (253, "down"), (254, "full turn"), (255, "full turn")):
+        assert rounding(direction, 32, 8) == way, (direction, way)
+    for direction, elements in ((3, [3, 7]), (255, [1, 5])):
+        line = Line(0, direction, 0, 0, [-8, 0, 2], 0, 0, 0, 0)
+        assert trail(line, plain_record()) == elements
+
+
 if __name__ == "__main__":
     proved_samples()
     run_only_samples()
     places()
-    print("samples: P1 to P11, the run-only samples and %d places hold"
+    headings()
+    print("samples: P1 to P11, the run-only samples, %d places and the headings hold"
           % len(all_faults()))

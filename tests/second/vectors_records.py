@@ -1,8 +1,8 @@
 """The records of crates/vectors that are made here, from plain values.
 
-Those that are accepted stand at document 01's limits, and beside them those
-just beyond. The small refused ones are sample A with one change each: together
-with the limits they have every number from 1 to 12.
+Some stand at document 01's limits, and beside them those just beyond. Some show
+how request [2] rounds a first heading. The small refused ones are sample A with
+one change each: together with the limits they have every number from 1 to 12.
 """
 
 from build import build, parts_of, put_together
@@ -18,9 +18,9 @@ def finger(name):
     return FINGERS.index(name)
 
 
-def sample_record(views, c=8, k=4):
-    """A record with sample A's header; b is 8 and N is 32."""
-    return Record(0, 197, c, 8, k, 16, 64, 32, views)
+def sample_record(views, c=8, k=4, b=8, half_turn=32):
+    """A record with sample A's header, but for the widths and N that are given."""
+    return Record(0, 197, c, b, k, 16, 64, half_turn, views)
 
 
 def sample_view(name, number=0, quality=80):
@@ -28,9 +28,9 @@ def sample_view(name, number=0, quality=80):
     return View(number, finger(name), 0, quality, 256, 256)
 
 
-def sample_line(codes, direction=64):
-    """Sample A's line with other codes, and another start direction."""
-    return Line(1, direction, 10, 20, codes, 0, 192, 14, 20)
+def sample_line(codes, direction=64, end_direction=192):
+    """Sample A's line with other codes, and other directions."""
+    return Line(1, direction, 10, 20, codes, 0, end_direction, 14, 20)
 
 
 def long_line(place, count):
@@ -116,6 +116,17 @@ def room_record():
     return sample_record([view], k=2)
 
 
+def headings_record(half_turn, b, directions):
+    """A line for each start direction; its trail is twice its first heading.
+
+    All of them end at three quarters of the turn, as sample A's line does.
+    """
+    view = sample_view("right index")
+    view.lines = [sample_line([0], direction, 3 << (b - 2))
+                  for direction in directions]
+    return sample_record([view], b=b, half_turn=half_turn)
+
+
 def a_parts():
     """Sample A's blocks: two of A's lines, line 1 next to line 0, w = 1."""
     view = sample_view("right index")
@@ -188,6 +199,15 @@ def limit_samples():
         "room": build(room_record())}
 
 
+def heading_samples():
+    """The samples whose trails show how first headings are rounded, by name."""
+    records = {
+        "headings-32": headings_record(32, 8, (1, 2, 3, 5, 6, 253, 254, 255)),
+        "headings-255": headings_record(255, 4, (1, 3, 4, 5, 8, 12, 13, 15)),
+        "headings-1": headings_record(1, 8, (63, 64, 65, 128, 191, 192, 193, 255))}
+    return {name: build(record) for name, record in records.items()}
+
+
 def refused_samples():
     """Small samples that are refused, by name, in the order of the numbers."""
     return {
@@ -216,4 +236,4 @@ def refused_samples():
 
 def new_samples():
     """All samples made here, by name."""
-    return {**limit_samples(), **refused_samples()}
+    return {**limit_samples(), **heading_samples(), **refused_samples()}

@@ -9,6 +9,7 @@
 --   format/specs/View, Places  view; viewAt
 --   format/specs/Record        read, write, Allowed
 --   sheet/specs/Sheet          readSheet, reading, writing
+--   trail/specs/Trail          nearest, Nearest, firstHeading
 --   segment/specs/Segment      segmentAnswer, payload, payloadOf
 --   orders/specs/Act, Least    remove; leastWidth
 --   orders/specs/Order         Order, Accepted, edited, order, holds
@@ -19,7 +20,7 @@
 -- `Answer` and `Held` are structs of the code (outcome/src, order_holds/src), `length`, `take`, `T`, `eqb` and the signs the toolchain's.
 use mathlib.Core.Path.{_≡_}
 use mathlib.Core.Logic.{_≢_, _⊎_}
-use Prim.Native.Nat.{ℕ, _-_, _*_, _≤_}
+use Prim.Native.Nat.{ℕ, _-_, _*_, _%_, _^_, _≤_}
 use mathlib.Core.Bool.{_||_}
 use mathlib.Core.List.{List, [], _∷_, _++_, map}
 use lib.ListN.{length, take}
@@ -45,6 +46,8 @@ use Rattle.sheet.proofs.Laws.Calls as SheetCalls
 use Rattle.sheet.proofs.Laws.BothWays as BothWays
 use Rattle.sheet.proofs.Laws.Refuses as SheetRefusals
 use Rattle.sheet_bytes.proofs.Laws.Room as SheetRoom
+use Rattle.trail.specs.Trail.{nearest, Nearest, firstHeading}
+use Rattle.trail.proofs.Laws as TrailLaws
 use Rattle.segment.specs.Segment.{payload, payloadOf, segmentAnswer}
 use Rattle.orders.specs.Least.{leastWidth}
 use Rattle.orders.specs.Act.{remove}
@@ -113,6 +116,17 @@ pub sheet-back : {before after before₂ after₂ : List ℕ} {a b : Answer} (sh
     → Answers (writing sheet) before after a → a .number ≡ 0
     → Answers (reading (take (a .length) after)) before₂ after₂ b → length sheet ≤ length before₂ → Gave sheet after₂ b
 sheet-back = BothWays.read-back
+
+-- ---- THE TRAIL: a line's first heading is the nearest, halves upwards, modulo 2N
+-- (`trail` goes from there, code by code)
+
+-- whichever whole number of headings is nearest to the start direction, the first heading is that number modulo 2N
+pub first-heading : (n b direction h : ℕ) → Nearest (direction * (2 * n)) (2 ^ b) h → firstHeading n b direction ≡ h % (2 * n)
+first-heading = TrailLaws.first-nearest
+
+-- and there is one
+pub nearest-heading : (n b direction : ℕ) → Nearest (direction * (2 * n)) (2 ^ b) (nearest (direction * (2 * n)) (2 ^ b))
+nearest-heading = TrailLaws.heading-near
 
 -- ---- DEMAND 3: orders
 -- (that an order is refused for the numbered causes alone: PromisesCalls)

@@ -1,17 +1,50 @@
--- The laws of a trail: each code but a level turn is added to the heading modulo 2N, and every number of a trail is small.
+-- The laws of a trail: the first heading is the nearest, each code but a level turn is added to the heading modulo 2N, and every number
+-- of a trail is small.
 use mathlib.Core.Path.{_≡_, sym, ap, _∙_}
 use Prim.Native.Nat.{ℕ, _+_, _-_, _*_, _%_, _^_, _≤_, _<_}
 use native.Mathlib.Omega.{arith}
-use native.Mathlib.Nat.{add-mul, one-mul, mul-comm, mod-lt, mod-add-mod, add-mul-mod-self-left, mul-lt-mul-of-pos-right, lt-of-mul-lt-mul-right, div-mul-le-self}
+use native.Mathlib.Nat.{add-mul, one-mul, mul-comm, mul-assoc, mod-lt, mod-add-mod, add-mul-mod-self-left, div-mul-le-self, lt-div-mul-add, div-eq-of-lt-le}
 use mathlib.Core.Bool.{Bool, true, false, not}
 use mathlib.Core.List.{List, [], _∷_}
 use lib.Dec.{T, ltb}
+use lib.Pow.{pow-pos}
 use Rattle.bits.specs.Choice.{pick}
 use Rattle.bits.specs.ChoiceLaws.{pick-yes, pick-no, pick-case}
 use Rattle.bits.specs.Lists.{All}
 use Rattle.bits.specs.ListsLaws.{all-append}
 use Rattle.bits.specs.Bits.{val}
-use Rattle.trail.specs.Trail.{firstHeading, turnsLevel, turned, newHeading, follow}
+use Rattle.trail.specs.Trail.{nearest, Nearest, firstHeading, turnsLevel, turned, newHeading, follow}
+
+-- ---- the first heading
+
+twice : (h m : ℕ) → h * (2 * m) ≡ 2 * (h * m)
+twice h m = sym (mul-assoc h 2 m) ∙ ap (λ (x : ℕ). x * m) (mul-comm h 2) ∙ mul-assoc 2 h m
+
+-- the formula gives the nearest number
+pub nearest-near : (a m : ℕ) → 0 < m → Nearest a m (nearest a m)
+nearest-near a m p =
+    let l : nearest a m * (2 * m) ≤ 2 * a + m = div-mul-le-self (2 * a + m) (2 * m) in
+    let g : 2 * a + m < nearest a m * (2 * m) + 2 * m = lt-div-mul-add (omega arith) in
+    record { above = omega (arith, l, twice (nearest a m) m); below = omega (arith, g, twice (nearest a m) m) }
+
+-- and there is no other
+pub nearest-only : (a m h : ℕ) → Nearest a m h → h ≡ nearest a m
+nearest-only a m h r =
+    let e : (h + 1) * (2 * m) ≡ h * (2 * m) + 2 * m = add-mul h 1 (2 * m) ∙ ap (λ (x : ℕ). h * (2 * m) + x) (one-mul (2 * m)) in
+    sym (div-eq-of-lt-le (2 * m) (omega (arith, r .above, twice h m)) (omega (arith, r .below, twice h m, e)))
+
+-- of headings: there is a nearest to each start direction
+pub heading-near : (n b direction : ℕ) → Nearest (direction * (2 * n)) (2 ^ b) (nearest (direction * (2 * n)) (2 ^ b))
+heading-near n b direction = nearest-near (direction * (2 * n)) (2 ^ b) (pow-pos b)
+
+-- and the first heading is that number modulo 2N
+pub first-nearest : (n b direction h : ℕ) → Nearest (direction * (2 * n)) (2 ^ b) h → firstHeading n b direction ≡ h % (2 * n)
+first-nearest n b direction h r = ap (λ (x : ℕ). x % (2 * n)) (sym (nearest-only (direction * (2 * n)) (2 ^ b) h r))
+
+pub first-small : (n b direction : ℕ) → 0 < n → firstHeading n b direction < 2 * n
+first-small n b direction p = mod-lt _ (omega arith)
+
+-- ---- its codes
 
 -- a code that is not negative is added
 pub turned-up : (n k heading code : ℕ) → T (ltb code (2 ^ (k - 1))) → turned n k heading code ≡ (heading + code) % (2 * n)
@@ -32,13 +65,6 @@ heading-small : (n k heading code : ℕ) → 0 < n → heading < 2 * n → newHe
 heading-small n k heading code p h =
     let m : turned n k heading code < 2 * n = mod-lt _ (omega arith) in
     pick-case (λ (x : ℕ). x < 2 * n) (turnsLevel k code) _ _ (λ t. omega arith) (λ t. omega arith)
-
--- the first heading is below 2N
-pub first-small : (n b direction : ℕ) → 0 < n → direction < 2 ^ b → firstHeading n b direction < 2 * n
-first-small n b direction p l =
-    let m : direction * (2 * n) < 2 ^ b * (2 * n) = mul-lt-mul-of-pos-right l (omega arith) in
-    let h : firstHeading n b direction * 2 ^ b < 2 * n * 2 ^ b = omega (arith, m, div-mul-le-self (direction * (2 * n)) (2 ^ b), mul-comm (2 ^ b) (2 * n)) in
-    lt-of-mul-lt-mul-right (2 ^ b) h
 
 -- every number of a trail is below 4N
 pub trail-small : (n k : ℕ) (high : Bool) (heading : ℕ) (codes : List ℕ) → 0 < n → heading < 2 * n → All (λ x. x < 4 * n) (follow n k high heading codes)

@@ -1,10 +1,48 @@
--- Trails, computed: the first heading, turns both ways around, and the level.
+-- Trails, computed: first headings; turns both ways around, and the level.
 use mathlib.Core.Path.{_≡_, refl}
 use Prim.Native.Nat.{ℕ}
 use mathlib.Core.List.{List, [], _∷_, map}
 use Rattle.format.specs.Line.{Line}
 use Rattle.format.specs.declared.Scale.{Scale}
-use Rattle.trail.specs.Trail.{trail}
+use Rattle.trail.specs.Trail.{firstHeading, trail}
+
+-- ---- first headings
+
+pub record Start : Type 0 where
+  pub n : ℕ
+  pub b : ℕ
+  pub direction : ℕ
+  pub heading : ℕ
+
+abbrev start : ℕ → ℕ → ℕ → ℕ → Start
+start n b d h = record { n = n; b = b; direction = d; heading = h }
+
+abbrev starts : List Start
+starts =
+    -- N = 32, b = 8, 4 directions to a heading: under a half, a half, above it, one
+    start 32 8 0 0 ∷ start 32 8 1 0 ∷ start 32 8 2 1 ∷ start 32 8 3 1 ∷ start 32 8 4 1 ∷ start 32 8 5 1
+    -- halves go upwards from even and from odd headings
+    ∷ start 32 8 6 2 ∷ start 32 8 10 3
+    -- the last heading, and the full turn, which is heading 0
+    ∷ start 32 8 252 63 ∷ start 32 8 253 63 ∷ start 32 8 254 0 ∷ start 32 8 255 0
+    -- as many headings as directions
+    ∷ start 32 6 1 1 ∷ start 32 6 63 63
+    -- b = 4 with N = 255, 31.875 headings to a direction: 31.875, 127.5, 255, 478.125
+    ∷ start 255 4 1 32 ∷ start 255 4 4 128 ∷ start 255 4 8 255 ∷ start 255 4 15 478
+    -- N = 1, two headings: below and at a quarter of the turn, below and at three quarters
+    ∷ start 1 8 63 0 ∷ start 1 8 64 1 ∷ start 1 8 191 1 ∷ start 1 8 192 0 ∷ start 1 4 3 0 ∷ start 1 4 4 1 ∷ start 1 4 12 0
+    ∷ []
+
+abbrev startsAt : Start → ℕ
+startsAt s = firstHeading (s .n) (s .b) (s .direction)
+
+abbrev startsAs : Start → ℕ
+startsAs s = s .heading
+
+headings : map startsAt starts ≡ map startsAs starts
+headings = refl
+
+-- ---- trails
 
 -- N = 32, b = 8, and k bits of a code
 abbrev scale : ℕ → Scale
@@ -26,8 +64,8 @@ abbrev table : List Row
 table =
     -- no codes, no elements
     row 4 64 [] []
-    -- headings 0, 0, 1 and 63: rounded down
-    ∷ row 4 0 (0 ∷ []) (0 ∷ []) ∷ row 4 3 (0 ∷ []) (0 ∷ []) ∷ row 4 4 (0 ∷ []) (2 ∷ []) ∷ row 4 255 (0 ∷ []) (126 ∷ [])
+    -- first headings 0, 1, 1 and 0: rounded, and around the full turn
+    ∷ row 4 0 (0 ∷ []) (0 ∷ []) ∷ row 4 2 (0 ∷ []) (2 ∷ []) ∷ row 4 3 (0 ∷ []) (2 ∷ []) ∷ row 4 255 (0 ∷ []) (0 ∷ [])
     -- 16 + 7, then - 7, then - 1
     ∷ row 4 64 (7 ∷ 9 ∷ 15 ∷ []) (46 ∷ 32 ∷ 30 ∷ [])
     -- around the full turn, up and down

@@ -1,7 +1,7 @@
 -- The trail of a line. "Codes are two's complement. The value with only its top bit set turns the level between 0 (standard) and 1
 -- (high); it counts as a code and draws nothing. Each line starts at level 0. Each other code is added to the heading modulo 2N.
 -- The trail is one 16-bit number for each drawn element: twice its heading after the change, plus the level."
-use Prim.Native.Nat.{ℕ, _+_, _-_, _*_, _/_, _%_, _^_}
+use Prim.Native.Nat.{ℕ, _+_, _-_, _*_, _/_, _%_, _^_, _≤_, _<_}
 use mathlib.Core.Bool.{Bool, false, not}
 use mathlib.Core.List.{List, [], _∷_, _++_}
 use lib.Dec.{ltb, eqb}
@@ -15,9 +15,24 @@ use Rattle.format.specs.Places.{viewAt, count, lineAt}
 use Rattle.format.specs.Call.{onView}
 use Rattle.format.specs.declared.Scale.{Scale}
 
--- "The first heading is the start direction times 2N divided by 2 to the b, rounded down."
+-- ---- the first heading
+
+-- a over m, to the nearest whole number, halves upwards
+abbrev pub nearest : (a m : ℕ) → ℕ
+nearest a m = (2 * a + m) / (2 * m)
+
+-- What that means: h is at most a half above a over m, and less than a half below it. (The formula has this, and no other number does:
+-- nearest-near and nearest-only in proofs/Laws.)
+pub record Nearest (a m h : ℕ) : Type 0 where
+  pub above : 2 * (h * m) ≤ 2 * a + m
+  pub below : 2 * a < 2 * (h * m) + m
+
+-- "The first heading is the start direction times 2N divided by 2 to the b", rounded: "it is the nearest heading, halves upwards, then
+-- modulo 2N."
 abbrev pub firstHeading : (n b direction : ℕ) → ℕ
-firstHeading n b direction = direction * (2 * n) / 2 ^ b
+firstHeading n b direction = nearest (direction * (2 * n)) (2 ^ b) % (2 * n)
+
+-- ---- its codes
 
 -- the code of k bits with only its top bit set
 abbrev pub turnsLevel : ℕ → ℕ → Bool

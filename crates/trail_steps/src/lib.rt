@@ -1,4 +1,4 @@
-// The walk along the codes of a line: one step, how many elements it draws, and two writers of the trail, as 16-bit numbers and as
+// The walk along the codes of a line: the first heading, one step, how many elements it draws, and two writers of the trail, as 16-bit numbers and as
 // bytes. They run on a line that is known to be accepted.
 ghost use mathlib.Core.Path.{_≡_};
 ghost use Prim.Native.Nat.{_-_, _*_, _^_, _≤_, _<_};
@@ -6,7 +6,7 @@ ghost use mathlib.Core.Bool.{false};
 ghost use lib.ListN.{length};
 ghost use Rattle.put_bytes.specs.Laid.{Laid};
 ghost use Rattle.put_bytes.specs.HighFirst.{two, joined};
-ghost use Rattle.trail.specs.Trail.{turned, follow};
+ghost use Rattle.trail.specs.Trail.{firstHeading, turned, follow};
 ghost use Rattle.trail_steps.specs.Walk.{startAt, elementAt, drawn, CodesThere, CanDraw, OfCodes, StepDraws};
 use bits::Cursor;
 use bits::pow2;
@@ -33,6 +33,16 @@ impl Pen {
 pub enum Stepped {
     Drawn(usize, Pen),
     Turned(Pen),
+}
+
+// The start direction of b bits as a heading, the nearest of a full turn, halves upwards; half: directions in a half turn.
+pub fn first_heading(direction: usize, b: usize, half: usize) -> usize
+    requires { ⌜ (b ≤ 8) × (direction < 2 ^ b) × (1 ≤ half) × (half ≤ 255) ⌝ }
+    ensures { λ r. ⌜ r ≡ firstHeading half b direction ⌝ }
+{
+    let turn = 2 * half;
+    let directions = pow2(b);
+    (2 * (direction * turn) + directions) / (2 * directions) % turn
 }
 
 // The code of k bits with only its top bit set.

@@ -11,7 +11,7 @@ use Rattle.bits.specs.ChoiceLaws.{pick-yes, pick-no, within-low, within-high}
 use Rattle.bits.specs.Codec.{fieldDec, timesDec}
 use Rattle.bits.specs.CodecLaws.{field}
 use Rattle.bits.specs.Reads.{found, Reads}
-use Rattle.bits.proofs.Laws.Reads.{at-place, below, up-to}
+use Rattle.bits.proofs.Laws.Reads.{at-place, up-to}
 use Rattle.bits.proofs.Laws.Parts.{part}
 use Rattle.bits.proofs.Laws.Apart.{same}
 use Rattle.outcome.specs.Refusals.{badLine, badLines, noRoom}
@@ -72,7 +72,7 @@ module _ (sc : Scale) {s : List ℕ} {p : ℕ} {l : Line} {q : ℕ} (h : Reads (
             there = codes-there w i;
             some = lo;
             few = hi;
-            below = first-small (sc .half) (sc .widths .b) d (omega arith) (below badLine (sc .widths .b) D);
+            below = first-small (sc .half) (sc .widths .b) d (omega arith);
             drawn = o .is (l .codes) (c + n * sc .widths .k) codes-are;
             is = ap (λ (x : ℕ). follow (sc .half) (sc .widths .k) false (firstHeading (sc .half) (sc .widths .b) x) (l .codes)) (direction-is D);
           }

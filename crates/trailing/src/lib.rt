@@ -6,7 +6,6 @@ ghost use Rattle.trail.specs.Trail.{trailing};
 ghost use Rattle.find_parts.specs.Finds.{LineThere};
 ghost use Rattle.trailing.specs.Trace.{WalkFound, LineFound};
 use bits::Cursor;
-use bits::pow2;
 use find_parts::line::pass_lines;
 use find_parts::view::Part;
 use find_view::FoundView;
@@ -18,6 +17,7 @@ use outcome::accept;
 use outcome::refuse;
 use outcome::refuse_at;
 use trail_steps::count_drawn;
+use trail_steps::first_heading;
 use trail_steps::trail_bytes;
 use trail_steps::trail_numbers;
 
@@ -56,7 +56,7 @@ fn walk_at(block: &[u8], p: usize, scale: Scale) -> CodeWalk
         count: count.value,
         k: w.k,
         half,
-        heading: direction.value * (2 * half) / pow2(w.b),
+        heading: first_heading(direction.value, w.b, half),
         drawn,
     }
 }

@@ -2,16 +2,13 @@
 -- The line is there, so its start, its count and its codes are; the heading and what the codes draw are the trail's.
 use native.Mathlib.Omega.{arith}
 use mathlib.Core.Path.{_≡_}
-use Prim.Native.Nat.{_+_, _*_, _^_, _≤_}
-use lib.Pow.{pow-pos, pow-mono}
-use native.Mathlib.Nat.{mul-le-mul}
+use Prim.Native.Nat.{_+_, _*_}
 use Rattle.bits.specs.Codec.{fieldDec}
 use Rattle.bits.specs.Reads.{found, Reads}
 use Rattle.bits.proofs.Laws.Reads.{at-place, below}
 use Rattle.outcome.specs.Refusals.{badLine}
 use Rattle.find_parts.specs.Stands.{endBits}
 use Rattle.trailing.proofs.Laws.{direction-there, count-there, codes-there, draws}
-use borrow.Author.Needs.{needs}
 use Rattle.trailing.proofs.walk_at.Statement.{statement}
 use Rattle.trailing.proofs.walk_at.Tie as tie
 
@@ -52,32 +49,17 @@ count-drawn-requires : tie.Need-count-drawn-requires
 count-drawn-requires c κs =
     let pre = c .before .before .before .before .before .before .before .pre .0 in codes-there (c .before .before .before .before .before .before .before .args .scale) (pre .reads) (count-read (c .before)) (pre .narrow) (pre .short)
 
-mul-t10 : tie.Need-mul-t10
-mul-t10 c =
-    let pre = c .before .before .before .before .before .before .before .before .pre in omega (arith, pre .2)
-
-mul-t12 : tie.Need-mul-t12
-mul-t12 c =
-    let pre = c .before .before .before .before .before .before .before .before .before .pre in
-    let l : c .before .before .before .before .before .before .sure .result .value ≤ 256 = omega (arith, below badLine (c .before .before .before .before .before .before .before .before .before .args .scale .widths .b) (c .before .before .before .before .before .before .sure .ensures .0 badLine), pow-mono (pre .0 .narrow .b)) in
-    let m : 2 * c .before .before .before .before .before .before .before .before .before .args .scale .half ≤ 510 = omega (arith, pre .2) in
-    omega (arith, mul-le-mul l m)
-
-pow2-requires : tie.Need-pow2-requires
-pow2-requires c κs = search needs
-
-div-t13 : tie.Need-div-t13
-div-t13 c =
-    omega (arith, c .pow2 .ensures .0, pow-pos (c .before .before .before .before .before .before .before .before .before .before .args .scale .widths .b))
+first-heading-requires : tie.Need-first-heading-requires
+first-heading-requires c κs =
+    let pre = c .before .before .before .before .before .before .before .before .pre in (pre .0 .narrow .b, below badLine (c .before .before .before .before .before .before .before .before .args .scale .widths .b) (c .before .before .before .before .before .sure .ensures .0 badLine), pre .1, pre .2)
 
 returns : tie.Need-returns
 returns c =
-    let pre = c .before .before .before .before .before .before .before .before .before .before .pre in
-    let sc = c .before .before .before .before .before .before .before .before .before .before .args .scale in
-    let e : c .pow2 .result ≡ 2 ^ sc .widths .b = c .pow2 .ensures .0 in
+    let pre = c .before .before .before .before .before .before .before .before .before .pre in
+    let sc = c .before .before .before .before .before .before .before .before .before .args .scale in
     record {
       is = λ l q h.
-          rw e (draws sc h (count-read (c .before .before .before .before)) (c .before .before .before .before .before .before .before .sure .ensures .0 badLine) (pre .0 .narrow) (pre .0 .short) (pre .1) (pre .2) (c .before .before .count-drawn .ensures));
+          rw (c .first-heading .ensures) (draws sc h (count-read (c .before .before .before)) (c .before .before .before .before .before .before .sure .ensures .0 badLine) (pre .0 .narrow) (pre .0 .short) (pre .1) (pre .2) (c .before .count-drawn .ensures));
     }
 
 pub walk-at-spec : {M : Type 1} → statement M
@@ -92,8 +74,5 @@ walk-at-spec =
     add-t14
     sure-requires-2
     count-drawn-requires
-    mul-t10
-    mul-t12
-    pow2-requires
-    div-t13
+    first-heading-requires
     returns)
