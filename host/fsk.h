@@ -126,10 +126,12 @@ fsk_answer fsk_read(const uint8_t *record, size_t record_length, uint8_t *sheet,
 fsk_answer fsk_write(const uint8_t *sheet, size_t sheet_length, uint8_t *record, size_t record_length);
 
 /*
- * The TRAIL of a line: how it runs, step by step. A line starts at its start direction, which is turned into a heading from 0 to
- * 2N - 1 (N is the header's number of directions in a half turn), at level 0. Each of its codes turns the heading and draws an
- * element there; but one code, that with only its top bit set, draws nothing and turns the level between 0 and 1. The trail has one
- * 16-bit number for each element drawn: twice its heading plus its level. A line has at most 255 codes, so 510 bytes always suffice.
+ * The TRAIL of a line: how it runs, step by step. Headings are 0 to 2N - 1 in a full turn (N is the header's number of directions in a
+ * half turn). A line starts at level 0, at the heading nearest to its start direction: that direction times 2N over 2 to the b (b is
+ * the header's bits of a direction), rounded to a whole number, halves upwards, where 2N is heading 0. Each of its codes turns the
+ * heading and draws an element there; but one code, that with only its top bit set, draws nothing and turns the level between 0 and 1.
+ * The trail has one 16-bit number for each element drawn: twice its heading plus its level. A line has at most 255 codes, so 510 bytes
+ * always suffice.
  * view, line: counted from 0. Writes 16-bit numbers as bytes, high byte first: two bytes each. The answer's length counts the
  * numbers, not the bytes. Where the output has an odd number of bytes, the last one stays as it was.
  * Refuses: 1 to 12, 13, 15, 20.
