@@ -42,8 +42,9 @@ static size_t put_trail(uint8_t *trail, line_codes line, const plain_record *rec
     const unsigned k = record->k;
     const int32_t level_turn = 1 << (k - 1);
     const int32_t full_turn = 2 * record->bytes[21];
-    /* To the nearest heading, halves upwards; the first code takes a full turn back to 0. */
-    int32_t heading = (2 * (int32_t)line.direction * full_turn + (1 << record->b)) >> (record->b + 1);
+    /* The nearest heading, halves upwards; the first code takes a full turn back to 0. */
+    const int32_t half = 1 << (record->b - 1);
+    int32_t heading = ((int32_t)line.direction * full_turn + half) >> record->b;
     int32_t level = 0;
     size_t elements = 0;
     for (uint32_t i = 0; i < line.count; i++) {

@@ -1,4 +1,5 @@
--- The samples P1 to P11 of document 01, as document 02 has them now, as one table: a job, what must come of it, and how many elements that is.
+-- The samples P1 to P11 of document 01, with what document 02 changes in them, as one table: a job, what must come of it, and how
+-- many elements that is.
 use Prim.Native.Nat.{ℕ}
 use mathlib.Core.List.{List, [], _∷_, _++_}
 use Rattle.outcome.specs.Refusals.{badHeader, past, otherCount, alreadySo}
@@ -89,7 +90,7 @@ table =
     ∷ row (judges (bare 4)) (given (bare 4)) 38
     -- P9: heading 16 - 7 at level 1
     ∷ row (trails 0 0 levelLine) (given (19 ∷ [])) 1
-    -- P10, as request [2] has it: heading 1, then 3
+    -- P10, changed by request [2]: heading 1, then 3
     ∷ row (trails 0 0 directionThree) (given (2 ∷ 6 ∷ [])) 2
     -- P11
     ∷ row (orders (record { view = 0; count = 31; act = remove (15 ∷ []) }) wide) (given wider) 299

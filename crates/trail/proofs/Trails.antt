@@ -1,4 +1,4 @@
--- Trails, computed: first headings; turns both ways around, and the level.
+-- First headings, computed; and trails: turns both ways around, and the level.
 use mathlib.Core.Path.{_≡_, refl}
 use Prim.Native.Nat.{ℕ}
 use mathlib.Core.List.{List, [], _∷_, map}
@@ -19,27 +19,27 @@ start n b d h = record { n = n; b = b; direction = d; heading = h }
 
 abbrev starts : List Start
 starts =
-    -- N = 32, b = 8, 4 directions to a heading: under a half, a half, above it, one
+    -- N = 32, b = 8, four directions to a heading: 0, 0.25, 0.5, 0.75, 1, 1.25
     start 32 8 0 0 ∷ start 32 8 1 0 ∷ start 32 8 2 1 ∷ start 32 8 3 1 ∷ start 32 8 4 1 ∷ start 32 8 5 1
-    -- halves go upwards from even and from odd headings
+    -- 1.5 and 2.5: halves go upwards, to even headings and to odd ones
     ∷ start 32 8 6 2 ∷ start 32 8 10 3
-    -- the last heading, and the full turn, which is heading 0
+    -- 63 and 63.25; 63.5 and 63.75 come to the full turn, which is heading 0
     ∷ start 32 8 252 63 ∷ start 32 8 253 63 ∷ start 32 8 254 0 ∷ start 32 8 255 0
     -- as many headings as directions
     ∷ start 32 6 1 1 ∷ start 32 6 63 63
-    -- b = 4 with N = 255, 31.875 headings to a direction: 31.875, 127.5, 255, 478.125
+    -- b = 4 with N = 255: 31.875, 127.5, 255, 478.125
     ∷ start 255 4 1 32 ∷ start 255 4 4 128 ∷ start 255 4 8 255 ∷ start 255 4 15 478
-    -- N = 1, two headings: below and at a quarter of the turn, below and at three quarters
+    -- N = 1, two headings: below a quarter of the turn and at it, below three quarters and there
     ∷ start 1 8 63 0 ∷ start 1 8 64 1 ∷ start 1 8 191 1 ∷ start 1 8 192 0 ∷ start 1 4 3 0 ∷ start 1 4 4 1 ∷ start 1 4 12 0
     ∷ []
 
-abbrev startsAt : Start → ℕ
-startsAt s = firstHeading (s .n) (s .b) (s .direction)
+abbrev computedHeading : Start → ℕ
+computedHeading s = firstHeading (s .n) (s .b) (s .direction)
 
-abbrev startsAs : Start → ℕ
-startsAs s = s .heading
+abbrev expectedHeading : Start → ℕ
+expectedHeading s = s .heading
 
-headings : map startsAt starts ≡ map startsAs starts
+headings : map computedHeading starts ≡ map expectedHeading starts
 headings = refl
 
 -- ---- trails
