@@ -43,8 +43,8 @@ static size_t put_trail(uint8_t *trail, line_codes line, const plain_record *rec
     const int32_t level_turn = 1 << (k - 1);
     const int32_t full_turn = 2 * record->bytes[21];
     /* The nearest heading, halves upwards; the first code takes a full turn back to 0. */
-    const int32_t half = 1 << (record->b - 1);
-    int32_t heading = ((int32_t)line.direction * full_turn + half) >> record->b;
+    const int32_t half_heading = 1 << (record->b - 1);
+    int32_t heading = ((int32_t)line.direction * full_turn + half_heading) >> record->b;
     int32_t level = 0;
     size_t elements = 0;
     for (uint32_t i = 0; i < line.count; i++) {

@@ -3,7 +3,7 @@
 use mathlib.Core.Path.{_≡_, sym, ap, _∙_}
 use Prim.Native.Nat.{ℕ, _+_, _-_, _*_, _%_, _^_, _≤_, _<_}
 use native.Mathlib.Omega.{arith}
-use native.Mathlib.Nat.{add-mul, one-mul, mul-comm, mul-assoc, mod-lt, mod-add-mod, add-mul-mod-self-left, div-mul-le-self, lt-div-mul-add, div-eq-of-lt-le}
+use native.Mathlib.Nat.{add-mul, one-mul, mul-left-comm, mod-lt, mod-add-mod, add-mul-mod-self-left, div-mul-le-self, lt-div-mul-add, div-eq-of-lt-le}
 use mathlib.Core.Bool.{Bool, true, false, not}
 use mathlib.Core.List.{List, [], _∷_}
 use lib.Dec.{T, ltb}
@@ -17,21 +17,20 @@ use Rattle.trail.specs.Trail.{nearest, Nearest, firstHeading, turnsLevel
 
 -- ---- the first heading
 
-twice : (h m : ℕ) → h * (2 * m) ≡ 2 * (h * m)
-twice h m = sym (mul-assoc h 2 m) ∙ ap (λ (x : ℕ). x * m) (mul-comm h 2) ∙ mul-assoc 2 h m
-
 -- the formula gives the nearest number
 pub nearest-near : (a m : ℕ) → 0 < m → Nearest a m (nearest a m)
 nearest-near a m p =
     let l : nearest a m * (2 * m) ≤ 2 * a + m = div-mul-le-self (2 * a + m) (2 * m) in
     let g : 2 * a + m < nearest a m * (2 * m) + 2 * m = lt-div-mul-add (omega arith) in
-    record { above = omega (arith, l, twice (nearest a m) m); below = omega (arith, g, twice (nearest a m) m) }
+    let e : nearest a m * (2 * m) ≡ 2 * (nearest a m * m) = mul-left-comm (nearest a m) 2 m in
+    record { above = omega (arith, l, e); below = omega (arith, g, e) }
 
 -- and there is no other
 pub nearest-only : (a m h : ℕ) → Nearest a m h → h ≡ nearest a m
 nearest-only a m h r =
     let e : (h + 1) * (2 * m) ≡ h * (2 * m) + 2 * m = add-mul h 1 (2 * m) ∙ ap (λ (x : ℕ). h * (2 * m) + x) (one-mul (2 * m)) in
-    sym (div-eq-of-lt-le (2 * m) (omega (arith, r .above, twice h m)) (omega (arith, r .below, twice h m, e)))
+    let f : h * (2 * m) ≡ 2 * (h * m) = mul-left-comm h 2 m in
+    sym (div-eq-of-lt-le (2 * m) (omega (arith, r .above, f)) (omega (arith, r .below, f, e)))
 
 -- of headings: there is a nearest to each start direction
 pub heading-near : (n b direction : ℕ) → Nearest (direction * (2 * n)) (2 ^ b) (nearest (direction * (2 * n)) (2 ^ b))

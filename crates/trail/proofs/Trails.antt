@@ -8,38 +8,38 @@ use Rattle.trail.specs.Trail.{firstHeading, trail}
 
 -- ---- first headings
 
-pub record Start : Type 0 where
+pub record Rounding : Type 0 where
   pub n : ℕ
   pub b : ℕ
   pub direction : ℕ
   pub heading : ℕ
 
-abbrev start : ℕ → ℕ → ℕ → ℕ → Start
-start n b d h = record { n = n; b = b; direction = d; heading = h }
+abbrev rounds : ℕ → ℕ → ℕ → ℕ → Rounding
+rounds n b d h = record { n = n; b = b; direction = d; heading = h }
 
-abbrev starts : List Start
-starts =
+abbrev roundings : List Rounding
+roundings =
     -- N = 32, b = 8, four directions to a heading: 0, 0.25, 0.5, 0.75, 1, 1.25
-    start 32 8 0 0 ∷ start 32 8 1 0 ∷ start 32 8 2 1 ∷ start 32 8 3 1 ∷ start 32 8 4 1 ∷ start 32 8 5 1
+    rounds 32 8 0 0 ∷ rounds 32 8 1 0 ∷ rounds 32 8 2 1 ∷ rounds 32 8 3 1 ∷ rounds 32 8 4 1 ∷ rounds 32 8 5 1
     -- 1.5 and 2.5: halves go upwards, to even headings and to odd ones
-    ∷ start 32 8 6 2 ∷ start 32 8 10 3
+    ∷ rounds 32 8 6 2 ∷ rounds 32 8 10 3
     -- 63 and 63.25; 63.5 and 63.75 come to the full turn, which is heading 0
-    ∷ start 32 8 252 63 ∷ start 32 8 253 63 ∷ start 32 8 254 0 ∷ start 32 8 255 0
+    ∷ rounds 32 8 252 63 ∷ rounds 32 8 253 63 ∷ rounds 32 8 254 0 ∷ rounds 32 8 255 0
     -- as many headings as directions
-    ∷ start 32 6 1 1 ∷ start 32 6 63 63
+    ∷ rounds 32 6 1 1 ∷ rounds 32 6 63 63
     -- b = 4 with N = 255: 31.875, 127.5, 255, 478.125
-    ∷ start 255 4 1 32 ∷ start 255 4 4 128 ∷ start 255 4 8 255 ∷ start 255 4 15 478
+    ∷ rounds 255 4 1 32 ∷ rounds 255 4 4 128 ∷ rounds 255 4 8 255 ∷ rounds 255 4 15 478
     -- N = 1, two headings: below a quarter of the turn and at it, below three quarters and there
-    ∷ start 1 8 63 0 ∷ start 1 8 64 1 ∷ start 1 8 191 1 ∷ start 1 8 192 0 ∷ start 1 4 3 0 ∷ start 1 4 4 1 ∷ start 1 4 12 0
+    ∷ rounds 1 8 63 0 ∷ rounds 1 8 64 1 ∷ rounds 1 8 191 1 ∷ rounds 1 8 192 0 ∷ rounds 1 4 3 0 ∷ rounds 1 4 4 1 ∷ rounds 1 4 12 0
     ∷ []
 
-abbrev computedHeading : Start → ℕ
-computedHeading s = firstHeading (s .n) (s .b) (s .direction)
+abbrev computedHeading : Rounding → ℕ
+computedHeading r = firstHeading (r .n) (r .b) (r .direction)
 
-abbrev expectedHeading : Start → ℕ
-expectedHeading s = s .heading
+abbrev expectedHeading : Rounding → ℕ
+expectedHeading r = r .heading
 
-headings : map computedHeading starts ≡ map expectedHeading starts
+headings : map computedHeading roundings ≡ map expectedHeading roundings
 headings = refl
 
 -- ---- trails

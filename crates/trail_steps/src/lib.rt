@@ -1,5 +1,5 @@
-// The walk along the codes of a line: the first heading, one step, how many elements it draws, and two writers of the trail, as 16-bit numbers and as
-// bytes. They run on a line that is known to be accepted.
+// The walk along the codes of a line: the first heading, one step, how many elements it draws, and two writers of the trail, as
+// 16-bit numbers and as bytes. They run on a line that is known to be accepted.
 ghost use mathlib.Core.Path.{_≡_};
 ghost use Prim.Native.Nat.{_-_, _*_, _^_, _≤_, _<_};
 ghost use mathlib.Core.Bool.{false};
