@@ -8,21 +8,8 @@
  *     cc -std=c11 -Wall -Wextra -Werror -I host tests/replay/replay.c \
  *        libhost.a -o replay && ./replay FILE
  *
- * All numbers in the file are unsigned, high byte first:
- *
- *     file   8 bytes "FSKCASES", 4 bytes number of cases, then the cases
- *     case   1 byte   call: 1 read, 2 write, 3 trail, 4 segment, 5 remove,
- *                     6 join, 7 part, 8 holds
- *            1 byte   number of numbers passed, then 8 bytes for each,
- *                     in the order of the call's declaration
- *            1 byte   number of input slices, then for each
- *                     4 bytes length and that many bytes
- *            4 bytes  size of the lent output in bytes
- *            1 byte   the byte that fills the output before the call
- *            4 bytes  expected number; of holds, expected second
- *            4 bytes  expected place
- *            8 bytes  expected length
- *            4 bytes  number of bytes written, then these bytes
+ * An accepted reading or writing is run back too: of a record by its sheet, and
+ * of local quality by its values.
  */
 #define _DEFAULT_SOURCE
 #include <inttypes.h>
@@ -31,38 +18,19 @@
 #include <stdarg.h>
 #include <stdint.h>
 #include <stdio.h>
-#include <stdlib.h>
 #include <string.h>
 #include <sys/mman.h>
 
+#include "case_file.h"
 #include "fsk.h"
 
-enum { READ = 1, WRITE, TRAIL, SEGMENT, REMOVE, JOIN, PART, HOLDS, CALLS };
-enum { MOST_NUMBERS = 4, MOST_INPUTS = 2, MOST_SHOWN = 20 };
+enum { MOST_SHOWN = 20 };
 enum { PAGES = 1 << 16, GUARD = 1 << 20 }; /* whole pages of any usual size */
 typedef enum { AT_END, AT_START, EMPTY_AS_NULL } placing;
-
-typedef struct { const uint8_t *bytes; size_t length; } slice;
-
-typedef struct {
-    unsigned call, numbers_passed, inputs_lent;
-    uint64_t numbers[MOST_NUMBERS];
-    slice inputs[MOST_INPUTS];
-    size_t out_size;
-    uint8_t fill;
-    uint32_t number, place;
-    uint64_t length;
-    slice written;
-} test_case;
 
 /* Pages that may be touched, between two guards that may not. */
 typedef struct { uint8_t *start; size_t size; } room;
 
-static const struct { const char *name; unsigned numbers, inputs; } calls[CALLS] = {
-    {"", 0, 0},        {"read", 0, 1},   {"write", 0, 1}, {"trail", 2, 1},
-    {"segment", 2, 1}, {"remove", 2, 2}, {"join", 4, 1},  {"part", 4, 1},
-    {"holds", 2, 2},
-};
 static const char *const placings[] = {"ends at a guard", "starts at a guard",
                                        "empty slices are null"};
 
@@ -74,78 +42,6 @@ static volatile sig_atomic_t in_call;
 static const uint8_t *volatile fault_address;
 static volatile sig_atomic_t fault_signal;
 static uint32_t shown;
-
-static _Noreturn void stop(const char *why)
-{
-    fprintf(stderr, "replay: %s\n", why);
-    exit(2);
-}
-
-/* ---- the file ---- */
-
-static slice take(slice *rest, size_t length)
-{
-    slice taken = {rest->bytes, length};
-    if (length > rest->length)
-        stop("the case file is cut");
-    rest->bytes += length;
-    rest->length -= length;
-    return taken;
-}
-
-static uint64_t take_number(slice *rest, size_t bytes)
-{
-    slice taken = take(rest, bytes);
-    uint64_t number = 0;
-    for (size_t i = 0; i < bytes; i++)
-        number = number << 8 | taken.bytes[i];
-    return number;
-}
-
-static test_case take_case(slice *rest)
-{
-    test_case c = {0};
-    c.call = (unsigned)take_number(rest, 1);
-    if (c.call < READ || c.call >= CALLS)
-        stop("the case file has an unknown call");
-    c.numbers_passed = (unsigned)take_number(rest, 1);
-    if (c.numbers_passed != calls[c.call].numbers)
-        stop("a case passes another number of numbers than its call takes");
-    for (unsigned i = 0; i < c.numbers_passed; i++)
-        c.numbers[i] = take_number(rest, 8);
-    c.inputs_lent = (unsigned)take_number(rest, 1);
-    if (c.inputs_lent != calls[c.call].inputs)
-        stop("a case lends another number of slices than its call takes");
-    for (unsigned i = 0; i < c.inputs_lent; i++)
-        c.inputs[i] = take(rest, (size_t)take_number(rest, 4));
-    c.out_size = (size_t)take_number(rest, 4);
-    c.fill = (uint8_t)take_number(rest, 1);
-    c.number = (uint32_t)take_number(rest, 4);
-    c.place = (uint32_t)take_number(rest, 4);
-    c.length = take_number(rest, 8);
-    c.written = take(rest, (size_t)take_number(rest, 4));
-    if (c.written.length > c.out_size)
-        stop("a case writes more than its output holds");
-    return c;
-}
-
-static slice whole_file(const char *path)
-{
-    FILE *file = fopen(path, "rb");
-    size_t room_for = 1 << 20, length = 0, got;
-    uint8_t *bytes = malloc(room_for);
-    if (file == NULL || bytes == NULL)
-        stop("the case file cannot be opened");
-    while ((got = fread(bytes + length, 1, room_for - length, file)) > 0) {
-        length += got;
-        if (length == room_for)
-            bytes = realloc(bytes, room_for *= 2);
-        if (bytes == NULL)
-            stop("no memory");
-    }
-    fclose(file);
-    return (slice){bytes, length};
-}
 
 /* ---- the lent slices ---- */
 
@@ -234,6 +130,10 @@ static fsk_answer library(const test_case *c)
     case HOLDS:
         held = fsk_holds(in, in_len, also, also_len, n[0], (size_t)c->numbers[1]);
         return (fsk_answer){held.second, 0, held.length};
+    case QUALITY:
+        return fsk_quality(in, in_len, n[0], n[1], out, out_len);
+    case SET_QUALITY:
+        return fsk_set_quality(in, in_len, n[0], n[1], also, also_len, out, out_len);
     }
     stop("a case has an unknown call");
 }
@@ -338,22 +238,30 @@ static int run_is_wrong(uint32_t index, const test_case *c, placing run)
     return 0;
 }
 
-/* The way back of an accepted read or write: the other call, on what was
- * written, must give the lent bytes back, in just the room that they take. */
-static int has_way_back(const test_case *c)
+/* The way back of an accepted case: the call that undoes it, on what was written,
+ * must give the lent bytes back, in just the room that they take. 0: there is none. */
+static unsigned call_back(const test_case *c)
 {
-    return c->number == 0 && (c->call == READ || c->call == WRITE);
+    static const unsigned back[CALLS] = {[READ] = WRITE, [WRITE] = READ,
+                                         [QUALITY] = SET_QUALITY, [SET_QUALITY] = QUALITY};
+    return c->number == 0 ? back[c->call] : 0;
 }
 
+/* Values that were read are written to the record they come from; those that were
+ * written are read from the new record. */
 static test_case way_back(const test_case *c)
 {
-    return (test_case){.call = c->call == READ ? WRITE : READ,
-                       .inputs_lent = 1,
-                       .inputs = {c->written},
-                       .out_size = c->inputs[0].length,
-                       .fill = c->fill,
-                       .length = c->inputs[0].length,
-                       .written = c->inputs[0]};
+    test_case back = {.call = call_back(c), .numbers_passed = c->numbers_passed, .fill = c->fill};
+    memcpy(back.numbers, c->numbers, sizeof back.numbers);
+    back.inputs_lent = calls[back.call].inputs;
+    back.inputs[0] = c->written;
+    back.written = c->inputs[c->inputs_lent - 1];
+    if (back.call == SET_QUALITY) {
+        back.inputs[0] = c->inputs[0];
+        back.inputs[1] = c->written;
+    }
+    back.out_size = back.length = back.written.length;
+    return back;
 }
 
 static int case_is_wrong(uint32_t index, const test_case *c)
@@ -371,16 +279,13 @@ int main(int argc, char **argv)
     slice rest;
     if (argc != 2)
         stop("one argument is needed, the case file");
-    rest = whole_file(argv[1]);
-    if (memcmp(take(&rest, 8).bytes, "FSKCASES", 8) != 0)
-        stop("this is no case file");
-    cases = (uint32_t)take_number(&rest, 4);
+    rest = all_cases(argv[1], &cases);
     make_rooms(rest, cases);
     catch_faults();
     for (uint32_t index = 0; index < cases; index++) {
         test_case c = take_case(&rest);
         int is_wrong = case_is_wrong(index, &c);
-        if (has_way_back(&c)) {
+        if (call_back(&c) != 0) {
             test_case back = way_back(&c);
             is_wrong |= case_is_wrong(index, &back);
             ways_back++;

@@ -8,6 +8,7 @@ from dataclasses import dataclass
 from functools import lru_cache
 
 import orders
+import quality
 from build import build
 from judge import judge
 from model import Refusal
@@ -15,14 +16,16 @@ from sheet import from_sheet, to_sheet
 from trail import rounding, trail
 
 CALLS = {"read": 1, "write": 2, "trail": 3, "segment": 4,
-         "remove": 5, "join": 6, "part": 7, "holds": 8}
+         "remove": 5, "join": 6, "part": 7, "holds": 8,
+         "quality": 9, "set_quality": 10}
 
 
 @dataclass
 class Outcome:
     """A refusal, or what is written; `length` counts elements of `size` bytes.
 
-    The fault (model.FAULTS) and the rounding (trail.ROUNDINGS) are only counted.
+    The fault (model.FAULTS, QUALITY_FAULTS) and the way (cases.WAYS) in which a
+    call was accepted are only counted.
     """
 
     number: int
@@ -31,7 +34,7 @@ class Outcome:
     written: bytes = b""
     size: int = 1
     fault: str = ""
-    rounding: str = ""
+    way: str = ""
 
 
 @lru_cache(maxsize=128)
@@ -51,9 +54,9 @@ def record_of(data):
     return result
 
 
-def written(data, size=1):
+def written(data, size=1, way=""):
     """Acceptance with the bytes written."""
-    return Outcome(0, 0, len(data) // size, data, size)
+    return Outcome(0, 0, len(data) // size, data, size, way=way)
 
 
 def answer_read(record):
@@ -67,7 +70,7 @@ def answer_write(sheet):
 def answer_trail(view, line, record):
     """Record, then 13, 15; two bytes for each element, high byte first.
 
-    A trail without elements has no rounding, as it shows none.
+    A trail without elements has no way of rounding, as it shows none.
     """
     whole = record_of(record)
     if view >= len(whole.views):
@@ -76,27 +79,32 @@ def answer_trail(view, line, record):
     if line >= len(lines):
         raise Refusal(15)
     elements = trail(lines[line], whole)
-    found = written(b"".join(element.to_bytes(2, "big") for element in elements), 2)
+    way = ""
     if elements:
-        found.rounding = rounding(lines[line].start_direction, whole.half_turn,
-                                  whole.b)
-    return found
+        way = rounding(lines[line].start_direction, whole.half_turn, whole.b)
+    return written(b"".join(element.to_bytes(2, "big") for element in elements),
+                   2, way)
+
+
+def view_with_segment(record, view, segment):
+    """The view that has a segment asked for by view and place: 13, 23."""
+    if view >= len(record.views):
+        raise Refusal(13)
+    if segment >= len(record.views[view].segments):
+        raise Refusal(23)
+    return record.views[view]
 
 
 def answer_segment(view, segment, record):
     """Record, then 13, 23; the payload's first bit and its length in bytes."""
-    whole = record_of(record)
-    if view >= len(whole.views):
-        raise Refusal(13)
-    segments = whole.views[view].segments
-    if segment >= len(segments):
-        raise Refusal(23)
-    found = segments[segment]
+    found = view_with_segment(record_of(record), view, segment).segments[segment]
     return Outcome(0, found.payload_bit, len(found.payload))
 
 
 def answer_remove(view, count, record, lines):
-    return written(build(orders.remove(record_of(record), view, count, lines)))
+    whole = record_of(record)
+    edited = orders.remove(whole, view, count, lines)
+    return written(build(edited), way=quality.carried(whole.views[view]))
 
 
 def answer_join(view, count, first, second, record):
@@ -117,9 +125,26 @@ def answer_holds(number, length, old, second):
     return Outcome(0, 0, len(old))
 
 
+def answer_quality(view, segment, record):
+    """Record, then 13, 23, 24; the payload's values."""
+    whole = view_with_segment(record_of(record), view, segment)
+    found = quality.read(whole, whole.segments[segment])
+    return written(quality.to_values(found), way=quality.reading(found))
+
+
+def answer_set_quality(view, segment, record, values):
+    """Record, then 13, 23, 24, 19; the record with that payload rewritten."""
+    whole = record_of(record)
+    old = view_with_segment(whole, view, segment)
+    new = quality.rewrite(old, segment, values)
+    return written(build(orders.with_view(whole, view, new)),
+                   way=quality.rewriting(old, segment, new))
+
+
 ANSWERS = {"read": answer_read, "write": answer_write, "trail": answer_trail,
            "segment": answer_segment, "remove": answer_remove,
-           "join": answer_join, "part": answer_part, "holds": answer_holds}
+           "join": answer_join, "part": answer_part, "holds": answer_holds,
+           "quality": answer_quality, "set_quality": answer_set_quality}
 
 
 def outcome(call, numbers, slices):

@@ -1,13 +1,15 @@
 """Makes random right records as structures, from a seeded source of chance.
 
 The kinds differ in what they reach: all widths, few and many lines, views with
-repeated positions, indexes of every sort, segments, and records that fill
-32,768 bytes to the last. Damage is done elsewhere.
+repeated positions, indexes of every sort, segments of local quality (right or not)
+and of other types, and records that fill 32,768 bytes to the last. Damage is done
+elsewhere.
 """
 
 from build import parts_of, size_of
-from model import (IMPRESSIONS, LARGEST_RECORD, MOST_LINES, Index, Line,
-                   Record, Segment, View, least_width)
+from make_quality import random_payload, random_size
+from model import (IMPRESSIONS, LARGEST_RECORD, MOST_LINES, QUALITY_TYPE, Index,
+                   Line, Record, Segment, View, least_width)
 
 
 def number(rng, width, style):
@@ -71,13 +73,19 @@ def random_index(rng, lines):
     return Index(w, neighbours)
 
 
-def random_segments(rng, most):
-    """Segments of any type; a payload may be empty."""
+def random_segments(rng, most, view):
+    """Segments of local quality, of other types, or of both; a payload may be empty."""
+    share = rng.choice((0.0, 0.5, 1.0, 1.0))
     segments = []
-    for _ in range(rng.randint(0, most)):
+    for _ in range(rng.randint(1, most)):
+        type_ = rng.choice((0, 1, 2, 4, 255, 0x0103, 0x0300, rng.getrandbits(16)))
         size = rng.choice((0, 0, 1, 2, rng.randint(0, 12), rng.randint(0, 80)))
-        type_ = rng.choice((0, 1, 2, 3, 255, 256, rng.getrandbits(16)))
-        segments.append(Segment(type_, rng.randbytes(size)))
+        payload = rng.randbytes(size)
+        if rng.random() < share:
+            type_ = QUALITY_TYPE
+        if type_ == QUALITY_TYPE or rng.random() < 0.2:
+            payload = random_payload(rng, view)
+        segments.append(Segment(type_, payload))
     return segments
 
 
@@ -87,11 +95,13 @@ def add_view(rng, record, position, lines, most_codes, style, segments):
     view = View(earlier, position, rng.choice(IMPRESSIONS),
                 rng.choice((0, 100, rng.randint(0, 100))),
                 number(rng, 16, style), number(rng, 16, style))
+    if rng.random() < 0.85:
+        view.width, view.height = random_size(rng), random_size(rng)
     view.lines = [random_line(rng, record, most_codes, style)
                   for _ in range(lines)]
     view.index = random_index(rng, lines)
     if rng.random() < segments:
-        view.segments = random_segments(rng, 4)
+        view.segments = random_segments(rng, 4, view)
     record.views.append(view)
     return view
 
@@ -128,11 +138,11 @@ def random_record(rng, size, segments=0.5):
     return record
 
 
-def fill(record, size, view=-1):
+def fill(record, size, view=-1, type_=0x0123):
     """Adds one segment to a view, so that the record has `size` bytes."""
     gap = size - size_of(parts_of(record)) - 4
     record.views[view].segments.append(
-        Segment(0x0123, bytes((7 * at + 1) % 256 for at in range(gap))))
+        Segment(type_, bytes((7 * at + 1) % 256 for at in range(gap))))
     return record
 
 

@@ -15,6 +15,7 @@ VIEW_HEADER_BYTES = 10
 IDENTIFIER = bytes([0x46, 0x53, 0x4B, 0x00])
 VERSION = bytes([0x30, 0x31, 0x30, 0x00])
 IMPRESSIONS = (0, 1, 2, 3, 8, 9)
+QUALITY_TYPE = 0x0003
 
 # What can be at fault, for each number that request [1] gives a place.
 FAULTS = {
@@ -34,13 +35,20 @@ FAULTS = {
     11: ("length under 4", "length past the block", "bytes over"),
     12: ("bytes after the last view",)}
 
+# What can be at fault in a segment of local quality, or in values for one, where
+# request [3] gives 24; it has no place.
+QUALITY_FAULTS = ("type", "under 3 bytes", "cell width 0", "cell height 0",
+                  "bits 0", "bits above 8", "too few bytes", "too many bytes",
+                  "1 in padding", "value above its bits")
+
 
 class Refusal(Exception):
-    """A refusal: its number, and for 2 to 12 its place and what is at fault."""
+    """A refusal: its number, for 2 to 12 its place, for these and 24 the fault."""
 
     def __init__(self, number, place=0, fault=""):
         super().__init__(number, place, fault)
-        if fault not in FAULTS.get(number, ("",)):
+        known = QUALITY_FAULTS if number == 24 else FAULTS.get(number, ("",))
+        if fault not in known:
             raise ValueError("%d has no fault %r" % (number, fault))
         if number not in FAULTS and place != 0:
             raise ValueError("%d has no place" % number)

@@ -6,7 +6,7 @@ differ; building it gives the new bytes, and 19 where they are too many.
 
 from dataclasses import replace
 
-from model import Index, Refusal, least_width
+from model import QUALITY_TYPE, Index, Refusal, least_width
 
 
 def named_view(record, place, count):
@@ -42,11 +42,15 @@ def removal_list(data, count):
 
 
 def remove(record, place, count, list_bytes):
-    """Removal: the survivors are renumbered, a removed line leaves all lists."""
+    """Removal: the survivors are renumbered, a removed line leaves all lists.
+
+    Segments of local quality are carried as they stand; another type gives 16.
+    """
     view = named_view(record, place, count)
     removed = set(removal_list(list_bytes, count))
-    if len(view.segments) > 0:
-        raise Refusal(16)
+    for segment in view.segments:
+        if segment.type != QUALITY_TYPE:
+            raise Refusal(16)
     survivors = [line for line in range(count) if line not in removed]
     new_number = {old: new for new, old in enumerate(survivors)}
     index = None

@@ -1,14 +1,16 @@
 """Plans the cases of the three orders: single orders and whole sequences.
 
 In a sequence each accepted result is lent to the next order, as document 01
-means it; a refused order leaves the record that now holds.
+means it; a refused order leaves the record that now holds. Where rewritings of
+local quality are chosen too, they stand among the orders.
 """
 
 from answers import judged, outcome
 from build import build
 from lend import lend, line_count, place_in
 from make import fill, growing, random_record
-from model import LARGEST_RECORD, Record
+from model import LARGEST_RECORD, QUALITY_TYPE, Record
+from quality_plan import set_quality_case
 
 
 def numbers_as_bytes(numbers):
@@ -75,18 +77,27 @@ def pair_for(rng, call, index, count):
     return [first, second] if rng.random() < 0.5 else [second, first]
 
 
+def can_be_obeyed(call, view):
+    """Whether some order of this call on the view is accepted, or likely is."""
+    if call == "remove":
+        return view.lines and all(segment.type == QUALITY_TYPE
+                                  for segment in view.segments)
+    return view.lines and view.index is not None
+
+
 def chosen_view(rng, call, record):
     """A view's place: mostly one in which the order can be obeyed."""
     fitting = [place for place, view in enumerate(record.views)
-               if (not view.segments and view.lines if call == "remove"
-                   else view.index is not None and view.lines)]
+               if can_be_obeyed(call, view)]
     if fitting and rng.random() < 0.8:
         return rng.choice(fitting)
     return place_in(rng, len(record.views), 0.25)
 
 
-def order_case(rng, call, data, out_size=None):
-    """The case of one order on a record's bytes."""
+def order_case(rng, call, data):
+    """One order, or a rewriting of local quality, on a record's bytes."""
+    if call == "set_quality":
+        return set_quality_case(rng, data)
     record = judged(data)
     view, count, index = 0, rng.randrange(3), None
     if isinstance(record, Record):
@@ -97,15 +108,15 @@ def order_case(rng, call, data, out_size=None):
             index = record.views[view].index
     numbers = [view, line_count(rng, count)]
     if call == "remove":
-        return lend(rng, call, numbers, [data, list_bytes(rng, count)], out_size)
+        return lend(rng, call, numbers, [data, list_bytes(rng, count)])
     numbers += pair_for(rng, call, index, count)
-    return lend(rng, call, numbers, [data], out_size)
+    return lend(rng, call, numbers, [data])
 
 
 def sequence(rng, calls, length):
     """Orders one after another; each accepted result is lent to the next."""
     size = rng.choices(("small", "middle", "views"), (60, 37, 3))[0]
-    data = build(random_record(rng, size, 0.2))
+    data = build(random_record(rng, size, 0.5))
     for _ in range(length):
         case = order_case(rng, rng.choice(calls), data)
         yield case
@@ -125,14 +136,18 @@ def growing_order(rng, call, middle):
 
 
 def growing_case(rng, call):
-    """An order that makes w grow, mostly up to 32,768 bytes or just past it: 19."""
+    """An order that makes w grow, mostly up to 32,768 bytes or just past it: 19.
+
+    What fills the record stands in another view, or is carried as local quality.
+    """
     record, middle = growing(rng, rng.randint(2, 9))
     numbers, more = growing_order(rng, call, middle)
     data = build(record)
     if rng.random() < 0.8:
         growth = outcome(call, numbers, [data] + more).length - len(data)
         past = min(growth, rng.choice((-1, 0, 0, 1, 1, 2, 9)))
-        data = build(fill(record, LARGEST_RECORD + past - growth))
+        view, type_ = rng.choice(((-1, 0x0123), (0, QUALITY_TYPE)))
+        data = build(fill(record, LARGEST_RECORD + past - growth, view, type_))
     out_size = rng.choice((None, None, 0, 32767, 32768, 32769, 40000))
     return lend(rng, call, numbers, [data] + more, out_size)
 

@@ -18,6 +18,7 @@ from lend import lend, place_in
 from make import long_records, random_record
 from model import Record
 from orders_plan import order_case, order_stream
+from quality_plan import quality_stream, removal_edges, set_quality_stream
 from sheet import to_sheet
 
 
@@ -156,10 +157,11 @@ def write_stream(rng, stock, budget):
 def holds_stream(rng, stock, _budget):
     """After real orders, and with numbers and lengths of every sort."""
     while True:
-        old = right_bytes(rng, stock, 0.2)
+        old = right_bytes(rng, stock, 0.4)
         if rng.random() < 0.2:
             old = rng.randbytes(rng.randint(0, 60))
-        case = order_case(rng, rng.choice(("remove", "join", "part")), old)
+        call = rng.choice(("remove", "join", "part", "set_quality"))
+        case = order_case(rng, call, old)
         expected = case.expected
         second = expected.written + bytes([case.fill]) * (
             case.out_size - len(expected.written))
@@ -171,21 +173,32 @@ def holds_stream(rng, stock, _budget):
         yield lend(rng, "holds", [number, length], [old, rng.randbytes(room)])
 
 
-def order_call_stream(call, orders, rng, stock, budget):
-    """The edges, then one order's cases; their sequences use all chosen orders."""
+def order_call_stream(call, sequenced, rng, stock, budget):
+    """The edges, then one order's cases; their sequences use all calls chosen."""
+    if call == "remove":
+        yield from removal_edges(rng, budget // 20)
     for data in some_edges(rng, stock, budget * 2 // 5):
         yield order_case(rng, call, data)
-    segments = 0.15 if call == "remove" else 0.5
+    segments = 0.4 if call == "remove" else 0.5
     source = records(rng, stock, 0, 0.75, segments)
-    yield from order_stream(rng, call, orders, source)
+    yield from order_stream(rng, call, sequenced, source)
+
+
+def quality_call_stream(stream, rng, stock, budget):
+    """The cases of a call on local quality; mostly there is such a segment."""
+    source = records(rng, stock, budget // 3, 0.8, 0.97)
+    yield from stream(rng, source, budget // 5)
 
 
 def streams(calls):
     """For each chosen call the maker of its stream of cases."""
     makers = {"read": read_stream, "trail": trail_stream,
               "segment": segment_stream, "write": write_stream,
-              "holds": holds_stream}
+              "holds": holds_stream,
+              "quality": partial(quality_call_stream, quality_stream),
+              "set_quality": partial(quality_call_stream, set_quality_stream)}
     orders = [call for call in calls if call not in makers]
+    sequenced = orders + [call for call in calls if call == "set_quality"]
     for call in orders:
-        makers[call] = partial(order_call_stream, call, orders)
+        makers[call] = partial(order_call_stream, call, sequenced)
     return makers

@@ -1,9 +1,9 @@
-"""Document 01's samples P1 to P11, its run-only samples, places and first headings.
+"""Document 01's samples P1 to P11, its run-only samples, places, headings, quality.
 
 All are assertions. Run it alone; it prints one line when all hold. It shows
 that the second program reads document 01 as its own samples do, and that every
-fault has the place worked out by hand, and every direction the nearest heading,
-before it judges anything.
+fault has the place worked out by hand, every direction the nearest heading, and
+local quality the bytes worked out by hand, before it judges anything.
 """
 
 from dataclasses import replace
@@ -14,6 +14,7 @@ from build import build, index_bytes, parts_of, put_together
 from faults import all_faults, base_bytes
 from judge import judge
 from model import FAULTS, Index, Line, Record, Refusal, Segment, View, least_width
+from samples_quality import local_quality
 from sheet import to_sheet
 from trail import first_heading, rounding, trail
 
@@ -141,7 +142,8 @@ def places():
     assert number_and_place(base_bytes()) == (0, 0)
     arguments = {"read": ([], []), "trail": ([0, 0], []), "segment": ([0, 0], []),
                  "remove": ([0, 1], [bytes([0, 0])]), "join": ([1, 2, 0, 0], []),
-                 "part": ([1, 2, 1, 1], [])}
+                 "part": ([1, 2, 1, 1], []), "quality": ([1, 0], []),
+                 "set_quality": ([1, 0], [bytes([255, 255, 1])])}
     met = set()
     for number, place, fault, data in all_faults():
         met.add((number, fault))
@@ -156,7 +158,10 @@ def places():
             ("segment", [2, 0], [], 13), ("segment", [1, 1], [], 23),
             ("remove", [1, 1], [bytes([0, 0])], 14),
             ("remove", [1, 2], [bytes([0, 0])], 16), ("join", [0, 1, 0, 0], [], 17),
-            ("join", [1, 2, 1, 0], [], 18), ("part", [1, 2, 0, 0], [], 18)):
+            ("join", [1, 2, 1, 0], [], 18), ("part", [1, 2, 0, 0], [], 18),
+            ("quality", [2, 0], [], 13), ("quality", [1, 1], [], 23),
+            ("quality", [1, 0], [], 24), ("set_quality", [2, 0], [b""], 13),
+            ("set_quality", [1, 1], [b""], 23), ("set_quality", [1, 0], [b""], 24)):
         found = outcome(call, numbers, [base_bytes()] + more)
         assert (found.number, found.place) == (number, 0), found
     found = outcome("segment", [1, 0], [base_bytes()])
@@ -202,5 +207,6 @@ if __name__ == "__main__":
     run_only_samples()
     places()
     headings()
-    print("samples: P1 to P11, the run-only samples, %d places and the headings hold"
-          % len(all_faults()))
+    local_quality(SAMPLE_A)
+    print("samples: P1 to P11, the run-only samples, %d places, the headings and"
+          " local quality hold" % len(all_faults()))

@@ -4,11 +4,12 @@
 
 The program `vectors` prints, for each file that its arguments name, the
 listing, then of a refused record the refusal's place, else the sheet's size
-and the first trails and segments of each view. Here the same text comes from
-this program's own judge, sheet, trail and segment code, and vectors_records.py
-makes records from plain values, so that neither rests on the library. Without
-an argument files and text are compared; with --write they are written and then
-compared.
+and the first trails and segments of each view. Behind the line of a segment whose
+local quality can be read stand its values, where 256 bytes hold them. Here the
+same text comes from this program's own judge, sheet, trail, segment and quality
+code, and vectors_records.py and vectors_quality.py make records from plain values,
+so that neither rests on the library. Without an argument files and text are
+compared; with --write they are written and then compared.
 """
 
 import argparse
@@ -20,11 +21,14 @@ from answers import lent, outcome
 from judge import judge
 from model import FAULTS, LARGEST_RECORD, Refusal
 from trail import trail
-from vectors_records import FINGERS, new_samples
+from vectors_quality import quality_samples
+from vectors_records import (FINGERS, heading_samples, limit_samples,
+                             refused_samples)
 
 FOLDER = Path(__file__).resolve().parents[2] / "crates" / "vectors"
 MOST_READ = LARGEST_RECORD + 1
 SHEET_ROOM = 65536
+QUALITY_ROOM = 256
 MOST_SHOWN = 8
 
 # The samples that are not made here; only their text is worked out.
@@ -32,6 +36,12 @@ FOUND = ("a", "p3", "p5", "p6", "p7", "p8-b3", "p8-b4", "p9", "p10", "p11",
          "p11-removed", "annex-a", "annex-a-mended", "annex-a1", "annex-a2",
          "annex-a3", "annex-a4", "annex-b", "annex-b-89", "annex-b-87",
          "annex-b-mended")
+
+
+def new_samples():
+    """All samples made here, by name."""
+    return {**limit_samples(), **heading_samples(), **quality_samples(),
+            **refused_samples()}
 
 
 def view_text(view):
@@ -52,16 +62,26 @@ def sheet_text(data):
     return "sheet %d" % read.length
 
 
+def segment_rows(data, view, segment):
+    """A segment's size, and the values of its local quality if the room holds them."""
+    found = outcome("segment", [view, segment], [data])
+    rows = ["segment %d %d: %d bytes" % (view, segment, found.length)]
+    read = lent(outcome("quality", [view, segment], [data]), QUALITY_ROOM)
+    if read.number == 0:
+        values = "".join(" %d" % value for value in read.written)
+        rows.append("quality %d %d:%s" % (view, segment, values))
+    return rows
+
+
 def detail_rows(data, record):
-    """Each view's first trails, then the sizes of its first segments."""
+    """Each view's first trails, then its first segments."""
     rows = []
     for place, view in enumerate(record.views):
         for at, line in enumerate(view.lines[:MOST_SHOWN]):
             numbers = "".join(" %d" % element for element in trail(line, record))
             rows.append("trail %d %d:%s" % (place, at, numbers))
         for at in range(min(len(view.segments), MOST_SHOWN)):
-            found = outcome("segment", [place, at], [data])
-            rows.append("segment %d %d: %d bytes" % (place, at, found.length))
+            rows += segment_rows(data, place, at)
     return rows
 
 

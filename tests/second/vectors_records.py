@@ -3,6 +3,7 @@
 Some stand at document 01's limits, and beside them those just beyond. Some show
 how request [2] rounds a first heading. The small refused ones are sample A with
 one change each: together with the limits they have every number from 1 to 12.
+Those that show local quality stand in vectors_quality.py.
 """
 
 from build import build, parts_of, put_together
@@ -232,8 +233,3 @@ def refused_samples():
         "segment-5": a_with_extended("0101 0005"),
         "over-1": a_with_extended("0101 0004 00"),
         "after-1": a_and_byte()}
-
-
-def new_samples():
-    """All samples made here, by name."""
-    return {**limit_samples(), **heading_samples(), **refused_samples()}

@@ -6,7 +6,7 @@ use mathlib.Core.Bool.{Bool, true, false}
 use mathlib.Core.Option.{Option, none, some, Option·map}
 use mathlib.Core.List.{List, [], _∷_, _++_, map}
 use native.Mathlib.Numerals.{add-one}
-use lib.ListN.{length, take, drop, getD, length-drop}
+use lib.ListN.{length, take, drop, getD, set, length-drop}
 use lib.Seq.{take-suc, drop-cons}
 use lib.Dec.{T}
 use mir.Facts.{and-yes, yes-and}
@@ -30,6 +30,11 @@ pub all-at : {A : Type 0} (P : A → Type 0) (d : A) (xs : List A) (p : ℕ) →
 all-at P d [] p l h = absurd (omega arith)
 all-at P d (x ∷ xs) zero l h = h .0
 all-at P d (x ∷ xs) (suc p) l h = all-at P d xs p (omega arith) (h .1)
+
+pub all-set : {A : Type 0} (P : A → Type 0) (xs : List A) (p : ℕ) (y : A) → P y → All P xs → All P (set xs p y)
+all-set P [] p y h a = tt
+all-set P (x ∷ xs) zero y h a = (h, a .1)
+all-set P (x ∷ xs) (suc p) y h a = (a .0, all-set P xs p y h (a .1))
 
 pub all-map : {A B : Type 0} (P : B → Type 0) (Q : A → Type 0) (f : A → B) (xs : List A) → ((x : A) → Q x → P (f x)) → All Q xs → All P (map f xs)
 all-map P Q f [] h a = tt

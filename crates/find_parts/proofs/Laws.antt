@@ -14,3 +14,4 @@ pub mod Lists
 pub mod Index
 pub mod Segments
 pub mod Written
+pub mod Apart

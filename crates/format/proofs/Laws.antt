@@ -1,6 +1,7 @@
 -- The laws of the formats, by topic.
 pub mod Size
 pub mod Record
-pub mod Call
+pub mod Changed
 pub mod Refuses
+pub mod Call
 pub mod Numbers

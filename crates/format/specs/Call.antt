@@ -1,5 +1,5 @@
 -- A call on a record: the record is judged first, 1 to 12, and an accepted one has an outcome of the call's own. A call on one of its
--- views: the view is named, and one that is there has the call's own outcome.
+-- views, or on a segment of a view: it is named, and one that is there has the call's own outcome.
 use Prim.Native.Nat.{ℕ, _-_, _*_}
 use mathlib.Core.Bool.{Bool}
 use mathlib.Core.List.{List}
@@ -8,9 +8,10 @@ use lib.Dec.{ltb}
 use Rattle.bits.specs.Choice.{pick}
 use Rattle.bits.specs.Codec.{Read}
 use Rattle.bits.specs.Codec as C
-use Rattle.outcome.specs.Refusals.{noView}
+use Rattle.outcome.specs.Refusals.{noView, noSegment}
 use Rattle.outcome.specs.Outcome.{Outcome, refused}
 use Rattle.format.specs.Record.{Record, read}
+use Rattle.format.specs.Places.{viewAt}
 
 -- a refusal's place is counted from the start of the bytes, which have n bits
 abbrev pub fromRead : {A : Type 0} → ℕ → (Record → Outcome A) → Read Bool Record → Outcome A
@@ -26,3 +27,10 @@ inView view f r = pick (ltb view (length (r .views))) (f view r) (refused noView
 
 unfoldable pub onView : {A : Type 0} → ℕ → (ℕ → Record → Outcome A) → List ℕ → Outcome A
 onView view f = onRecord (inView view f)
+
+-- "no segment with that place": 23, behind 13. A segment is named by its view and its place there.
+abbrev pub inSegment : {A : Type 0} → ℕ → (ℕ → Record → Outcome A) → ℕ → Record → Outcome A
+inSegment place f view r = pick (ltb place (length (viewAt r view .segments))) (f view r) (refused noSegment 0)
+
+unfoldable pub onSegment : {A : Type 0} → (view place : ℕ) → (ℕ → Record → Outcome A) → List ℕ → Outcome A
+onSegment view place f = onView view (inSegment place f)

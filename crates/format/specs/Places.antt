@@ -3,7 +3,7 @@
 use Prim.Native.Nat.{ℕ, _+_}
 use mathlib.Core.Option.{none}
 use mathlib.Core.List.{List, []}
-use lib.ListN.{length, take, getD}
+use lib.ListN.{length, take, getD, set}
 use Rattle.bits.specs.Lists.{total}
 use Rattle.format.specs.Line.{Line, skeleton}
 use Rattle.format.specs.Index.{indexBlock}
@@ -11,6 +11,7 @@ use Rattle.format.specs.Segments.{Segment, segment}
 use Rattle.format.specs.View.{View, view}
 use Rattle.format.specs.Record.{Record}
 use Rattle.format.specs.declared.Widths.{Widths}
+use Rattle.format.specs.declared.Image.{Image}
 
 abbrev pub noLine : Line
 noLine = record { start = record { kind = 0; direction = 0; x = 0; y = 0 }; codes = []; finish = record { kind = 0; direction = 0; x = 0; y = 0 } }
@@ -23,6 +24,14 @@ noViewThere = record { head = record { number = 0; position = 0; impression = 0;
 
 abbrev pub viewAt : Record → ℕ → View
 viewAt r i = getD (r .views) i noViewThere
+
+-- the record with another view at that place
+abbrev pub withView : Record → ℕ → View → Record
+withView r i v = record { head = r .head; views = set (r .views) i v }
+
+-- the size of a view's image
+abbrev pub imageOf : View → Image
+imageOf v = record { width = v .head .width; height = v .head .height }
 
 -- how many lines a view has
 abbrev pub count : View → ℕ
@@ -47,3 +56,8 @@ bitsAhead w v = 80 + length (skeleton w .enc (v .lines)) + 16 + length (indexBlo
 
 abbrev pub segmentBits : List Segment → ℕ
 segmentBits gs = total (λ g. length (segment .enc g)) gs
+
+-- the first bit of a payload, behind its type and its length
+abbrev pub firstBit : (view place : ℕ) → Record → ℕ
+firstBit view place r =
+    bitsBefore r view + bitsAhead (r .head .scale .widths) (viewAt r view) + segmentBits (take place (viewAt r view .segments)) + 32

@@ -6,7 +6,7 @@ use native.Mathlib.Omega.{arith}
 use mathlib.Core.Bool.{Bool}
 use mathlib.Core.List.{List}
 use lib.ListN.{length, length-append}
-use lib.Dec.{leb}
+use lib.Dec.{leb, eqb}
 use Rattle.bits.specs.BitsLaws.{length-bits}
 use Rattle.bits.specs.Codec.{Codec}
 use Rattle.bits.specs.CodecLaws.{field, then, via, only, times}
@@ -28,6 +28,13 @@ unfoldable pub segment : Codec Bool Segment
 segment =
     via (room (then (field badSegment 16) λ _. measured) badSegment 32 (λ t h. segment-long badSegment (t .0) (t .1 .0) (t .1 .1)))
     makeSegment partsOfSegment FitsSegment segment-matches
+
+-- a segment of local quality (clause 7.5.4), by its type
+abbrev pub localQuality : ℕ
+localQuality = 0x0003
+
+abbrev pub isQuality : Segment → Bool
+isQuality g = eqb (g .kind) localQuality
 
 -- ---- the block
 

@@ -47,6 +47,19 @@ impl ViewHeader {
     pub const MOST_LINES: usize = 1024;
 }
 
+// The image of a finger that a view was made from: its size in points.
+pub struct Image {
+    pub width: usize,
+    pub height: usize,
+}
+
+// The types of segments whose payload has a format here.
+pub struct SegmentType;
+
+impl SegmentType {
+    pub const LOCAL_QUALITY: usize = 3;
+}
+
 // Where a line starts or ends. Kinds: 0 imaginary end, 1 ridge end, 2 bifurcation, 3 imaginary continuation.
 pub struct End {
     pub kind: usize,

@@ -5,6 +5,7 @@ ghost use Rattle.outcome.specs.Outcome.{Answers, AnswersInBytes};
 ghost use Rattle.sheet.specs.Sheet.{reading, writing};
 ghost use Rattle.trail.specs.Trail.{trailing};
 ghost use Rattle.segment.specs.Segment.{segmentAnswer};
+ghost use Rattle.quality.specs.Quality.{quality, setQuality};
 ghost use Rattle.orders.specs.Order.{order};
 ghost use Rattle.order_holds.specs.Held.{held};
 ghost use Rattle.orders.specs.Called.{removalOrder, pairOrder};
@@ -14,6 +15,8 @@ use ordering::join;
 use ordering::part;
 use ordering::remove;
 use outcome::Answer;
+use quality_reading::quality;
+use quality_setting::set_quality;
 use reading::read;
 use segment::segment;
 use trailing::trail_as_bytes;
@@ -45,6 +48,26 @@ pub extern "C" fn fsk_segment(bytes: &[u8], view: u32, place: u32) -> Answer
     ensures { λ r. ⌜ r ≡ segmentAnswer view place (now (bytes .entry)) ⌝ }
 {
     segment(bytes, view as usize, place as usize)
+}
+
+#[no_mangle]
+pub extern "C" fn fsk_quality(bytes: &[u8], view: u32, place: u32, values: &mut [u8]) -> Answer
+    ensures { λ r. ⌜ Answers (quality view place (now (bytes .entry))) (now (values .entry)) (now (values .exit)) r ⌝ }
+{
+    quality(bytes, view as usize, place as usize, values)
+}
+
+#[no_mangle]
+pub extern "C" fn fsk_set_quality(
+    bytes: &[u8],
+    view: u32,
+    place: u32,
+    values: &[u8],
+    out: &mut [u8],
+) -> Answer
+    ensures { λ r. ⌜ Answers (setQuality view place (now (values .entry)) (now (bytes .entry))) (now (out .entry)) (now (out .exit)) r ⌝ }
+{
+    set_quality(bytes, view as usize, place as usize, values, out)
 }
 
 #[no_mangle]

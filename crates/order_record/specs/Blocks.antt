@@ -1,15 +1,14 @@
 -- The blocks that an order leaves, and what the code that measures and puts them asks and answers. The order is known by a removal's
 -- bytes and a change of one list.
 use mathlib.Core.Path.{_≡_}
-use Prim.Native.Nat.{ℕ, _+_, _-_, _≤_, _<_}
+use Prim.Native.Nat.{ℕ, _+_, _≤_, _<_}
 use mathlib.Core.Option.{Option, some, Option·map}
-use mathlib.Core.List.{List, [], _++_}
-use lib.ListN.{length, take, drop}
+use mathlib.Core.List.{List, []}
+use lib.ListN.{length}
 use Rattle.bits.specs.Lists.{All, Along}
 use Rattle.bits.specs.Bytes.{Byte, bitsOf, inBytes}
 use Rattle.bits.specs.Codec.{got}
 use Rattle.put_bytes.specs.Laid.{Laid}
-use Rattle.put_bytes.specs.HighFirst.{two}
 use Rattle.format.specs.Line.{Line, skeleton}
 use Rattle.format.specs.Differences.{Falls}
 use Rattle.format.specs.Index.{Index, up, indexBlock}
@@ -22,20 +21,6 @@ use Rattle.order_lists.specs.Index.{left}
 use Rattle.order_lists.specs.declared.lists.Change.{Change}
 use Rattle.order_lists.specs.declared.index.Size.{Size}
 use Rattle.order_lines.specs.Lines.{keptBlock}
-
--- ---- the record's first bytes, up to byte `to`, with another record length
-
-abbrev pub headOf : List ℕ → ℕ → ℕ → List ℕ
-headOf s to n = (take 10 s ++ two n) ++ take (to - 12) (drop 12 s)
-
-pub record HeadRoom (s : List ℕ) (to n : ℕ) (out : List ℕ) : Type 0 where
-  pub from : 12 ≤ to
-  pub within : to ≤ length s
-  pub small : n < 65536
-  pub room : to ≤ length out
-
-abbrev pub HeadLaid : List ℕ → ℕ → ℕ → (before after : List ℕ) → ℕ → Type 0
-HeadLaid s to n before after r = Laid (headOf s to n) before after r
 
 -- ---- the skeleton block of a view with `lines` lines, whose old bytes are s
 

@@ -4,13 +4,13 @@ use mathlib.Core.Path.{_≡_}
 use Prim.Native.Nat.{ℕ, _≤_}
 use mathlib.Core.Option.{some}
 use mathlib.Core.List.{List, []}
-use lib.ListN.{length, set}
+use lib.ListN.{length}
 use Rattle.bits.specs.Codec.{got}
 use Rattle.put_bytes.specs.Laid.{Laid}
 use Rattle.format.specs.Index.{Index}
 use Rattle.format.specs.View.{View}
 use Rattle.format.specs.Record.{Record, read, size}
-use Rattle.format.specs.Places.{viewAt, count}
+use Rattle.format.specs.Places.{viewAt, withView, count}
 use Rattle.orders.specs.Listed.{removalLines}
 use Rattle.orders.specs.Act.{Act, newLists, newLines}
 use Rattle.order_removal.specs.Rank.{Rising}
@@ -28,7 +28,7 @@ newView removal ch v =
     record { head = v .head; lines = keptFrom (removalLines removal) 0 (v .lines); index = newIndex removal ch (v .index); segments = v .segments }
 
 unfoldable pub newRecord : List ℕ → Change → ℕ → Record → Record
-newRecord removal ch i r = record { head = r .head; views = set (r .views) i (newView removal ch (viewAt r i)) }
+newRecord removal ch i r = withView r i (newView removal ch (viewAt r i))
 
 -- to the view v, the order of the definitions is that of code
 pub record Means (a : Act) (v : View) (removal : List ℕ) (ch : Change) : Type 0 where

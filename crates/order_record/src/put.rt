@@ -1,5 +1,5 @@
 // The new record, written to the lent buffer: each block is put together in the part that starts where the block before ended.
-ghost use Rattle.order_record.specs.Blocks.{HeadRoom, HeadLaid, SkeletonRoom, SkeletonLaid, IndexRoom, IndexLaid};
+ghost use Rattle.order_record.specs.Blocks.{SkeletonRoom, SkeletonLaid, IndexRoom, IndexLaid};
 ghost use Rattle.order_record.specs.Rebuilt.{RebuildRoom, Rebuilt};
 use crate::measure::Sizes;
 use find_parts::site::Site;
@@ -9,17 +9,7 @@ use order_lists::index::index_put;
 use order_lists::lists::Change;
 use put_bytes::copy;
 use put_bytes::put_two;
-
-// The first bytes of the record `old`, up to byte `to`, with the record length `bytes`.
-fn head_put(out: &mut [u8], old: &[u8], to: usize, bytes: usize) -> usize
-    requires { ⌜ HeadRoom (now old) to bytes (now out) ⌝ }
-    ensures { λ r. ⌜ HeadLaid (now (old .entry)) to bytes (now (out .entry)) (now (out .exit)) r ⌝ }
-{
-    let mut at = copy(out, &old[0..10]);
-    at += put_two(&mut out[at..], bytes);
-    at += copy(&mut out[at..], &old[12..to]);
-    at
-}
+use put_record::head_put;
 
 // The length `bytes`, and behind it the new skeleton block. The old one is `block`, of `lines` lines, and a pair order copies it.
 fn skeleton_put(

@@ -1,5 +1,5 @@
-// Orders on a record: remove lines, join a pair, part a pair. The record is judged, the view is found and its line count compared; then
-// come the order's own tests, the size of the new record, and the room that is lent. Only then is anything written.
+// Orders on a record: remove lines, join a pair, part a pair. The record is judged, the view is found and its line count compared;
+// then come the order's own tests, the size of the new record, and the room that is lent. Only then is anything written.
 ghost use mathlib.Core.Path.{_≡_};
 ghost use Prim.Native.Nat.{min, max};
 ghost use mathlib.Core.Bool.{true, false, not};
@@ -13,6 +13,7 @@ use order_carry::carry_out;
 use order_lists::lists::Change;
 use order_near::are_near;
 use order_removal::lines_right;
+use order_segments::only_quality;
 use order_view::NamedView;
 use order_view::named_view;
 use outcome::Answer;
@@ -28,15 +29,17 @@ pub fn remove(bytes: &[u8], view: usize, count: usize, removal: &[u8], out: &mut
         NamedView::Refused { number, place } => refuse_at(number, place),
         NamedView::At(site) => {
             if lines_right(removal, count) {
-                if site.extended.from < site.extended.to {
-                    refuse(Refusal::EXTENDED)
-                } else {
+                let from = site.extended.from;
+                let to = site.extended.to;
+                if only_quality(&bytes[from..to]) {
                     let change = Change {
                         high: count,
                         low: 0,
                         joins: false,
                     };
                     carry_out(bytes, site, change, removal, out)
+                } else {
+                    refuse(Refusal::EXTENDED)
                 }
             } else {
                 refuse(Refusal::BAD_LINES)

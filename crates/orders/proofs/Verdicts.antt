@@ -1,8 +1,8 @@
 -- Orders, computed: the refusals 13 to 18 in their order, and the records that accepted orders leave.
 use mathlib.Core.Path.{_≡_, refl}
-use Prim.Native.Nat.{ℕ}
+use Prim.Native.Nat.{ℕ, _+_}
 use mathlib.Core.List.{List, [], _∷_, _++_, map}
-use lib.ListN.{set}
+use lib.ListN.{length, set}
 use Rattle.bits.specs.Bits.{numberOfBits, bitsOfNumber}
 use Rattle.bits.specs.Bytes.{bitsOf, bytesOf}
 use Rattle.bits.specs.Codec.{thenDec, viaDec, onlyDec, judgedDec, wholeDec, roomDec}
@@ -42,8 +42,25 @@ row a bytes o = record { order = record { view = 0; count = 2; act = a }; bytes 
 abbrev parted : List ℕ
 parted = twoLines 56 (indexed 0x00) none
 
-abbrev withSegment : List ℕ
-withSegment = twoLines 60 (indexed 0x60) (0x00 ∷ 0x04 ∷ 0x00 ∷ 0x03 ∷ 0x00 ∷ 0x04 ∷ [])
+-- ---- views with segments: sample A with this extended block of under 256 bytes, and what is left of it without its lines
+
+abbrev withSegments : List ℕ → List ℕ
+withSegments x = twoLines (56 + length x) (indexed 0x60) (0x00 ∷ length x ∷ x)
+
+abbrev emptied : List ℕ → List ℕ
+emptied x = headerA (39 + length x) 8 ++ viewHeaderA 0 ++ 0x00 ∷ 0x01 ∷ 0x01 ∷ 0x00 ∷ length x ∷ x
+
+-- local quality of an image of 256 by 256, in cells of 128 by 128 with 2 bits
+abbrev cells : List ℕ
+cells = 0x00 ∷ 0x03 ∷ 0x00 ∷ 0x08 ∷ 0x80 ∷ 0x80 ∷ 0x02 ∷ 0x1B ∷ []
+
+-- the same with cells of width 0, which no payload may have
+abbrev broken : List ℕ
+broken = 0x00 ∷ 0x03 ∷ 0x00 ∷ 0x08 ∷ 0x00 ∷ 0x80 ∷ 0x02 ∷ 0x1B ∷ []
+
+-- a segment of this type, without payload
+abbrev ofType : (high low : ℕ) → List ℕ
+ofType high low = high ∷ low ∷ 0x00 ∷ 0x04 ∷ []
 
 abbrev table : List Row
 table =
@@ -53,20 +70,35 @@ table =
     ∷ record { order = record { view = 1; count = 0; act = remove [] }; bytes = sampleA; gives = refused 13 0 }
     ∷ record { order = record { view = 0; count = 3; act = remove [] }; bytes = sampleA; gives = refused 14 0 }
     -- 15, also before 16
-    ∷ row (remove []) withSegment (refused 15 0) ∷ row (remove (2 ∷ [])) sampleA (refused 15 0) ∷ row (remove (0 ∷ 0 ∷ [])) sampleA (refused 15 0)
-    ∷ row (remove (1 ∷ 0 ∷ [])) sampleA (refused 15 0) ∷ row (join 0 2) sampleA (refused 15 0) ∷ row (part 2 0) sampleA (refused 15 0)
+    ∷ row (remove []) (withSegments (ofType 0x00 0x04)) (refused 15 0) ∷ row (remove (2 ∷ [])) sampleA (refused 15 0)
+    ∷ row (remove (0 ∷ 0 ∷ [])) sampleA (refused 15 0) ∷ row (remove (1 ∷ 0 ∷ [])) sampleA (refused 15 0)
+    ∷ row (join 0 2) sampleA (refused 15 0) ∷ row (part 2 0) sampleA (refused 15 0)
     -- 16
-    ∷ row (remove (0 ∷ [])) withSegment (refused 16 0)
+    ∷ row (remove (0 ∷ [])) (withSegments (ofType 0x00 0x04)) (refused 16 0)
+    ∷ row (remove (0 ∷ [])) (withSegments (ofType 0x00 0x02)) (refused 16 0)
+    ∷ row (remove (0 ∷ [])) (withSegments (ofType 0x01 0x03)) (refused 16 0)
+    ∷ row (remove (0 ∷ [])) (withSegments (ofType 0x03 0x00)) (refused 16 0)
+    -- 16 where one of two has another type, the second or the first
+    ∷ row (remove (0 ∷ [])) (withSegments (cells ++ ofType 0x00 0x04)) (refused 16 0)
+    ∷ row (remove (0 ∷ [])) (withSegments (ofType 0x00 0x04 ++ cells)) (refused 16 0)
     -- 17, also before 15
     ∷ row (join 0 1) (twoLines 54 none none) (refused 17 0) ∷ row (part 0 2) (twoLines 54 none none) (refused 17 0)
     -- 18
     ∷ row (join 0 1) sampleA (refused 18 0) ∷ row (join 1 0) sampleA (refused 18 0) ∷ row (part 0 0) sampleA (refused 18 0)
     -- parted, joined, a line next to itself; segments are no hindrance to a pair
-    ∷ row (part 1 0) sampleA (given parted) ∷ row (join 1 0) parted (given sampleA) ∷ row (join 1 1) parted (given (twoLines 56 (indexed 0x40) none))
-    ∷ row (part 0 1) withSegment (given (twoLines 60 (indexed 0x00) (0x00 ∷ 0x04 ∷ 0x00 ∷ 0x03 ∷ 0x00 ∷ 0x04 ∷ [])))
+    ∷ row (part 1 0) sampleA (given parted) ∷ row (join 1 0) parted (given sampleA)
+    ∷ row (join 1 1) parted (given (twoLines 56 (indexed 0x40) none))
+    ∷ row (part 0 1) (withSegments (ofType 0x00 0x04)) (given (twoLines 60 (indexed 0x00) (0x00 ∷ 0x04 ∷ ofType 0x00 0x04)))
     -- all lines removed: an index stays, and stays absent
-    ∷ row (remove (0 ∷ 1 ∷ [])) sampleA (given (headerA 39 8 ++ viewHeaderA 0 ++ 0x00 ∷ 0x01 ∷ 0x01 ∷ 0x00 ∷ 0x00 ∷ []))
+    ∷ row (remove (0 ∷ 1 ∷ [])) sampleA (given (emptied []))
     ∷ row (remove (0 ∷ 1 ∷ [])) (twoLines 54 none none) (given (headerA 38 8 ++ viewHeaderA 0 ++ none ++ none))
+    -- local quality is carried: well formed, broken, without payload, twice
+    ∷ row (remove (0 ∷ 1 ∷ [])) (withSegments cells) (given (emptied cells))
+    ∷ row (remove (0 ∷ 1 ∷ [])) (withSegments broken) (given (emptied broken))
+    ∷ row (remove (0 ∷ 1 ∷ [])) (withSegments (ofType 0x00 0x03)) (given (emptied (ofType 0x00 0x03)))
+    ∷ row (remove (0 ∷ 1 ∷ [])) (withSegments (cells ++ broken)) (given (emptied (cells ++ broken)))
+    ∷ row (remove (1 ∷ [])) (withSegments cells)
+    (given (headerA 56 8 ++ viewHeaderA 8 ++ linesA 1 ++ indexed 0x00 ++ 0x00 ∷ 0x08 ∷ cells))
     -- a removal that lengthens the index
     ∷ record { order = record { view = 0; count = 31; act = remove (15 ∷ []) }; bytes = wide; gives = given wider }
     ∷ []

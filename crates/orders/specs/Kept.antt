@@ -31,6 +31,8 @@ pub record Kept (cs : List Call) (r : Record) (start now : List ℕ) : Type 0 wh
   pub fields : slice 12 24 now ≡ slice 12 24 start
   -- a view on which no order was accepted keeps all its bytes
   pub spared : (i : ℕ) → i < length (r .views) → history i cs start (fresh (viewAt r i)) .accepted ≡ 0 → viewPart last i now ≡ viewPart r i start
-  -- and every view those of its header, but for the skeleton length, and those of its extended length and segments
+  -- and every view those of its header, but for the skeleton length
   pub headers : (i : ℕ) → i < length (r .views) → viewHeaderPart last i now ≡ viewHeaderPart r i start
+  -- and those of its extended length and segments, to the byte; also a view whose lines were removed, with its segments of local
+  -- quality, whether their payloads are well formed or not
   pub extended : (i : ℕ) → i < length (r .views) → extendedPart last i now ≡ extendedPart r i start

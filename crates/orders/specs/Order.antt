@@ -4,16 +4,17 @@ use mathlib.Core.Path.{_≡_}
 use Prim.Native.Nat.{ℕ, suc, _≤_, _<_}
 use mathlib.Core.Bool.{Bool, true, not, _&&_}
 use mathlib.Core.List.{List, [], _∷_, _++_}
-use lib.ListN.{length, set, take}
+use lib.ListN.{length, take}
 use lib.Dec.{T, leb, ltb, eqb}
 use Rattle.bits.specs.Choice.{pick}
-use Rattle.bits.specs.Lists.{All, empty?}
+use Rattle.bits.specs.Lists.{All, every, empty?}
 use Rattle.outcome.specs.Refusals.{otherCount, badLines, extended, noIndex, alreadySo, tooLong}
 use Rattle.outcome.specs.Outcome.{Outcome, refused, given}
 use Rattle.format.specs.Limits.{mostBytes}
+use Rattle.format.specs.Segments.{Segment, isQuality}
 use Rattle.format.specs.View.{View}
 use Rattle.format.specs.Record.{Record, write, size}
-use Rattle.format.specs.Places.{viewAt, count}
+use Rattle.format.specs.Places.{viewAt, withView, count}
 use Rattle.format.specs.Call.{onView}
 use Rattle.orders.specs.Act.{Act, remove, join, part, indexed?, near, after}
 
@@ -25,7 +26,7 @@ pub record Order : Type 0 where
 -- ---- the record that an order leaves
 
 unfoldable pub edited : Order → Record → Record
-edited o r = record { head = r .head; views = set (r .views) (o .view) (after (o .act) (viewAt r (o .view))) }
+edited o r = withView r (o .view) (after (o .act) (viewAt r (o .view)))
 
 -- ---- when it is refused
 
@@ -43,9 +44,13 @@ risesOk m n (r ∷ rs) = leb m r && ltb r n && risesOk (suc r) n rs
 abbrev pub linesOk : ℕ → List ℕ → Bool
 linesOk n rs = not (empty? rs) && risesOk 0 n rs
 
+-- "refusal 16 is given only where some segment has another type": each segment of the view is one of local quality
+abbrev pub onlyQuality : List Segment → Bool
+onlyQuality gs = every isQuality gs
+
 -- "removal 15, 16; pair 17, 15, 18"
 unfoldable pub tests : Act → View → List (Bool × ℕ)
-tests (remove rs) v = (linesOk (count v) rs, badLines) ∷ (empty? (v .segments), extended) ∷ []
+tests (remove rs) v = (linesOk (count v) rs, badLines) ∷ (onlyQuality (v .segments), extended) ∷ []
 tests (join a b) v = (indexed? v, noIndex) ∷ (ltb a (count v) && ltb b (count v), badLines) ∷ (not (near v a b), alreadySo) ∷ []
 tests (part a b) v = (indexed? v, noIndex) ∷ (ltb a (count v) && ltb b (count v), badLines) ∷ (near v a b, alreadySo) ∷ []
 

@@ -1,5 +1,6 @@
--- The numbers that each call can give, to be held against document 01's table and the order in which it judges: "No number is given
--- otherwise." They stand as ranges, each from its first number to its last. 0 is for what is accepted and stands in no range.
+-- The numbers that each call can give, to be held against document 01's table, the order in which it judges, and document 02: "No
+-- number is given otherwise." They stand as ranges, each from its first number to its last. 0 is for what is accepted and stands in no
+-- range.
 use Prim.Native.Nat.{ℕ}
 use mathlib.Core.Bool.{Bool, false, _||_}
 use mathlib.Core.List.{List, [], _∷_}
@@ -40,3 +41,10 @@ removalNumbers = (1, 16) ∷ (19, 20) ∷ []
 -- "Orders: 13, 14, then .. pair 17, 15, 18; then 19, 20", behind 1 to 12
 abbrev pub pairNumbers : List (ℕ × ℕ)
 pairNumbers = (1, 15) ∷ (17, 20) ∷ []
+
+-- local quality: "24, .. after 23; then 19, 20", behind 1 to 13; reading it gives no 19
+abbrev pub qualityNumbers : List (ℕ × ℕ)
+qualityNumbers = (1, 13) ∷ (20, 20) ∷ (23, 24) ∷ []
+
+abbrev pub setQualityNumbers : List (ℕ × ℕ)
+setQualityNumbers = (1, 13) ∷ (19, 20) ∷ (23, 24) ∷ []

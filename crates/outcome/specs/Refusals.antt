@@ -1,4 +1,4 @@
--- The numbers a call gives, with document 01's words. Every definition that refuses uses the name that stands here.
+-- The numbers a call gives, with the words of documents 01 and 02. Every definition that refuses uses the name that stands here.
 use Prim.Native.Nat.{ℕ}
 
 -- 1: under 24 or over 32,768 bytes
@@ -61,7 +61,7 @@ otherCount = 14
 abbrev pub badLines : ℕ
 badLines = 15
 
--- 16: removal in a view with extended length above 0
+-- 16: removal in a view that has a segment of another type than local quality
 abbrev pub extended : ℕ
 extended = 16
 
@@ -92,3 +92,7 @@ badValue = 22
 -- 23: no segment with that place
 abbrev pub noSegment : ℕ
 noSegment = 23
+
+-- 24: a segment of another type than local quality, or a payload or values to be written that break its rules
+abbrev pub badQuality : ℕ
+badQuality = 24

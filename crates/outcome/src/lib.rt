@@ -39,7 +39,7 @@ pub fn accept(length: usize) -> Answer
     }
 }
 
-// The numbers of the refusals, by the names that the definitions give them; specs/Refusals.antt has document 01's words for each.
+// The numbers of the refusals, by the names that the definitions give them; specs/Refusals.antt has the documents' words for each.
 pub struct Refusal;
 
 impl Refusal {
@@ -88,4 +88,6 @@ impl Refusal {
     pub const BAD_VALUE: u32 = 22;
 
     pub const NO_SEGMENT: u32 = 23;
+
+    pub const BAD_QUALITY: u32 = 24;
 }

@@ -11,13 +11,15 @@ use Rattle.bits.specs.ChoiceLaws.{pick-case}
 use Rattle.outcome.specs.Outcome.{Outcome, given, AnswersAs, Answers}
 use Rattle.outcome.specs.declared.Answer.{Answer}
 use Rattle.format.specs.Record.{Record, read}
-use Rattle.format.specs.Call.{inView, onView}
+use Rattle.format.specs.Call.{inView, onView, inSegment, onSegment}
 use Rattle.format.specs.Places.{viewAt, count}
 use Rattle.places.specs.Reach.{reach, Agree, AnsweredAlike}
-use Rattle.places.proofs.Laws.Calls.{Own, Shows, answer-shows, told-shows, answered-alike}
+use Rattle.places.proofs.Laws.Calls.{Other, Own, Shows, answer-shows, told-shows, answered-alike}
 use Rattle.sheet.specs.Sheet.{sheetOf, reading}
 use Rattle.trail.specs.Trail.{trailIn, trailing}
 use Rattle.segment.specs.Segment.{payloadIn, payload, firstBitRead, segmentAnswer}
+use Rattle.quality.specs.Quality.{qualityIn, quality, setQualityIn, setQuality}
+use Rattle.quality.proofs.Laws.Numbers.{quality-refused, setting-refused}
 use Rattle.orders.specs.Order.{Order, verdict, ordered, order}
 use Rattle.orders.proofs.Laws.Numbers.{verdict-above}
 
@@ -26,6 +28,14 @@ view-alike : {A : Type 0} (view : ℕ) (f : ℕ → Record → Outcome A) → ((
     → Shows (onView view f a) x → Shows (onView view f b) y → T (within 2 12 (x .number)) → Agree (x .place + reach (x .number)) a b → AnsweredAlike x y
 unfolding onView
 view-alike view f own = answered-alike (inView view f) λ r. pick-case Own (ltb view (length (r .views))) _ _ (λ t. own r) (λ t. tt)
+
+-- on a segment
+segment-alike : {A : Type 0} (view place : ℕ) (f : ℕ → Record → Outcome A) → ((r : Record) → Own (f view r)) → (a b : List ℕ) {x y : Answer}
+    → Shows (onSegment view place f a) x → Shows (onSegment view place f b) y → T (within 2 12 (x .number)) → Agree (x .place + reach (x .number)) a b
+    → AnsweredAlike x y
+unfolding onSegment
+segment-alike view place f own =
+    view-alike view (inSegment place f) λ r. pick-case Own (ltb place (length (viewAt r view .segments))) _ _ (λ t. own r) (λ t. tt)
 
 pub read-decided : (a b : List ℕ) {before after before₂ after₂ : List ℕ} {x y : Answer} → Answers (reading a) before after x → Answers (reading b) before₂ after₂ y
     → T (within 2 12 (x .number)) → Agree (x .place + reach (x .number)) a b → AnsweredAlike x y
@@ -43,7 +53,7 @@ pub segment-decided : (view place : ℕ) (a b : List ℕ) {x y : Answer} → x �
     → T (within 2 12 (x .number)) → Agree (x .place + reach (x .number)) a b → AnsweredAlike x y
 unfolding segmentAnswer payload
 segment-decided view place a b h k =
-    view-alike view (payloadIn place) (λ r. pick-case Own (ltb place (length (viewAt r view .segments))) _ _ (λ t. tt) (λ t. tt)) a b
+    segment-alike view place (payloadIn place) (λ r. tt) a b
     (told-shows (firstBitRead view place (read a)) (payload view place a) h) (told-shows (firstBitRead view place (read b)) (payload view place b) k)
 
 pub order-decided : (o : Order) (a b : List ℕ) {before after before₂ after₂ : List ℕ} {x y : Answer} → Answers (order o a) before after x
@@ -52,3 +62,16 @@ unfolding order
 order-decided o a b h k =
     view-alike (o .view) (λ i. ordered o) (λ r. pick-case Own (eqb (verdict o r) 0) _ _ (λ t. tt) (λ t. verdict-above o r (eqb-no t))) a b
     (answer-shows h) (answer-shows k)
+
+pub quality-decided : (view place : ℕ) (a b : List ℕ) {before after before₂ after₂ : List ℕ} {x y : Answer} → Answers (quality view place a) before after x
+    → Answers (quality view place b) before₂ after₂ y → T (within 2 12 (x .number)) → Agree (x .place + reach (x .number)) a b → AnsweredAlike x y
+unfolding quality
+quality-decided view place a b h k =
+    segment-alike view place (qualityIn place) (quality-refused Other tt place view) a b (answer-shows h) (answer-shows k)
+
+pub setting-decided : (view place : ℕ) (vs a b : List ℕ) {before after before₂ after₂ : List ℕ} {x y : Answer}
+    → Answers (setQuality view place vs a) before after x → Answers (setQuality view place vs b) before₂ after₂ y → T (within 2 12 (x .number))
+    → Agree (x .place + reach (x .number)) a b → AnsweredAlike x y
+unfolding setQuality
+setting-decided view place vs a b h k =
+    segment-alike view place (setQualityIn place vs) (setting-refused Other tt tt place vs view) a b (answer-shows h) (answer-shows k)

@@ -4,3 +4,4 @@ pub mod Placed
 pub mod Decides
 pub mod Promises
 pub mod PromisesCalls
+pub mod PromisesQuality

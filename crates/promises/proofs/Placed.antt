@@ -16,10 +16,12 @@ use Rattle.outcome.proofs.Refused.{Refused}
 use Rattle.outcome.proofs.Placed.{no-place, answer-place, told-place}
 use Rattle.format.specs.Record.{Record, read, write}
 use Rattle.format.specs.Places.{viewAt, count}
-use Rattle.format.proofs.Laws.Numbers.{record-placed, view-placed}
+use Rattle.format.proofs.Laws.Numbers.{record-placed, view-placed, segment-placed}
 use Rattle.sheet.specs.Sheet.{sheetOf, readSheet, writes, reading, writing}
 use Rattle.trail.specs.Trail.{trailIn, trailing}
 use Rattle.segment.specs.Segment.{payloadIn, payload, firstBitRead, segmentAnswer}
+use Rattle.quality.specs.Quality.{qualityIn, quality, setQualityIn, setQuality}
+use Rattle.quality.proofs.Laws.Numbers.{quality-refused, setting-refused}
 use Rattle.orders.specs.Order.{Order, verdict, ordered, order}
 
 pub read-place : {before after : List ℕ} {a : Answer} (bytes : List ℕ) → Answers (reading bytes) before after a
@@ -45,9 +47,7 @@ trail-place view line bytes =
 
 payload-placed : (view place : ℕ) (bytes : List ℕ) → Refused (Placed (8 * length bytes)) (payload view place bytes)
 unfolding payload
-payload-placed view place bytes =
-    view-placed bytes view (payloadIn place) λ r.
-    pick-case (Refused (Placed (8 * length bytes))) (ltb place (length (viewAt r view .segments))) _ _ (λ t. tt) (λ t. tt)
+payload-placed view place bytes = segment-placed bytes view place (payloadIn place) (λ r. tt)
 
 pub segment-place : {a : Answer} (view place : ℕ) (bytes : List ℕ) → a ≡ segmentAnswer view place bytes → a .number ≢ 0
     → Placed (8 * length bytes) (a .number) (a .place)
@@ -62,3 +62,15 @@ order-place o bytes =
     answer-place (8 * length bytes)
     (view-placed bytes (o .view) (λ i. ordered o) λ r.
     pick-case (Refused (Placed (8 * length bytes))) (eqb (verdict o r) 0) _ _ (λ t. tt) (λ t. no-place (8 * length bytes) (verdict o r)))
+
+pub quality-place : {before after : List ℕ} {a : Answer} (view place : ℕ) (bytes : List ℕ) → Answers (quality view place bytes) before after a
+    → Placed (8 * length bytes) (a .number) (a .place)
+unfolding quality
+quality-place view place bytes =
+    answer-place (8 * length bytes) (segment-placed bytes view place (qualityIn place) (quality-refused (Placed (8 * length bytes)) tt place view))
+
+pub setting-place : {before after : List ℕ} {a : Answer} (view place : ℕ) (vs bytes : List ℕ) → Answers (setQuality view place vs bytes) before after a
+    → Placed (8 * length bytes) (a .number) (a .place)
+unfolding setQuality
+setting-place view place vs bytes =
+    answer-place (8 * length bytes) (segment-placed bytes view place (setQualityIn place vs) (setting-refused (Placed (8 * length bytes)) tt tt place vs view))

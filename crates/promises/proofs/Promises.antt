@@ -1,6 +1,6 @@
 -- WHAT THE LIBRARY PROMISES, of every record, sheet and sequence of orders. Which numbers and places each call gives, and when it is
--- accepted, is promised in PromisesCalls beside it. Each promise is a statement; its proof is one citation. Every name in a statement
--- leads to one definition, and all of these stand in specs/:
+-- accepted, is promised in PromisesCalls beside it; what is promised of local quality, in PromisesQuality. Each promise is a
+-- statement; its proof is one citation. Every name in a statement leads to one definition, and all of these stand in specs/:
 --   bits/specs/Choice, Lists, Bits, Bytes   within; All, Along; Bits; Byte
 --   bits/specs/Codec           Codec.got, Codec.refused: what reading gives; enc, what is written
 --   outcome/specs/Refusals, Placed   otherCount, tooLong, badSheet, badValue; Placed
@@ -17,7 +17,8 @@
 --   orders/specs/Kept, Made    Kept; MadeAll
 --   order_holds/specs/Held     held
 --   promises/specs/Samples     table, expected, computed
--- `Answer` and `Held` are structs of the code (outcome/src, order_holds/src), `length`, `take`, `T`, `eqb` and the signs the toolchain's.
+-- `Answer` and `Held` are structs of the code (outcome/src, order_holds/src), `length`, `take`, `T`, `eqb` and the signs the
+-- toolchain's.
 use mathlib.Core.Path.{_≡_}
 use mathlib.Core.Logic.{_≢_, _⊎_}
 use Prim.Native.Nat.{ℕ, _-_, _*_, _%_, _^_, _≤_}
@@ -151,7 +152,7 @@ refused-stays = SequenceLaws.refused-stays
 -- THE SEQUENCE: from any accepted record, any orders, each result fed to the next: the bytes that hold at the end are those of an
 -- allowed record with the header and as many views, and each view is what the accepted orders on it say, through all renumbering.
 -- In bytes: all stays but for the record length and, in a view with an accepted order, the skeleton and index blocks with their
--- lengths
+-- lengths; so a removal carries segments of local quality along as they stand, well formed or not
 pub orders-follow : (cs : List Call) (bytes : List ℕ) (r : Record) → All Byte bytes → read bytes ≡ Codec.got r [] → Kept cs r bytes (run cs bytes)
 orders-follow = SequenceLaws.orders-follow
 
@@ -195,7 +196,7 @@ held-holds = HeldLaws.held-holds
 
 -- ---- UNIQUENESS: two answers that a statement allows are equal, and so are the buffers they leave
 
--- the calls that write: read, write, trail as numbers and as bytes, remove, join, part
+-- the calls that write: read, write, trail as numbers and as bytes, quality, set quality, remove, join, part
 pub one-answer : {A B : Type 0} {form : List A → List B} {lent : ℕ} {o : Outcome A} {before after₁ after₂ : List B} {a₁ a₂ : Answer}
     → AnswersAs form lent o before after₁ a₁ → AnswersAs form lent o before after₂ a₂ → (a₁ ≡ a₂) × (after₁ ≡ after₂)
 one-answer = OutcomeLaws.one-answer

@@ -2,22 +2,17 @@
 use mathlib.Core.Path.{_≡_}
 use Prim.Native.Nat.{ℕ}
 use mathlib.Core.List.{List}
-use lib.ListN.{length, drop}
-use lib.Dec.{ltb}
-use Rattle.bits.specs.ChoiceLaws.{pick-case}
+use lib.ListN.{drop}
 use Rattle.outcome.specs.Numbers.{Gives, segmentNumbers}
 use Rattle.outcome.specs.declared.Answer.{Answer}
 use Rattle.outcome.proofs.Numbers.{RefusedBy, among-first, told-number}
 use Rattle.format.specs.Record.{read}
-use Rattle.format.specs.Places.{viewAt}
-use Rattle.format.proofs.Laws.Numbers.{view-numbers}
+use Rattle.format.proofs.Laws.Numbers as FormatNumbers
 use Rattle.segment.specs.Segment.{payloadIn, payload, firstBitRead, segmentAnswer}
 
 payload-by : (view place : ℕ) (bytes : List ℕ) → RefusedBy segmentNumbers (payload view place bytes)
 unfolding payload
-payload-by view place =
-    view-numbers segmentNumbers (among-first 1 13 (drop 1 segmentNumbers)) view (payloadIn place) λ r.
-    pick-case (RefusedBy segmentNumbers) (ltb place (length (viewAt r view .segments))) _ _ (λ t. tt) (λ t. tt)
+payload-by view place = FormatNumbers.segment-numbers segmentNumbers (among-first 1 13 (drop 1 segmentNumbers)) tt view place (payloadIn place) (λ r. tt)
 
 pub segment-numbers : {a : Answer} (view place : ℕ) (bytes : List ℕ) → a ≡ segmentAnswer view place bytes → Gives segmentNumbers (a .number)
 unfolding segmentAnswer

@@ -1,2 +1,1 @@
 pub mod Segment
-pub mod Found

@@ -1,10 +1,11 @@
 // Runs the library's calls on each file that an argument names, and prints what came of it: the listing, the place of a refusal, the
-// sheet's length, the trails of the first lines of each view and the lengths of its first segments.
+// sheet's length, the trails of the first lines of each view, the lengths of its first segments and the values of their local quality.
 use format::Header;
 use judge::Verdict;
 use judge::judge;
 use list_text::number;
 use list_text::text;
+use quality_reading::quality;
 use reading::read;
 use segment::payload;
 use segment::segment;
@@ -67,6 +68,32 @@ fn trail_of(bytes: &[u8], view: usize, line: usize) -> bool {
     true
 }
 
+fn byte(x: u8) -> usize {
+    x as usize
+}
+
+// The first `count` values of a local quality.
+fn values(out: &[u8], count: usize) {
+    let mut i: usize = 0;
+    while i < count && i < out.len() {
+        text(b" ");
+        number(byte(out[i]));
+        i += 1;
+    }
+}
+
+// The values of local quality, where the segment has some.
+fn quality_of(bytes: &[u8], view: usize, place: usize) {
+    let mut out = [0u8; 256];
+    let answer = quality(bytes, view, place, &mut out);
+    if answer.number != 0 {
+        return;
+    }
+    start(b"quality ", view, place);
+    values(&out, answer.length);
+    text(b"\n");
+}
+
 // Whether the view has that segment.
 fn segment_of(bytes: &[u8], view: usize, place: usize) -> bool {
     let answer = segment(bytes, view, place);
@@ -78,6 +105,7 @@ fn segment_of(bytes: &[u8], view: usize, place: usize) -> bool {
     text(b" ");
     number(part.len());
     text(b" bytes\n");
+    quality_of(bytes, view, place);
     true
 }
 

@@ -5,12 +5,12 @@ use Prim.Native.Nat.{ℕ, zero, suc, _+_, _*_, _^_, _≤_, _<_}
 use native.Mathlib.Omega.{arith}
 use mathlib.Core.Bool.{Bool}
 use mathlib.Core.List.{List, [], _∷_, _++_}
-use lib.ListN.{length, take, drop, take-append-drop}
-use lib.Seq.{take-at, drop-drop}
+use lib.ListN.{length, take, drop, getD, take-append-drop}
+use lib.Seq.{take-at, drop-drop, getD-take, getD-drop}
 use Rattle.bits.specs.Lists.{All}
 use Rattle.bits.specs.ListsLaws.{first-left, total-more}
 use Rattle.bits.specs.Bits.{Bits, bitsOfNumber}
-use Rattle.bits.specs.Bytes.{Byte, bitsOf}
+use Rattle.bits.specs.Bytes.{Byte, bitsOf, inBytes}
 use Rattle.bits.specs.Codec.{Codec, got, fieldDec}
 use Rattle.bits.specs.CodecLaws.{not-got, next-got, field-there}
 use Rattle.bits.specs.Block.{fillDec}
@@ -23,13 +23,25 @@ use Rattle.outcome.specs.Refusals.{badSegment}
 use Rattle.format.specs.Segments.{Segment, FitsSegment, segment, segment-length, segments}
 use Rattle.format.specs.Places.{noSegmentThere, segmentBits}
 use Rattle.find_parts.specs.Finds.{segmentStored, SegmentsLeft}
-use Rattle.put_bytes.specs.HighFirst.{two}
+use Rattle.put_bytes.specs.HighFirst.{two, joined}
 use Rattle.find_parts.proofs.Laws.Front.{Front, front}
-use Rattle.find_parts.proofs.Laws.InBytes.{Spells, _⊕_, bits-two, spells-two, spells-bytes}
+use Rattle.find_parts.proofs.Laws.InBytes.{Spells, in-spelled, _⊕_, bits-two, spells-two, spells-all, spells-bytes}
+
+-- a number of 16 bits that is stored at byte a
+pub two-there : (s : List ℕ) (a n : ℕ) → take 2 (drop a s) ≡ two n → getD s a 0 * 256 + getD s (a + 1) 0 ≡ n
+two-there s a n e =
+    let z : a + 0 ≡ a = omega arith in
+    let at : (k : ℕ) → k < 2 → getD s (a + k) 0 ≡ getD (two n) k 0 = λ k l. sym (getD-drop a s k 0) ∙ sym (getD-take 2 (drop a s) k 0 l) ∙ ap (λ (xs : List ℕ). getD xs k 0) e in
+    omega (arith, ap (λ (k : ℕ). getD s k 0) (sym z) ∙ at 0 (omega arith), at 1 (omega arith))
 
 pub segment-spells : (g : Segment) → FitsSegment g → Spells (segmentStored g) (segment .enc g)
 unfolding segment
 segment-spells g f = spells-two (f .kind) ⊕ (spells-two (f .length) ⊕ spells-bytes badSegment (g .payload) (f .payload))
+
+-- all of them
+pub segments-bytes : (gs : List Segment) → All FitsSegment gs → inBytes (segments .enc gs) ≡ joined segmentStored gs
+unfolding segments segment
+segments-bytes gs f = in-spelled (spells-all segment segmentStored segment-spells gs f)
 
 -- the next segment of the block s, at byte a, and those behind it
 pub record SegmentAt (s : List ℕ) (a : ℕ) (rest : List Segment) (left : Bits) : Type 0 where
@@ -94,6 +106,16 @@ module _ {s : List ℕ} {a : ℕ} {rest : List Segment} {left : Bits} (t : Segme
 
   pub its-type : take 2 (drop a s) ≡ two (t .value .kind)
   its-type = ap (take 2) here
+
+  pub its-size : take 2 (drop (a + 2) s) ≡ two (4 + length (t .value .payload))
+  its-size = ap (take 2) (behind 2)
+
+  -- as code reads them, by two bytes each
+  pub kind-stored : getD s a 0 * 256 + getD s (a + 1) 0 ≡ t .value .kind
+  kind-stored = two-there s a (t .value .kind) its-type
+
+  pub length-stored : getD s (a + 2) 0 * 256 + getD s (a + 2 + 1) 0 ≡ 4 + length (t .value .payload)
+  length-stored = two-there s (a + 2) (4 + length (t .value .payload)) its-size
 
   pub its-payload : take (length (t .value .payload)) (drop (a + 4) s) ≡ t .value .payload
   its-payload = ap (take (length (t .value .payload))) (behind 4) ∙ take-at (t .value .payload) others (length (t .value .payload)) refl

@@ -1,6 +1,7 @@
--- A call on a record, and on one of its views: an accepted record that has the view has the call's own outcome, and whatever is given
--- comes of such a record.
-use mathlib.Core.Path.{_≡_, refl, ap, _∙_}
+-- A call on a record, on one of its views, and on a segment of a view: an accepted record that has what is named has the call's own
+-- outcome, and whatever is given comes of such a record.
+use mathlib.Core.Path.{_≡_, refl, sym, ap, _∙_}
+use mathlib.Core.Logic.{_≢_}
 use Prim.Native.Nat.{ℕ, _*_, _≤_, _<_}
 use native.Mathlib.Omega.{arith}
 use mathlib.Core.Bool.{Bool}
@@ -8,14 +9,16 @@ use mathlib.Core.List.{List}
 use lib.ListN.{length}
 use lib.Dec.{ltb, ltb→lt}
 use mir.Facts.{yes-ltb, no-ltb}
-use Rattle.bits.specs.ChoiceLaws.{pick-yes, pick-no, pick-split}
+use Rattle.bits.specs.ChoiceLaws.{pick-yes, pick-no, pick-split, within-high}
 use Rattle.bits.specs.Bits.{Bits}
 use Rattle.bits.specs.Codec.{Read}
 use Rattle.bits.specs.Codec as C
-use Rattle.outcome.specs.Refusals.{noView}
+use Rattle.outcome.specs.Refusals.{noView, noSegment}
 use Rattle.outcome.specs.Outcome.{Outcome, refused, given}
 use Rattle.format.specs.Record.{Record, read}
-use Rattle.format.specs.Call.{fromRead, onRecord, inView, onView}
+use Rattle.format.specs.Places.{viewAt}
+use Rattle.format.specs.Call.{fromRead, onRecord, inView, onView, inSegment, onSegment}
+use Rattle.format.proofs.Laws.Refuses.{read-refuses}
 
 pub on-record : {A : Type 0} (f : Record → Outcome A) (bytes : List ℕ) (r : Record) (rest : Bits) → read bytes ≡ C.got r rest → onRecord f bytes ≡ f r
 unfolding onRecord
@@ -49,3 +52,45 @@ module _ {A : Type 0} (view : ℕ) (f : ℕ → Record → Outcome A) (bytes : L
       given-record (inView view f) bytes xs h λ r rest e g.
       pick-split (ltb view (length (r .views))) _ _ g (λ t q. k r rest e (ltb→lt view (length (r .views)) t) q)
       (λ t q. let z : _≡_ {A = ℕ} 0 1 = cc in absurd (omega arith))
+
+-- ---- a call on a segment
+
+module _ {A : Type 0} (view place : ℕ) (f : ℕ → Record → Outcome A) (bytes : List ℕ) where
+  module _ {r : Record} {rest : Bits} (p : read bytes ≡ C.got r rest) (l : view < length (r .views)) where
+    pub on-segment : place < length (viewAt r view .segments) → onSegment view place f bytes ≡ f view r
+    unfolding onSegment
+    on-segment k = on-view view (inSegment place f) bytes p l ∙ pick-yes (ltb place (length (viewAt r view .segments))) _ _ (yes-ltb {a = place} k)
+
+    pub no-segment : length (viewAt r view .segments) ≤ place → onSegment view place f bytes ≡ refused noSegment 0
+    unfolding onSegment
+    no-segment k = on-view view (inSegment place f) bytes p l ∙ pick-no (ltb place (length (viewAt r view .segments))) _ _ (no-ltb {a = place} k)
+
+  pub given-segment : {P : Type 0} (xs : List A) → onSegment view place f bytes ≡ given xs
+      → ((r : Record) (rest : Bits) → read bytes ≡ C.got r rest → view < length (r .views) → place < length (viewAt r view .segments)
+      → f view r ≡ given xs → P) → P
+  unfolding onSegment
+  given-segment xs h k =
+      given-view view (inSegment place f) bytes xs h λ r rest e l g.
+      pick-split (ltb place (length (viewAt r view .segments))) _ _ g (λ t q. k r rest e l (ltb→lt place (length (viewAt r view .segments)) t) q)
+      (λ t q. let z : _≡_ {A = ℕ} 0 1 = cc in absurd (omega arith))
+
+  -- a refusal with another number than 1 to 13 and 23 is the call's own
+  pub own-segment : {P : Type 0} (e p : ℕ) → 13 < e → e ≢ noSegment → onSegment view place f bytes ≡ refused e p
+      → ((r : Record) (rest : Bits) → read bytes ≡ C.got r rest → view < length (r .views) → place < length (viewAt r view .segments)
+      → f view r ≡ refused e p → P) → P
+  unfolding onRecord onView onSegment
+  own-segment {P} e p l n h k = go (read bytes) refl h
+    where
+      in-view : (r : Record) (rest : Bits) → read bytes ≡ C.got r rest → view < length (r .views) → inSegment place f view r ≡ refused e p → P
+      in-view r rest q v g =
+          pick-split (ltb place (length (viewAt r view .segments))) _ _ g (λ t y. k r rest q v (ltb→lt place (length (viewAt r view .segments)) t) y)
+          (λ t y. let z : noSegment ≡ e = cc in absurd (n (sym z)))
+
+      go : (o : Read Bool Record) → read bytes ≡ o → fromRead (8 * length bytes) (inView view (inSegment place f)) o ≡ refused e p → P
+      go (C.got r rest) q g =
+          pick-split (ltb view (length (r .views))) _ _ g (λ t y. in-view r rest q (ltb→lt view (length (r .views)) t) y)
+          (λ t y. let z : noView ≡ e = cc in absurd (omega arith))
+      go (C.refused m left) q g =
+          let z : m ≡ e = cc in
+          let (t, _, _) = read-refuses bytes m left q in
+          absurd (omega (arith, within-high 1 12 m t))

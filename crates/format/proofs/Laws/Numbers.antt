@@ -1,5 +1,5 @@
--- The numbers and the places of a call on a record, and on one of its views: 1 to 12 at the record's places, 13, and those of the
--- call's own outcome.
+-- The numbers and the places of a call on a record, on one of its views, and on a segment of a view: 1 to 12 at the record's places,
+-- 13, 23, and those of the call's own outcome.
 use mathlib.Core.Path.{_≡_, refl}
 use Prim.Native.Nat.{ℕ, _-_, _*_, _≤_}
 use native.Mathlib.Omega.{arith}
@@ -10,14 +10,15 @@ use lib.Dec.{T, ltb}
 use Rattle.bits.specs.ChoiceLaws.{pick-case, within-low, within-high}
 use Rattle.bits.specs.Codec.{Read}
 use Rattle.bits.specs.Codec as C
-use Rattle.outcome.specs.Refusals.{noView}
+use Rattle.outcome.specs.Refusals.{noView, noSegment}
 use Rattle.outcome.specs.Numbers.{among}
 use Rattle.outcome.specs.Outcome.{Outcome}
 use Rattle.outcome.specs.Placed.{Placed}
 use Rattle.outcome.proofs.Refused.{Refused}
 use Rattle.outcome.proofs.Numbers.{RefusedBy}
 use Rattle.format.specs.Record.{Record, read}
-use Rattle.format.specs.Call.{fromRead, onRecord, inView, onView}
+use Rattle.format.specs.Places.{viewAt}
+use Rattle.format.specs.Call.{fromRead, onRecord, inView, onView, inSegment, onSegment}
 use Rattle.format.proofs.Laws.Refuses.{read-refuses}
 
 -- ---- what holds of the record's refusals and of the call's holds of all
@@ -47,6 +48,12 @@ module _ (ranges : List (ℕ × ℕ)) {A : Type 0} where
       record-numbers (λ e l k. own e l (omega arith)) (inView view f) λ r.
       pick-case (RefusedBy ranges) (ltb view (length (r .views))) _ _ (λ u. h r) (λ u. own noView (omega arith) (omega arith))
 
+  pub segment-numbers : ((e : ℕ) → 1 ≤ e → e ≤ 13 → T (among ranges e)) → T (among ranges noSegment) → (view place : ℕ) (f : ℕ → Record → Outcome A)
+      → ((r : Record) → RefusedBy ranges (f view r)) → (bytes : List ℕ) → RefusedBy ranges (onSegment view place f bytes)
+  unfolding onSegment
+  segment-numbers own none view place f h =
+      view-numbers own view (inSegment place f) λ r. pick-case (RefusedBy ranges) (ltb place (length (viewAt r view .segments))) _ _ (λ u. h r) (λ u. none)
+
 -- ---- places
 
 module _ (bytes : List ℕ) where
@@ -62,3 +69,9 @@ module _ (bytes : List ℕ) where
   pub view-placed : {A : Type 0} (view : ℕ) (f : ℕ → Record → Outcome A) → ((r : Record) → Refused PlacedHere (f view r)) → Refused PlacedHere (onView view f bytes)
   unfolding onView
   view-placed view f h = record-placed (inView view f) λ r. pick-case (Refused PlacedHere) (ltb view (length (r .views))) _ _ (λ u. h r) (λ u. tt)
+
+  pub segment-placed : {A : Type 0} (view place : ℕ) (f : ℕ → Record → Outcome A) → ((r : Record) → Refused PlacedHere (f view r))
+      → Refused PlacedHere (onSegment view place f bytes)
+  unfolding onSegment
+  segment-placed view place f h =
+      view-placed view (inSegment place f) λ r. pick-case (Refused PlacedHere) (ltb place (length (viewAt r view .segments))) _ _ (λ u. h r) (λ u. tt)

@@ -1,5 +1,5 @@
--- The record that code puts together is the one that the order leaves: a removal is its bytes and a change of no list, a pair order the
--- change of one list and no bytes.
+-- The record that code puts together is the one that the order leaves: a removal is its bytes and a change of no list, a pair order
+-- the change of one list and no bytes.
 use mathlib.Core.Path.{_≡_, refl, sym, ap, ap₂, _∙_}
 use Prim.Native.Nat.{ℕ, _≤_, min, max}
 use native.Mathlib.Nat.{zero-add}
@@ -7,14 +7,14 @@ use native.Mathlib.Omega.{arith}
 use mathlib.Core.Bool.{true, false}
 use mathlib.Core.Option.{Option, none, some, Option·map}
 use mathlib.Core.List.{List, []}
-use lib.ListN.{length, set, length-map}
+use lib.ListN.{length, length-map}
 use Rattle.bits.specs.ListsLaws.{up-along}
 use Rattle.format.specs.Line.{Line}
 use Rattle.format.specs.Differences.{Falls}
 use Rattle.format.specs.Index.{Index}
 use Rattle.format.specs.View.{View}
 use Rattle.format.specs.Record.{Record}
-use Rattle.format.specs.Places.{lineAt, viewAt, count}
+use Rattle.format.specs.Places.{lineAt, viewAt, withView, count}
 use Rattle.orders.specs.Survive.{survivors}
 use Rattle.orders.specs.Listed.{removalLines}
 use Rattle.orders.specs.Least.{indexOf}
@@ -87,4 +87,4 @@ module _ {a : Act} {v : View} {removal : List ℕ} {ch : Change} (M : Means a v 
 
 pub record-after : (o : Order) (r : Record) {removal : List ℕ} {ch : Change} → Means (o .act) (viewAt r (o .view)) removal ch → newRecord removal ch (o .view) r ≡ edited o r
 unfolding newRecord edited
-record-after o r M = ap (λ (u : View). record { head = r .head; views = set (r .views) (o .view) u }) (view-after M)
+record-after o r M = ap (withView r (o .view)) (view-after M)

@@ -18,12 +18,14 @@ use Rattle.find_parts.proofs.Laws.Blocks.{cut}
 use Rattle.find_parts.proofs.Laws.Written.{stored-long}
 use Rattle.order_lists.specs.declared.lists.Change.{Change}
 use Rattle.order_lines.specs.Lines.{keptBlock}
-use Rattle.order_record.specs.Blocks.{headOf, HeadLaid, SkeletonRoom, SkeletonLaid, newIndexBlock, IndexRoom, IndexLaid}
+use Rattle.put_record.specs.Head.{headOf, HeadLaid}
+use Rattle.put_record.proofs.Laws.{is-stored}
+use Rattle.order_record.specs.Blocks.{SkeletonRoom, SkeletonLaid, newIndexBlock, IndexRoom, IndexLaid}
 use Rattle.order_record.specs.Rebuilt.{newRecord, RebuildRoom, Rebuilt}
 use Rattle.find_parts.specs.declared.site.Site.{Site}
 use Rattle.order_record.specs.declared.measure.Sizes.{Sizes}
 use Rattle.order_record.proofs.Laws.Site.{short, old-skeleton, old-index}
-use Rattle.order_record.proofs.Laws.Splice.{from-long, spliced, head-long, new-size, is-stored}
+use Rattle.order_record.proofs.Laws.Splice.{from-long, spliced, head-long, new-size}
 
 -- the rest of s fits into the rest of o
 rest-into : (s o : List ℕ) (e a : ℕ) → length s - e + a ≤ length o → length (part s e (length s - e)) ≤ length (lent o a)
@@ -39,7 +41,7 @@ module _ {s : List ℕ} {x : Site} {ch : Change} {removal : List ℕ} {m : Sizes
       omega (arith, z .bytes, z .skeleton, z .index .bytes, new-size (t .placed .at) stored removal ch)
 
   pub front : 34 ≤ x .skeleton .from
-  front = from-long (t .placed .at) stored
+  front = from-long (t .placed .at)
 
   pub places : (x .skeleton .from ≤ x .skeleton .to) × (x .index .from ≡ x .skeleton .to + 2) × (x .index .from ≤ x .index .to) × (x .index .to + 2 ≤ length s) × (length s ≤ 32768)
   places = let a = t .placed .at in (a .lines .from, a .next, a .index .from, omega (arith, a .last, a .segments .from, a .segments .within), short (t .placed))

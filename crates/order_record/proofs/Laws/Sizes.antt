@@ -7,6 +7,7 @@ use Rattle.bits.specs.Lists.{All}
 use Rattle.bits.specs.Bytes.{Byte}
 use Rattle.format.specs.Places.{viewAt}
 use Rattle.find_parts.proofs.Laws.Blocks.{cut}
+use Rattle.put_record.proofs.Laws.{is-stored}
 use Rattle.order_lists.specs.declared.lists.Change.{Change}
 use Rattle.order_lists.specs.declared.index.Size.{Size}
 use Rattle.order_record.specs.Blocks.{SkeletonMeasured, IndexMeasured}
@@ -14,7 +15,7 @@ use Rattle.order_record.specs.Rebuilt.{Placed, Measured}
 use Rattle.find_parts.specs.declared.site.Site.{Site}
 use Rattle.order_record.proofs.Laws.Skeleton.{skeleton-fewer}
 use Rattle.order_record.proofs.Laws.Site.{old-skeleton}
-use Rattle.order_record.proofs.Laws.Splice.{new-size, is-stored}
+use Rattle.order_record.proofs.Laws.Splice.{new-size}
 
 module _ {s : List ℕ} {x : Site} {ch : Change} {removal : List ℕ} (t : Placed s x ch removal) (f : All Byte s) {n : ℕ} (A : SkeletonMeasured (x .widths) (cut s (x .skeleton .from) (x .skeleton .to)) removal n) where
   -- a skeleton becomes no longer

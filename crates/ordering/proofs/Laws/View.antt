@@ -1,29 +1,27 @@
 -- An order on a view that is found: its own tests, by what code sees of the view's blocks; and what the view then brings to the order.
-use mathlib.Core.Path.{_≡_, refl, sym, _∙_}
+use mathlib.Core.Path.{_≡_, refl, sym, _∙_, subst}
 use Prim.Native.Nat.{ℕ, _≤_, _<_}
 use native.Mathlib.Omega.{arith}
 use mathlib.Core.Bool.{Bool, true, false, not}
 use mathlib.Core.List.{List, [], _∷_, _++_}
-use lib.ListN.{length-append}
 use lib.Dec.{T}
-use Rattle.bits.specs.Lists.{All, empty?}
+use Rattle.bits.specs.Lists.{All}
 use Rattle.bits.specs.Bytes.{Byte}
 use Rattle.outcome.specs.Refusals.{badLines, extended}
 use Rattle.outcome.specs.Outcome.{refused}
-use Rattle.format.specs.Segments.{Segment, segment, segment-length, segments}
 use Rattle.format.specs.View.{View}
 use Rattle.format.specs.Places.{viewAt, count}
 use Rattle.format.proofs.Laws.Record.{read-back}
 use Rattle.orders.specs.Listed.{removalLines}
 use Rattle.orders.specs.Act.{Act, remove}
-use Rattle.orders.specs.Order.{Order, linesOk, tests, order, Pass}
+use Rattle.orders.specs.Order.{Order, linesOk, onlyQuality, tests, order, Pass}
 use Rattle.orders.proofs.Laws.Refuse.{verdict-own, order-refused}
 use Rattle.orders.proofs.Laws.Keep.{allowed-right}
 use Rattle.orders.proofs.Laws.Right.{Right}
 use Rattle.order_removal.specs.Rank.{Rising}
 use Rattle.order_removal.proofs.Laws.Listed.{lines-rise}
-use Rattle.find_parts.specs.Stands.{BlockAt}
-use Rattle.find_parts.proofs.Laws.Blocks.{block-bits, few-lines}
+use Rattle.find_parts.proofs.Laws.Blocks.{cut, few-lines}
+use Rattle.order_segments.specs.Kinds.{KindsSeen}
 use Rattle.order_lists.specs.declared.lists.Change.{Change}
 use Rattle.order_record.specs.Rebuilt.{Means, Placed}
 use Rattle.find_parts.specs.declared.site.Site.{Site}
@@ -31,19 +29,6 @@ use Rattle.order_record.proofs.Laws.Acts.{remove-means, keeps}
 use Rattle.order_view.specs.Named.{Named}
 use Rattle.order_carry.specs.Carried.{Tested}
 use Rattle.orders.specs.Called.{removalOrder}
-
--- ---- segments: an extended length of 0 has none
-
-module _ {s : List ℕ} {b e : ℕ} where
-  pub no-segments : (gs : List Segment) → BlockAt segments s b e gs → e ≤ b → T (empty? gs)
-  unfolding segments
-  no-segments [] h l = tt
-  no-segments (g ∷ gs) h l = absurd (omega (arith, block-bits h, length-append (segment .enc g) (segments .enc gs), segment-length g))
-
-  pub some-segments : (gs : List Segment) → BlockAt segments s b e gs → b < e → T (not (empty? gs))
-  unfolding segments
-  some-segments [] h l = absurd (omega (arith, block-bits h))
-  some-segments (g ∷ gs) h l = tt
 
 module _ {s : List ℕ} {view n : ℕ} {x : Site} (F : Named s view n x) where
   abbrev v : View
@@ -91,15 +76,21 @@ module _ {s : List ℕ} {view n : ℕ} {x : Site} (F : Named s view n x) where
       pub rises : Rising lines
       rises = lines-rise n lines e .0
 
-      pub has-segments : x .extended .from < x .extended .to → order (removalOrder view n lines) s ≡ refused extended 0
-      unfolding tests
-      has-segments l = own-refused act ((linesOk (count v) (removalLines lines), badLines) ∷ []) (empty? (v .segments)) extended [] refl (good, tt) (some-segments (v .segments) (F .at .segments) l) (omega arith)
+      -- what code has seen of the types of the segments
+      module _ {seen : Bool} (K : KindsSeen (cut s (x .extended .from) (x .extended .to)) seen) where
+        seen-is : seen ≡ onlyQuality (v .segments)
+        seen-is = K .is (v .segments) [] (F .at .segments .value)
 
-      module _ (l : x .extended .to ≤ x .extended .from) where
-        pub removal-passes : Pass (tests act v)
+        pub other-type : seen ≡ false → order (removalOrder view n lines) s ≡ refused extended 0
         unfolding tests
-        removal-passes = (good, (no-segments (v .segments) (F .at .segments) l, tt))
+        other-type q =
+            own-refused act ((linesOk (count v) (removalLines lines), badLines) ∷ []) (onlyQuality (v .segments)) extended [] refl (good, tt)
+            (subst (λ (b : Bool). T (not b)) (sym q ∙ seen-is) tt) (omega arith)
 
-        module _ (f : All Byte s) where
-          pub removal-means : Means act v lines (record { high = n; low = 0; joins = false })
-          removal-means = remove-means v (right f) (few f) lines _ rises (omega (arith, counted))
+        pub removal-passes : seen ≡ true → Pass (tests act v)
+        unfolding tests
+        removal-passes q = (good, (subst T (sym q ∙ seen-is) tt, tt))
+
+      module _ (f : All Byte s) where
+        pub removal-means : Means act v lines (record { high = n; low = 0; joins = false })
+        removal-means = remove-means v (right f) (few f) lines _ rises (omega (arith, counted))

@@ -1,5 +1,6 @@
 -- Made by tools/proof fill from answers/remove.ans: change it there.
 -- The view, then the removal's own tests, then the new record.
+use native.Mathlib.Omega.{arith}
 use mathlib.Core.Path.{_≡_, sym, _∙_, subst}
 use mathlib.Core.Bool.{true}
 use Rattle.bits.specs.Lists.{All}
@@ -9,10 +10,12 @@ use Rattle.outcome.proofs.Laws.{answer-refused}
 use Rattle.orders.specs.Listed.{removalLines}
 use Rattle.orders.specs.Act.{remove}
 use Rattle.orders.specs.Order.{linesOk}
+use Rattle.find_parts.proofs.Laws.Blocks.{block-there}
+use Rattle.find_parts.proofs.Laws.Record.{record-apart}
 use Rattle.order_view.specs.Named.{Named, ViewNamed}
 use Rattle.orders.specs.Called.{removalOrder}
 use Rattle.order_view.specs.declared.NamedView.{NamedView}
-use Rattle.ordering.proofs.Laws.View.{tested, placed, bad-lines, rises, has-segments, removal-passes, removal-means}
+use Rattle.ordering.proofs.Laws.View.{tested, placed, bad-lines, rises, other-type, removal-passes, removal-means}
 use borrow.Author.Needs.{needs}
 use Rattle.ordering.proofs.remove.Statement.{statement}
 use Rattle.ordering.proofs.remove.Tie as tie
@@ -41,15 +44,32 @@ enum-known-site c = search needs
 lines-right-requires : tie.Need-lines-right-requires
 lines-right-requires c κs = search needs
 
-refuse-requires : tie.Need-refuse-requires
-refuse-requires c κs = search needs
+sub-only-quality : tie.Need-sub-only-quality
+sub-only-quality c =
+    let b = found (c .before .before .before) .at .segments in omega (arith, b .from, b .within)
+
+part-only-quality-start : tie.Need-part-only-quality-start
+part-only-quality-start c =
+    let b = found (c .before .before .before) .at .segments in omega (arith, b .from, b .within)
+
+part-only-quality-end : tie.Need-part-only-quality-end
+part-only-quality-end c =
+    let b = found (c .before .before .before) .at .segments in omega (arith, b .from, b .within)
+
+only-quality-requires : tie.Need-only-quality-requires
+only-quality-requires c κs =
+    let f = found (c .before .before .before .before) in block-there (record-apart _ (f .reads) .short) (f .at .segments)
 
 carry-out-requires : tie.Need-carry-out-requires
 carry-out-requires c κs =
-    let f = found (c .before .before .before .before .before .before) in
-    let l = c .before .before .before .before .before .before .before .before .before .before .before .before .args .removal .now in
-    let g = good (c .before .before .before) in
-    placed f (bytes (c .before .before .before .before .before .before .before .before .before .before .before)) (rises f l g) (removal-means f l g (c .before .if2 .left) (bytes (c .before .before .before .before .before .before .before .before .before .before .before))) (removal-passes f l g (c .before .if2 .left))
+    let f = found (c .before .before .before .before .before .before .before) in
+    let l = c .before .before .before .before .before .before .before .before .before .before .before .before .before .args .removal .now in
+    let g = good (c .before .before .before .before) in
+    let b = bytes (c .before .before .before .before .before .before .before .before .before .before .before .before) in
+    placed f b (rises f l g) (removal-means f l g b) (removal-passes f l g (c .before .before .only-quality .ensures) (c .before .if2 .taken))
+
+refuse-requires : tie.Need-refuse-requires
+refuse-requires c κs = search needs
 
 refuse-requires-2 : tie.Need-refuse-requires-2
 refuse-requires-2 c κs = search needs
@@ -58,19 +78,19 @@ returns : tie.Need-returns
 returns c =
     rw (c .refuse-at .ensures) (answer-refused (λ xs. xs) _ (c .before .before .before .before .before .before .before .before .args .out .now) (subst (λ (r : NamedView). ViewNamed (c .before .before .before .before .before .before .before .before .args .bytes .now) (c .before .before .before .before .before .before .before .before .args .view) (c .before .before .before .before .before .before .before .before .args .count) r) (c .before .before .number .given .1) (c .before .before .before .before .named-view .ensures) (remove (removalLines (c .before .before .before .before .before .before .before .before .args .removal .now)))))
 
-returns-2 : tie.Need-returns-2
-returns-2 c =
-    rw (c .refuse .ensures) (answer-refused (λ xs. xs) _ (c .before .before .before .before .before .before .before .before .before .before .before .before .args .out .now) (has-segments (found (c .before .before .before .before .before .before)) (c .before .before .before .before .before .before .before .before .before .before .before .before .args .removal .now) (good (c .before .before .before)) (c .before .if2 .taken)))
-
 same-length : tie.Need-same-length
 same-length c = search needs
 
+returns-2 : tie.Need-returns-2
+returns-2 c =
+    let f = found (c .before .before .before .before .before .before .before .before .before .before) in
+    let l = c .before .before .before .before .before .before .before .before .before .before .before .before .before .before .before .before .args .removal .now in
+    let g = good (c .before .before .before .before .before .before .before) in
+    c .before .before .carry-out .ensures .is (removalOrder (c .before .before .before .before .before .before .before .before .before .before .before .before .before .before .before .before .args .view) (c .before .before .before .before .before .before .before .before .before .before .before .before .before .before .before .before .args .count) l) (f .value) (f .reads) (f .at) (tested f (remove (removalLines l)) (removal-passes f l g (c .before .before .before .before .before .only-quality .ensures) (c .before .before .before .before .if2 .taken))) (removal-means f l g (bytes (c .before .before .before .before .before .before .before .before .before .before .before .before .before .before .before)))
+
 returns-3 : tie.Need-returns-3
 returns-3 c =
-    let f = found (c .before .before .before .before .before .before .before .before .before) in
-    let l = c .before .before .before .before .before .before .before .before .before .before .before .before .before .before .before .args .removal .now in
-    let g = good (c .before .before .before .before .before .before) in
-    c .before .before .carry-out .ensures .is (removalOrder (c .before .before .before .before .before .before .before .before .before .before .before .before .before .before .before .args .view) (c .before .before .before .before .before .before .before .before .before .before .before .before .before .before .before .args .count) l) (f .value) (f .reads) (f .at) (tested f (remove (removalLines l)) (removal-passes f l g (c .before .before .before .before .if2 .left))) (removal-means f l g (c .before .before .before .before .if2 .left) (bytes (c .before .before .before .before .before .before .before .before .before .before .before .before .before .before)))
+    rw (c .refuse .ensures) (answer-refused (λ xs. xs) _ (c .before .before .before .before .before .before .before .before .before .before .before .before .before .args .out .now) (other-type (found (c .before .before .before .before .before .before .before)) (c .before .before .before .before .before .before .before .before .before .before .before .before .before .args .removal .now) (good (c .before .before .before .before)) (c .before .before .only-quality .ensures) (c .before .if2 .left)))
 
 returns-4 : tie.Need-returns-4
 returns-4 c =
@@ -85,11 +105,15 @@ remove-spec =
     refuse-at-requires
     enum-known-site
     lines-right-requires
-    refuse-requires
+    sub-only-quality
+    part-only-quality-start
+    part-only-quality-end
+    only-quality-requires
     carry-out-requires
+    refuse-requires
     refuse-requires-2
     returns
-    returns-2
     same-length
+    returns-2
     returns-3
     returns-4)

@@ -4,11 +4,11 @@ use mathlib.Core.Path.{_≡_, sym, ap, ap₂, _∙_}
 use Prim.Native.Nat.{ℕ, suc, _+_, _<_}
 use native.Mathlib.Omega.{arith}
 use mathlib.Core.List.{List, [], _∷_, _++_, append-assoc}
-use lib.ListN.{length, take, drop, length-append}
-use lib.Seq.{slice, take-at, drop-at, split-at, take-suc}
+use lib.ListN.{length, take, length-append}
+use lib.Seq.{slice, take-suc}
 use Rattle.bits.specs.Bytes.{inBytes}
 use Rattle.put_bytes.specs.HighFirst.{two, joined}
-use Rattle.put_bytes.proofs.Laws.{joined-append, joined-snoc}
+use Rattle.put_bytes.proofs.Laws.{joined-snoc}
 use Rattle.format.specs.Line.{skeleton}
 use Rattle.format.specs.Index.{indexBlock}
 use Rattle.format.specs.Segments.{segments}
@@ -17,17 +17,11 @@ use Rattle.format.specs.Record.{Record, size, write, Allowed}
 use Rattle.format.specs.Places.{noViewThere, viewAt}
 use Rattle.format.specs.declared.Widths.{Widths}
 use Rattle.format.specs.declared.Header.{Header}
-use Rattle.find_parts.specs.Stored.{headBytes, scaleBytes, sizedOut, blocksOut, viewOut, headerOut, recordOut}
+use Rattle.find_parts.specs.Stored.{headBytes, scaleBytes, sizedOut, blocksOut, viewOut, recordOut}
 use Rattle.find_parts.proofs.Laws.Blocks.{block-long}
 use Rattle.find_parts.proofs.Laws.Written.{view-blocks, views-long, written}
+use Rattle.find_parts.proofs.Laws.Apart.{slice-at, ahead, behind, ahead-long, apart}
 use Rattle.orders.specs.Bytes.{viewStart, extendedStart, viewPart, viewHeaderPart, extendedPart}
-
--- the middle one of three
-slice-at : (a b c : List ℕ) (from to : ℕ) → length a ≡ from → length a + length b ≡ to → slice from to (a ++ (b ++ c)) ≡ b
-slice-at a b c from to f t =
-    ap (λ (s : List ℕ). drop from (take to s)) (sym (append-assoc a b c))
-    ∙ ap (drop from) (take-at (a ++ b) c to (length-append a b ∙ t))
-    ∙ drop-at a b from f
 
 regroup : (before head lines index extended behind : List ℕ)
     → before ++ ((head ++ (lines ++ (index ++ extended))) ++ behind) ≡ ((before ++ head) ++ (lines ++ index)) ++ (extended ++ behind)
@@ -55,25 +49,18 @@ module _ (r : Record) (i : ℕ) where
 
   -- what stands before it, and behind it
   abbrev before : List ℕ
-  before = headerOut (size r) (r .head) (length (r .views)) ++ joined (viewOut w) (take i (r .views))
+  before = ahead r i (size r)
 
-  abbrev behind : List ℕ
-  behind = joined (viewOut w) (drop (suc i) (r .views))
+  abbrev rest : List ℕ
+  rest = behind r i
 
   -- where it starts
   start-is : length before ≡ viewStart r i
-  start-is =
-      let m : length before ≡ 24 + length (joined (viewOut w) (take i (r .views))) = simp length-append (omega arith) in
-      omega (arith, m, views-long w (take i (r .views)))
+  start-is = omega (arith, ahead-long r i (size r))
 
   module _ (a : Allowed r) (l : i < length (r .views)) where
-    apart : write r ≡ before ++ (viewOut w v ++ behind)
-    unfolding recordOut
-    apart =
-        let front : List ℕ = headerOut (size r) (r .head) (length (r .views)) in
-        let e : joined (viewOut w) (r .views) ≡ joined (viewOut w) (take i (r .views)) ++ (viewOut w v ++ behind) =
-        ap (joined (viewOut w)) (split-at (r .views) i noViewThere l) ∙ joined-append (viewOut w) (take i (r .views)) (v ∷ drop (suc i) (r .views)) in
-        written r a ∙ ap (λ (s : List ℕ). front ++ s) e ∙ sym (append-assoc front (joined (viewOut w) (take i (r .views))) (viewOut w v ++ behind))
+    around-it : write r ≡ before ++ (viewOut w v ++ rest)
+    around-it = written r a ∙ apart r i l
 
     -- where the next one starts
     end-is : length before + length (viewOut w v) ≡ viewStart r (suc i)
@@ -84,25 +71,25 @@ module _ (r : Record) (i : ℕ) where
         omega (arith, start-is, views-long w vs, views-long w (take (suc i) (r .views)), ap length e, length-append (joined (viewOut w) vs) (viewOut w v))
 
     pub view-is : viewPart r i (write r) ≡ viewOut w v
-    view-is = ap (slice (viewStart r i) (viewStart r (suc i))) apart ∙ slice-at before (viewOut w v) behind _ _ start-is end-is
+    view-is = ap (slice (viewStart r i) (viewStart r (suc i))) around-it ∙ slice-at before (viewOut w v) rest _ _ start-is end-is
 
     pub header-is : viewHeaderPart r i (write r) ≡ headBytes (v .head)
     header-is =
-        let e : write r ≡ before ++ (headBytes (v .head) ++ (blocksOut w v ++ behind)) =
-        apart ∙ ap (λ (s : List ℕ). before ++ s) (append-assoc (headBytes (v .head)) (blocksOut w v) behind) in
-        ap (slice (viewStart r i) (viewStart r i + 8)) e ∙ slice-at before (headBytes (v .head)) (blocksOut w v ++ behind) (viewStart r i) (viewStart r i + 8) start-is (omega (arith, start-is))
+        let e : write r ≡ before ++ (headBytes (v .head) ++ (blocksOut w v ++ rest)) =
+        around-it ∙ ap (λ (s : List ℕ). before ++ s) (append-assoc (headBytes (v .head)) (blocksOut w v) rest) in
+        ap (slice (viewStart r i) (viewStart r i + 8)) e ∙ slice-at before (headBytes (v .head)) (blocksOut w v ++ rest) (viewStart r i) (viewStart r i + 8) start-is (omega (arith, start-is))
 
     pub extended-is : extendedPart r i (write r) ≡ sizedOut segments (v .segments)
     extended-is =
         let front : List ℕ = (before ++ headBytes (v .head)) ++ (sizedOut (skeleton w) (v .lines) ++ sizedOut (indexBlock (length (v .lines))) (v .index)) in
         let x : List ℕ = sizedOut segments (v .segments) in
-        let e : write r ≡ front ++ (x ++ behind) = apart ∙ regroup before (headBytes (v .head)) (sizedOut (skeleton w) (v .lines)) (sizedOut (indexBlock (length (v .lines))) (v .index)) x behind in
+        let e : write r ≡ front ++ (x ++ rest) = around-it ∙ regroup before (headBytes (v .head)) (sizedOut (skeleton w) (v .lines)) (sizedOut (indexBlock (length (v .lines))) (v .index)) x rest in
         let n : length front ≡ length before + 12 + length (inBytes (skeleton w .enc (v .lines))) + length (inBytes (indexBlock (length (v .lines)) .enc (v .index))) = simp length-append (omega arith) in
         let m : length x ≡ 2 + length (inBytes (segments .enc (v .segments))) = omega arith in
         let f : length front ≡ extendedStart r i =
         omega (arith, n, start-is, views-long w (take i (r .views)), block-long (skeleton w) (v .lines), block-long (indexBlock (length (v .lines))) (v .index)) in
         let t : length front + length x ≡ viewStart r (suc i) = omega (arith, n, m, end-is, view-blocks w v) in
-        ap (slice (extendedStart r i) (viewStart r (suc i))) e ∙ slice-at front x behind _ _ f t
+        ap (slice (extendedStart r i) (viewStart r (suc i))) e ∙ slice-at front x rest _ _ f t
 
 -- ---- two records with the same header and as many views
 

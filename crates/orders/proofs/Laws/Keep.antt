@@ -2,18 +2,16 @@
 -- is as it was, to the bit.
 use mathlib.Core.Path.{_≡_, refl}
 use mathlib.Core.Logic.{_≢_}
-use Prim.Native.Nat.{ℕ, zero, suc, _*_, _≤_, _<_}
+use Prim.Native.Nat.{ℕ, _≤_, _<_}
 use native.Mathlib.Nat.{zero-add}
 use native.Mathlib.Omega.{arith}
 use mathlib.Core.Bool.{Bool}
 use mathlib.Core.Option.{Option, none, some, Option·map}
-use mathlib.Core.List.{List, [], _∷_}
-use lib.ListN.{length, getD, set, length-append, length-set, length-map}
-use lib.Seq.{getD-set-same, getD-set-other}
+use mathlib.Core.List.{List, []}
+use lib.ListN.{length, length-map}
 use Rattle.bits.specs.Lists.{Along}
 use Rattle.bits.specs.ListsLaws.{all-at, all-map, along-at, along-up, up-along, mapped}
 use Rattle.bits.specs.Codec.{Codec}
-use Rattle.bits.specs.CodecLaws.{encAlong}
 use Rattle.bits.specs.BlockLaws.{ManyFits}
 use Rattle.format.specs.Limits.{mostLines, mostBytes}
 use Rattle.format.specs.Line.{Line, line, skeleton}
@@ -22,7 +20,8 @@ use Rattle.format.specs.Index.{Index, FitsList, FitsIndex, up, index, indexBloc
 use Rattle.format.specs.View.{View, view, viewHeader}
 use Rattle.format.specs.Record.{Record, tellSeen, Allowed}
 use Rattle.format.specs.declared.Widths.{Widths}
-use Rattle.format.proofs.Laws.Size.{view-length, views-length}
+use Rattle.format.proofs.Laws.Size.{view-length}
+use Rattle.format.proofs.Laws.Changed.{FitsAs, changed-count, changed-here, changed-other, changed-allowed}
 use Rattle.format.specs.Places.{count, noLine, lineAt, noViewThere, viewAt}
 use Rattle.orders.specs.Survive.{survivors}
 use Rattle.orders.specs.Least.{indexOf}
@@ -72,10 +71,9 @@ view-right : (w : Widths) (seen : List ℕ) (v : View) → view w seen .Fits v �
 unfolding view
 view-right w seen v f = index-right (count v) (v .index) (f .1 .0 .1)
 
-view-keep : (w : Widths) (seen : List ℕ) (a : Act) (v : View) → view w seen .Fits v → Pass (tests a v)
-    → length (view w seen .enc (after a v)) ≤ 8 * mostBytes → view w seen .Fits (after a v)
+view-keep : (w : Widths) (a : Act) (v : View) → Pass (tests a v) → FitsAs w (after a v) v
 unfolding view viewHeader skeleton mostBytes
-view-keep w seen a v f p small =
+view-keep w a v p seen f small =
     let u : View = after a v in
     let z = view-length w seen u in
     let m : ManyFits (line w) mostLines (u .lines) = rw (lines-after a v) (lines-keep (line w) mostLines a v (f .0 .1)) in
@@ -83,19 +81,7 @@ view-keep w seen a v f p small =
     let i : indexBlock (count u) .Fits (u .index) = rw (index-after a v) (right-index (count u) (lists u) (m .most) r) in
     (((rw (head-after a v) (f .0 .0 .0), omega (arith, z)), m), ((omega (arith, z), i), rw (segments-after a v) (f .1 .1)))
 
--- ---- the views, and the record
-
--- one view changed: those behind it still fit, since it has the position that it had
-views-keep : (w : Widths) (seen : List ℕ) (vs : List View) (i : ℕ) (a : Act) → i < length vs → Pass (tests a (getD vs i noViewThere))
-    → length (encAlong (view w) tellSeen seen (set vs i (after a (getD vs i noViewThere)))) ≤ 8 * mostBytes
-    → Along tellSeen (λ s v. view w s .Fits v) seen vs → Along tellSeen (λ s v. view w s .Fits v) seen (set vs i (after a (getD vs i noViewThere)))
-views-keep w seen [] i a l p small h = h
-views-keep w seen (v ∷ vs) zero a l p small h =
-    let z = simp length-append at small in
-    (view-keep w seen a v (h .0) p (omega (arith, z)), rw (head-after a v) (h .1))
-views-keep w seen (v ∷ vs) (suc i) a l p small h =
-    let z = simp length-append at small in
-    (h .0, views-keep w (tellSeen seen v) vs i a (omega arith) p (omega (arith, z)) (h .1))
+-- ---- the record
 
 pub edited-head : (o : Order) (r : Record) → edited o r .head ≡ r .head
 unfolding edited
@@ -103,29 +89,22 @@ edited-head o r = refl
 
 pub edited-count : (o : Order) (r : Record) → length (edited o r .views) ≡ length (r .views)
 unfolding edited
-edited-count o r = length-set (r .views) (o .view) _
+edited-count o r = changed-count r (o .view) (after (o .act) (viewAt r (o .view)))
 
 pub edited-here : (o : Order) (r : Record) → o .view < length (r .views) → viewAt (edited o r) (o .view) ≡ after (o .act) (viewAt r (o .view))
 unfolding edited
-edited-here o r l = getD-set-same (r .views) (o .view) _ noViewThere l
+edited-here o r l = changed-here r (o .view) (after (o .act) (viewAt r (o .view))) l
 
 pub edited-other : (o : Order) (r : Record) (i : ℕ) → i ≢ o .view → viewAt (edited o r) i ≡ viewAt r i
 unfolding edited
-edited-other o r i n = getD-set-other (r .views) (o .view) i _ noViewThere n
+edited-other o r i n = changed-other r (o .view) (after (o .act) (viewAt r (o .view))) i n
 
 pub order-keeps : (o : Order) (r : Record) → Allowed r → Accepted o r → Allowed (edited o r)
 unfolding edited
 order-keeps o r f a =
     let w : Widths = r .head .scale .widths in
-    let small : length (encAlong (view w) tellSeen [] (edited o r .views)) ≤ 8 * mostBytes = omega (arith, views-length (edited o r), a .small) in
-    record {
-      fits = record {
-        head = f .fits .head;
-        count = rw (edited-count o r) (f .fits .count);
-        views = views-keep w [] (r .views) (o .view) (o .act) (a .place) (a .passes) small (f .fits .views);
-      };
-      small = a .small;
-    }
+    let v : View = viewAt r (o .view) in
+    changed-allowed r (o .view) (after (o .act) v) (a .place) (head-after (o .act) v) (view-keep w (o .act) v (a .passes)) (a .small) f
 
 -- the lists of an allowed record's views are right
 pub allowed-right : (r : Record) → Allowed r → (i : ℕ) → i < length (r .views) → Right (viewAt r i)

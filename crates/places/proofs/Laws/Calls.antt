@@ -20,7 +20,7 @@ use Rattle.places.specs.Reach.{reach, Agree, AnsweredAlike}
 use Rattle.places.proofs.Laws.Place.{read-alike}
 
 -- none of 2 to 12, whatever the place
-abbrev Other : ℕ → ℕ → Type 0
+abbrev pub Other : ℕ → ℕ → Type 0
 Other e p = T (not (within 2 12 e))
 
 -- no refusal of a call's own is

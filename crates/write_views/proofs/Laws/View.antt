@@ -19,10 +19,9 @@ use Rattle.format.specs.Index.{Index, indexBlock}
 use Rattle.format.specs.View.{View}
 use Rattle.format.specs.Segments.{Segment, FitsSegment, segment, segments}
 use Rattle.format.specs.declared.Widths.{Widths}
-use Rattle.find_parts.proofs.Laws.InBytes.{in-spelled, spells-all}
 use Rattle.find_parts.proofs.Laws.Lists.{all-long}
 use Rattle.find_parts.proofs.Laws.Blocks.{block-long, skeleton-is}
-use Rattle.find_parts.proofs.Laws.Segments.{segment-spells}
+use Rattle.find_parts.proofs.Laws.Segments.{segments-bytes}
 use Rattle.sheet_bytes.proofs.Laws.Sizes.{joined-size}
 use Rattle.sheet_bytes.specs.Bytes.{lineBytes, indexBytes, segmentBytes, viewBytes}
 use Rattle.find_parts.specs.Finds.{segmentStored}
@@ -65,10 +64,6 @@ pub lines-bits : (w : Widths) (ls : List Line) → total (λ l. length (line w .
 lines-bits w ls =
     let b : Bits = encAll (line w) ls in
     omega (arith, block-long (skeleton w) ls, ap length (skeleton-is w ls), length-append b (zeros (pad (length b))), all-long (line w) ls)
-
-pub segments-bytes : (gs : List Segment) → All FitsSegment gs → inBytes (segments .enc gs) ≡ joined segmentStored gs
-unfolding segments segment
-segments-bytes gs f = in-spelled (spells-all segment segmentStored segment-spells gs f)
 
 pub segments-long : (gs : List Segment) → All FitsSegment gs → total (λ g. 4 + length (g .payload)) gs ≡ length (inBytes (segments .enc gs))
 segments-long gs f = sym (ap length (segments-bytes gs f) ∙ joined-size segmentStored (λ g. 4 + length (g .payload)) (λ g. omega arith) gs)

@@ -3,7 +3,8 @@
 use native.Mathlib.Omega.{arith}
 use mathlib.Core.Path.{sym}
 use lib.ListN.{length-take, length-drop}
-use Rattle.write_views.proofs.Laws.View.{sized-laid, segments-bytes, segments-long}
+use Rattle.find_parts.proofs.Laws.Segments.{segments-bytes}
+use Rattle.write_views.proofs.Laws.View.{sized-laid, segments-long}
 use borrow.Author.Needs.{needs}
 use Rattle.write_views.proofs.view.extended.Statement.{statement}
 use Rattle.write_views.proofs.view.extended.Tie as tie

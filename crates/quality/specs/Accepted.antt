@@ -1,0 +1,57 @@
+-- When the calls of local quality are accepted, and when they are refused with 24: their numbers are 0, or 24, exactly where these
+-- hold. lent is how many bytes the output has.
+use mathlib.Core.Path.{_≡_}
+use mathlib.Core.Logic.{_≢_}
+use Prim.Native.Nat.{ℕ, _≤_, _<_}
+use mathlib.Core.Bool.{not}
+use mathlib.Core.List.{List, []}
+use lib.ListN.{length}
+use lib.Dec.{T}
+use Rattle.bits.specs.Codec.{got}
+use Rattle.format.specs.Limits.{mostBytes}
+use Rattle.format.specs.Segments.{localQuality}
+use Rattle.format.specs.Record.{Record, read, size}
+use Rattle.format.specs.Places.{viewAt, segmentAt, imageOf}
+use Rattle.rewrite.specs.Rewrite.{rewritten}
+use Rattle.quality.specs.Parts.{valuesRight}
+use Rattle.quality.specs.Quality.{payloadFor}
+
+-- the bytes read as a record that has the segment
+pub record SegmentThere (view place : ℕ) (bytes : List ℕ) : Type 0 where
+  pub value : Record
+  pub reads : read bytes ≡ got value []
+  pub view-there : view < length (value .views)
+  pub segment-there : place < length (viewAt value view .segments)
+
+-- ---- accepted
+
+-- its type is that of local quality, its payload is that of right values, and these fit the output
+pub record AcceptedQuality (view place : ℕ) (bytes : List ℕ) (lent : ℕ) : Type 0 where
+  pub there : SegmentThere view place bytes
+  pub kind : segmentAt (viewAt (there .value) view) place .kind ≡ localQuality
+  pub values : List ℕ
+  pub right : T (valuesRight (imageOf (viewAt (there .value) view)) values)
+  pub payload : segmentAt (viewAt (there .value) view) place .payload ≡ payloadFor (imageOf (viewAt (there .value) view)) values
+  pub room : length values ≤ lent
+
+-- its type is that of local quality, the values to be written are right, and the new record is at most 32,768 bytes and fits the
+-- output
+pub record AcceptedSetting (view place : ℕ) (values bytes : List ℕ) (lent : ℕ) : Type 0 where
+  pub there : SegmentThere view place bytes
+  pub kind : segmentAt (viewAt (there .value) view) place .kind ≡ localQuality
+  pub right : T (valuesRight (imageOf (viewAt (there .value) view)) values)
+  pub small : size (rewritten view place (payloadFor (imageOf (viewAt (there .value) view)) values) (there .value)) ≤ mostBytes
+  pub room : size (rewritten view place (payloadFor (imageOf (viewAt (there .value) view)) values) (there .value)) ≤ lent
+
+-- ---- refused with 24: "a segment of another type, or a payload or values to be written that break these rules"
+
+-- of right values with its type its payload is none
+pub record BrokenQuality (view place : ℕ) (bytes : List ℕ) : Type 0 where
+  pub there : SegmentThere view place bytes
+  pub wrong : segmentAt (viewAt (there .value) view) place .kind ≡ localQuality → (values : List ℕ) → T (valuesRight (imageOf (viewAt (there .value) view)) values)
+      → segmentAt (viewAt (there .value) view) place .payload ≢ payloadFor (imageOf (viewAt (there .value) view)) values
+
+-- with its type the values are not right
+pub record BrokenSetting (view place : ℕ) (values bytes : List ℕ) : Type 0 where
+  pub there : SegmentThere view place bytes
+  pub wrong : segmentAt (viewAt (there .value) view) place .kind ≡ localQuality → T (not (valuesRight (imageOf (viewAt (there .value) view)) values))

@@ -1,0 +1,3 @@
+-- The laws of cells, by topic.
+pub mod Start
+pub mod Written

@@ -1,0 +1,4 @@
+-- The laws of a rewritten record, by topic.
+pub mod Record
+pub mod Bytes
+pub mod Kept

@@ -1,0 +1,106 @@
+-- A record with one payload rewritten is allowed, where it is not too long; the segment has the new payload and the type that it had;
+-- and rewriting a payload with itself changes nothing.
+use mathlib.Core.Path.{_≡_, refl, ap, _∙_}
+use Prim.Native.Nat.{ℕ, zero, suc, _≤_, _<_}
+use native.Mathlib.Omega.{arith}
+use mathlib.Core.List.{List, [], _∷_}
+use lib.ListN.{length, set, length-append, length-set}
+use lib.Dec.{leb, leb→le, le→leb}
+use lib.Seq.{getD-set-same, set-getD}
+use mir.Facts.{no-leb}
+use Rattle.bits.specs.ChoiceLaws.{pick-yes, pick-no, pick-split}
+use Rattle.bits.specs.Lists.{All}
+use Rattle.bits.specs.ListsLaws.{all-at, all-set, along-at}
+use Rattle.bits.specs.Bytes.{Byte}
+use Rattle.outcome.specs.Refusals.{tooLong}
+use Rattle.outcome.specs.Outcome.{refused, given}
+use Rattle.format.specs.Limits.{mostBytes}
+use Rattle.format.specs.Segments.{Segment, FitsSegment, segment, segment-length, segments}
+use Rattle.format.specs.View.{View, view, viewHeader}
+use Rattle.format.specs.Record.{Record, tellSeen, size, write, Allowed}
+use Rattle.format.specs.Places.{noViewThere, noSegmentThere, viewAt, withView, segmentAt}
+use Rattle.format.specs.declared.Widths.{Widths}
+use Rattle.format.proofs.Laws.Size.{view-length}
+use Rattle.format.proofs.Laws.Changed.{FitsAs, changed-count, changed-here, changed-allowed}
+use Rattle.rewrite.specs.Rewrite.{withPayload, rewritten, rewriting}
+
+-- ---- the view
+
+-- a segment is no longer than its block
+segment-within : (gs : List Segment) (place : ℕ) (g : Segment) → place < length gs → length (segment .enc g) ≤ length (segments .enc (set gs place g))
+unfolding segments
+segment-within [] place g l = absurd (omega arith)
+segment-within (x ∷ gs) zero g l = simp length-append (omega arith)
+segment-within (x ∷ gs) (suc place) g l = simp length-append (omega (arith, segment-within gs place g (omega arith)))
+
+module _ (w : Widths) (v : View) (place : ℕ) (payload : List ℕ) (l : place < length (v .segments)) (bytes : All Byte payload) where
+  payload-fits : FitsAs w (withPayload place payload v) v
+  unfolding view viewHeader segment segments mostBytes
+  payload-fits seen f small =
+      let g : Segment = record { kind = segmentAt v place .kind; payload = payload } in
+      let z = view-length w seen (withPayload place payload v) in
+      let long = segment-within (v .segments) place g l in
+      let old : FitsSegment (segmentAt v place) = all-at FitsSegment noSegmentThere (v .segments) place l (f .1 .1 .1) in
+      let new : FitsSegment g = record { kind = old .kind; length = omega (arith, z, long, segment-length g); payload = bytes } in
+      (f .0, (f .1 .0, (omega (arith, z), all-set FitsSegment (v .segments) place g new (f .1 .1 .1))))
+
+-- ---- the record
+
+-- an allowed record's segments fit
+pub all-fit : (i : ℕ) (r : Record) → i < length (r .views) → Allowed r → All FitsSegment (viewAt r i .segments)
+unfolding view segment segments
+all-fit i r l f =
+    let w : Widths = r .head .scale .widths in
+    along-at tellSeen (λ s v. view w s .Fits v) noViewThere [] (r .views) i l (f .fits .views) .1 .1 .1 .1
+
+pub segment-fits : (i place : ℕ) (r : Record) → i < length (r .views) → place < length (viewAt r i .segments) → Allowed r → FitsSegment (segmentAt (viewAt r i) place)
+segment-fits i place r l k f = all-at FitsSegment noSegmentThere (viewAt r i .segments) place k (all-fit i r l f)
+
+module _ (view place : ℕ) (payload : List ℕ) (r : Record) where
+  pub rewritten-count : length (rewritten view place payload r .views) ≡ length (r .views)
+  unfolding rewritten
+  rewritten-count = changed-count r view _
+
+  pub rewritten-view : view < length (r .views) → viewAt (rewritten view place payload r) view ≡ withPayload place payload (viewAt r view)
+  unfolding rewritten
+  rewritten-view l = changed-here r view _ l
+
+  -- the segments of a view that is rewritten
+  pub as-many : length (withPayload place payload (viewAt r view) .segments) ≡ length (viewAt r view .segments)
+  as-many = length-set (viewAt r view .segments) place _
+
+  pub segment-is : place < length (viewAt r view .segments)
+      → segmentAt (withPayload place payload (viewAt r view)) place ≡ record { kind = segmentAt (viewAt r view) place .kind; payload = payload }
+  segment-is l = getD-set-same (viewAt r view .segments) place _ noSegmentThere l
+
+  pub rewritten-allowed : view < length (r .views) → place < length (viewAt r view .segments) → All Byte payload
+      → size (rewritten view place payload r) ≤ mostBytes → Allowed r → Allowed (rewritten view place payload r)
+  unfolding rewritten
+  rewritten-allowed l k b small f =
+      changed-allowed r view (withPayload place payload (viewAt r view)) l refl (payload-fits (r .head .scale .widths) (viewAt r view) place payload k b) small f
+
+  -- ---- the outcome
+
+  pub rewriting-given : (new : List ℕ) → rewriting view place payload r ≡ given new
+      → (size (rewritten view place payload r) ≤ mostBytes) × (new ≡ write (rewritten view place payload r))
+  unfolding rewriting
+  rewriting-given new h =
+      pick-split (leb (size (rewritten view place payload r)) mostBytes) _ _ h (λ t e. (leb→le _ mostBytes t, cc))
+      (λ t e. let z : _≡_ {A = ℕ} 0 1 = cc in absurd (omega arith))
+
+  pub given-rewriting : size (rewritten view place payload r) ≤ mostBytes → rewriting view place payload r ≡ given (write (rewritten view place payload r))
+  unfolding rewriting
+  given-rewriting l = pick-yes (leb (size (rewritten view place payload r)) mostBytes) _ _ (le→leb _ mostBytes l)
+
+  pub rewriting-long : mostBytes < size (rewritten view place payload r) → rewriting view place payload r ≡ refused tooLong 0
+  unfolding rewriting
+  rewriting-long l = pick-no (leb (size (rewritten view place payload r)) mostBytes) _ _ (no-leb l)
+
+-- the payload that is there already
+pub rewritten-same : (view place : ℕ) (r : Record) → rewritten view place (segmentAt (viewAt r view) place .payload) r ≡ r
+unfolding rewritten
+rewritten-same view place r =
+    let v : View = viewAt r view in
+    let e : withPayload place (segmentAt v place .payload) v ≡ v =
+    ap (λ (gs : List Segment). record { head = v .head; lines = v .lines; index = v .index; segments = gs }) (set-getD (v .segments) place noSegmentThere) in
+    ap (withView r view) e ∙ ap (λ (vs : List View). record { head = r .head; views = vs }) (set-getD (r .views) view noViewThere)
