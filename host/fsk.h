@@ -3,7 +3,8 @@
  *
  * A RECORD is a run of 24 to 32,768 bytes: a header, then one or more VIEWS of a finger. A view has a header, a block of
  * LINES (a ridge each: where it starts, how it runs, where it ends), an INDEX that says which lines are neighbours (or none),
- * and SEGMENTS of extended data, which the library carries as they are. Views, lines and segments are counted from 0.
+ * and SEGMENTS of extended data, which the library carries as they are; those of local quality it also reads and rewrites. Views,
+ * lines and segments are counted from 0.
  *
  * Every call takes numbers and byte slices (a pointer and a length; an empty slice may have a null pointer) and gives an
  * fsk_answer back, fsk_holds an fsk_held. Whatever the bytes and the numbers are, the call answers: all that is asked of
@@ -80,7 +81,7 @@ enum {
     FSK_OTHER_COUNT = 14,   /* The view has another number of lines than the order was made for. */
     FSK_BAD_LINES = 15,     /* A line number is not below the view's number of lines, or a removal list is empty, not rising or of
                                odd length. */
-    FSK_EXTENDED = 16,      /* No line can be removed from a view with extended data. */
+    FSK_EXTENDED = 16,      /* No line can be removed from a view with a segment of another type than local quality (0x0003). */
     FSK_NO_INDEX = 17,      /* The view has no index, so that no lines can be joined or parted. */
     FSK_ALREADY_SO = 18,    /* The lines to join are neighbours already, or those to part are not. */
     FSK_TOO_LONG = 19,      /* The new record would have over 32,768 bytes. */
@@ -89,6 +90,8 @@ enum {
                                has no views or over 255, over 1,024 lines in a view, or not one 05 for each line. */
     FSK_BAD_VALUE = 22,     /* A value in the sheet is not one that a record can hold at the widths given. */
     FSK_NO_SEGMENT = 23,    /* The view has no segment with that place. */
+    FSK_BAD_QUALITY = 24,   /* The segment is not one of local quality (0x0003), or the payload to be read or the values to be written
+                               break its rules. */
     FSK_NUMBERS             /* how many numbers there are: each is below it */
 };
 
@@ -148,6 +151,29 @@ fsk_answer fsk_trail(const uint8_t *record, size_t record_length, uint32_t view,
 fsk_answer fsk_segment(const uint8_t *record, size_t record_length, uint32_t view, uint32_t segment);
 
 /*
+ * The LOCAL QUALITY of a view's image, which a segment of type 0x0003 has as its payload: the image is laid out in cells of one size,
+ * and each has a value. The VALUES are bytes: a cell's width and height in points (1 to 255 each), the bits of a value in the payload
+ * (1 to 8), and then a byte for each cell, left to right and top to bottom, which is below 2 to that number of bits. In a row there
+ * are as many cells as the view's width over the cell's, rounded up, and as many rows as the view's height over the cell's, rounded
+ * up; a view of width or height 0 has no cells. (The view's width and height are in the sheet's field 02.) A payload is right where
+ * it is the first three of these bytes, the cells' values with so many bits each, and zero bits up to a whole byte, and nothing else.
+ * Eight times the record's length always suffices.
+ * view, segment: counted from 0. Writes bytes. Refuses: 1 to 12, 13, 23, 24, 20.
+ */
+fsk_answer fsk_quality(const uint8_t *record, size_t record_length, uint32_t view, uint32_t segment, uint8_t *values,
+                       size_t values_length);
+
+/*
+ * The record with the payload of a segment of local quality made from such values. Only that payload, its segment's length, the
+ * extended length and the record length are others. What the payload was is not judged, so that one that breaks the rules can be
+ * mended; the values are. Rewriting with the values that fsk_quality gave gives the record back, and fsk_quality then gives what was
+ * rewritten. 32,768 bytes always suffice for the new record.
+ * view, segment: counted from 0. Writes bytes, to a second buffer. Refuses: 1 to 12, 13, 23, 24, 19, 20.
+ */
+fsk_answer fsk_set_quality(const uint8_t *record, size_t record_length, uint32_t view, uint32_t segment, const uint8_t *values,
+                           size_t values_length, uint8_t *second, size_t second_length);
+
+/*
  * An ORDER writes a new record to a second buffer; the old one is only read. It names a view (counted from 0) and the number of lines
  * that it was made for: where the view has another number of lines by now, it is refused with 14. So a removal that comes again after
  * it was accepted is refused, and nothing is lost. All that is not ordered stays; but in a view with an index, the index is written at
@@ -157,6 +183,8 @@ fsk_answer fsk_segment(const uint8_t *record, size_t record_length, uint32_t vie
 
 /*
  * Removes lines from a view; those behind them move up and get new numbers, and a removed line leaves all lists of neighbours.
+ * Segments of local quality are carried along as they are, whether their payloads are right or not; any other type stands in the way
+ * (16).
  * lines: their numbers, counted from 0 and rising, as 16-bit numbers, high byte first: two bytes each.
  * Writes bytes. Refuses: 1 to 12, 13, 14, 15, 16, 19, 20.
  */

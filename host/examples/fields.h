@@ -1,5 +1,5 @@
 /*
- * What both examples need: a record from a file, a walk over the fields of its sheet, and a refusal in words. A sheet that fsk_read
+ * What the examples need: a record from a file, a walk over the fields of its sheet, and a refusal in words. A sheet that fsk_read
  * gave is whole and in order (fsk.h says in which), so the walk tests nothing.
  */
 #ifndef FIELDS_H
