@@ -20,10 +20,13 @@ static const double MEASURED_SECONDS = 0.2;
 
 typedef fsk_answer (*call)(const sample *on, uint8_t *out, size_t room);
 
+/* What a record must have for a call. */
+typedef enum { NOTHING, A_SEGMENT, QUALITY } need;
+
 typedef struct {
     const char *name;
     call library, plain;
-    int needs_segment;
+    need needs;
 } row;
 
 static uint8_t library_out[ROOM], plain_out[ROOM];
@@ -46,6 +49,9 @@ BOTH(read, on->record, on->length, out, room)
 BOTH(write, on->sheet, on->sheet_length, out, room)
 BOTH(trail, on->record, on->length, on->view, on->lines - 1, out, room)
 BOTH(segment, on->record, on->length, on->with_segments, on->segments - 1)
+BOTH(quality, on->record, on->length, on->with_segments, on->segments - 1, out, room)
+BOTH(set_quality, on->record, on->length, on->with_segments, on->segments - 1, on->values,
+     on->values_length, out, room)
 BOTH(remove, on->record, on->length, on->ordered, on->ordered_lines, on->removed,
      on->removed_length, out, room)
 BOTH(join, on->record, on->length, on->ordered, on->ordered_lines, on->strangers[0],
@@ -54,19 +60,23 @@ BOTH(part, on->record, on->length, on->ordered, on->ordered_lines, on->neighbour
      on->neighbours[1], out, room)
 
 static const row rows[] = {
-    {"read", library_read, by_hand_read, 0},
-    {"write", library_write, by_hand_write, 0},
-    {"trail", library_trail, by_hand_trail, 0},
-    {"segment", library_segment, by_hand_segment, 1},
-    {"remove", library_remove, by_hand_remove, 0},
-    {"join", library_join, by_hand_join, 0},
-    {"part", library_part, by_hand_part, 0},
-    {NULL, NULL, NULL, 0},
+    {"read", library_read, by_hand_read, NOTHING},
+    {"write", library_write, by_hand_write, NOTHING},
+    {"trail", library_trail, by_hand_trail, NOTHING},
+    {"segment", library_segment, by_hand_segment, A_SEGMENT},
+    {"quality", library_quality, by_hand_quality, QUALITY},
+    {"set_quality", library_set_quality, by_hand_set_quality, QUALITY},
+    {"remove", library_remove, by_hand_remove, NOTHING},
+    {"join", library_join, by_hand_join, NOTHING},
+    {"part", library_part, by_hand_part, NOTHING},
+    {NULL, NULL, NULL, NOTHING},
 };
 
 static int applies(const row *r, const sample *on)
 {
-    return !r->needs_segment || on->segments > 0;
+    if (r->needs == QUALITY)
+        return on->values_length > 0;
+    return r->needs == NOTHING || on->segments > 0;
 }
 
 /* ---- the same answer ---- */
@@ -137,7 +147,7 @@ static void measure(const row *r, const sample *on)
     }
     library *= 1e9 / (double)library_times;
     plain *= 1e9 / (double)plain_times;
-    printf("%-8s %-12s %6zu %12.1f %10.3f %12.1f %10.3f %8.2f\n", r->name, on->name, on->length,
+    printf("%-11s %-12s %6zu %12.1f %10.3f %12.1f %10.3f %8.2f\n", r->name, on->name, on->length,
            library, library / bytes, plain, plain / bytes, library / plain);
     fflush(stdout);
 }
@@ -150,9 +160,9 @@ int main(void)
         for (int i = 0; i < SAMPLES; i++)
             if (applies(r, &samples[i]))
                 compare(r, &samples[i]);
-    printf("%-8s %-12s %6s %12s %10s %12s %10s %8s\n", "", "", "", "library", "library", "plain",
+    printf("%-11s %-12s %6s %12s %10s %12s %10s %8s\n", "", "", "", "library", "library", "plain",
            "plain", "library");
-    printf("%-8s %-12s %6s %12s %10s %12s %10s %8s\n", "call", "record", "bytes", "ns/call",
+    printf("%-11s %-12s %6s %12s %10s %12s %10s %8s\n", "call", "record", "bytes", "ns/call",
            "ns/byte", "ns/call", "ns/byte", "/ plain");
     for (const row *r = rows; r->name != NULL; r++)
         for (int i = 0; i < SAMPLES; i++)

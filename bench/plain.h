@@ -1,15 +1,15 @@
 /*
  * The calls of fsk.h once more, written by hand in C and without proofs: what the library is
  * measured against. Signatures and answers, the place of a refusal too, are the host's, with the
- * prefix plain_. Behind the calls stands what the plain files share: numbers, limits and tags,
- * writers of bytes, a reader and a writer of fields, a block behind its length, the judge.
+ * prefix plain_. Behind the calls stands what the plain files share: numbers, limits and tags, a
+ * block behind its length, the judge, refusals 13, 19 and 20, and what a new record takes over from
+ * an old one.
  */
 #ifndef PLAIN_H
 #define PLAIN_H
 
-#include <string.h>
-
 #include "fsk.h"
+#include "plain_fields.h"
 
 fsk_answer plain_read(const uint8_t *record, size_t record_length, uint8_t *sheet,
                       size_t sheet_length);
@@ -19,6 +19,11 @@ fsk_answer plain_trail(const uint8_t *record, size_t record_length, uint32_t vie
                        uint8_t *trail, size_t trail_length);
 fsk_answer plain_segment(const uint8_t *record, size_t record_length, uint32_t view,
                          uint32_t segment);
+fsk_answer plain_quality(const uint8_t *record, size_t record_length, uint32_t view,
+                         uint32_t segment, uint8_t *values, size_t values_length);
+fsk_answer plain_set_quality(const uint8_t *record, size_t record_length, uint32_t view,
+                             uint32_t segment, const uint8_t *values, size_t values_length,
+                             uint8_t *out, size_t out_length);
 fsk_answer plain_remove(const uint8_t *record, size_t record_length, uint32_t view, uint32_t count,
                         const uint8_t *lines, size_t lines_length, uint8_t *out,
                         size_t out_length);
@@ -46,17 +51,21 @@ enum {
     NO_VIEW = 13,
     OTHER_COUNT = 14,
     NO_LINE = 15,
-    HAS_SEGMENTS = 16,
+    OTHER_SEGMENT = 16,
     NO_INDEX = 17,
     WRONG_PAIR = 18,
     TOO_LONG = 19,
     NO_ROOM = 20,
     BAD_SHEET = 21,
     BAD_VALUE = 22,
-    NO_SEGMENT = 23
+    NO_SEGMENT = 23,
+    BAD_QUALITY = 24
 };
 
 enum { LARGEST_RECORD = 32768, MOST_LINES = 1024, POSITIONS = 11 };
+
+/* The type of the segments of local quality. */
+enum { LOCAL_QUALITY = 0x0003 };
 
 /* The sheet's tags. */
 enum {
@@ -75,6 +84,7 @@ enum {
     VIEW_HEADER = 10,
     VIEW_VALUES = 4,
     SEGMENT_HEADER = 4,
+    QUALITY_HEADER = 3,
     COUNT_OF_CODES = 8
 };
 
@@ -90,101 +100,7 @@ static inline fsk_answer plain_refused(uint32_t number)
     return (fsk_answer){number, 0, 0};
 }
 
-static inline uint32_t plain_two_bytes(const uint8_t *at)
-{
-    return (uint32_t)at[0] << 8 | at[1];
-}
-
-/* A writer gives the place behind what it wrote. */
-static inline uint8_t *plain_put_two_bytes(uint8_t *out, uint32_t number)
-{
-    out[0] = (uint8_t)(number >> 8);
-    out[1] = (uint8_t)number;
-    return out + 2;
-}
-
-static inline uint8_t *plain_put_bytes(uint8_t *out, const uint8_t *from, size_t length)
-{
-    memcpy(out, from, length);
-    return out + length;
-}
-
-/* A reading place within some bytes: the next byte, and how many bits of the byte before it, the
- * low ones of `held`, are still to be read. They are always fewer than 8. */
-typedef struct {
-    const uint8_t *next;
-    uint32_t held;
-    unsigned left;
-} plain_reader;
-
-static inline plain_reader plain_reader_at(const uint8_t *bytes, size_t bit)
-{
-    plain_reader reader = {bytes + bit / 8, 0, 0};
-    if (bit % 8 != 0) {
-        reader.held = *reader.next++;
-        reader.left = 8 - (unsigned)(bit % 8);
-    }
-    return reader;
-}
-
-/* The number in the next `width` (1 to 16) bits. No byte is touched that holds none of them. */
-static inline uint32_t plain_take(plain_reader *reader, unsigned width)
-{
-    while (reader->left < width) {
-        reader->held = reader->held << 8 | *reader->next++;
-        reader->left += 8;
-    }
-    reader->left -= width;
-    return reader->held >> reader->left & ((1u << width) - 1);
-}
-
-/* Passes `bits` bits; likewise no byte beyond them is touched. */
-static inline void plain_pass(plain_reader *reader, size_t bits)
-{
-    if (bits < reader->left)
-        reader->left -= (unsigned)bits;
-    else
-        *reader = plain_reader_at(reader->next, bits - reader->left);
-}
-
-/* A writing place: the next byte, and how many bits, the low ones of `held`, are put but not yet
- * written. They are always fewer than 32. */
-typedef struct {
-    uint8_t *next;
-    uint64_t held;
-    unsigned waiting;
-} plain_writer;
-
-/* Puts a number into the next `width` (1 to 32) bits, which hold it. */
-static inline void plain_put(plain_writer *to, unsigned width, uint32_t number)
-{
-    to->held = to->held << width | number;
-    to->waiting += width;
-    if (to->waiting >= 32) {
-        uint32_t full;
-        to->waiting -= 32;
-        full = (uint32_t)(to->held >> to->waiting);
-        to->next = plain_put_two_bytes(to->next, full >> 16);
-        to->next = plain_put_two_bytes(to->next, full);
-    }
-}
-
-/* Writes what waits, filled up to a byte with zeros, and gives the place behind it. */
-static inline uint8_t *plain_put_rest(plain_writer to)
-{
-    for (; to.waiting >= 8; to.waiting -= 8)
-        *to.next++ = (uint8_t)(to.held >> (to.waiting - 8));
-    if (to.waiting > 0)
-        *to.next++ = (uint8_t)(to.held << (8 - to.waiting));
-    return to.next;
-}
-
-static inline size_t plain_whole_bytes(size_t bits)
-{
-    return (bits + 7) / 8;
-}
-
-/* A block of a view: skeleton, index or extended. */
+/* Some bytes: a block of a view (skeleton, index or extended), a payload, a value. */
 typedef struct {
     const uint8_t *bytes;
     size_t length;
@@ -199,6 +115,12 @@ static inline plain_block plain_block_at(const uint8_t *length_field)
 static inline const uint8_t *plain_block_end(plain_block block)
 {
     return block.bytes + block.length;
+}
+
+/* Whether the last `left` bits, 0 to 7, are zero. */
+static inline int plain_is_padding(plain_block block, size_t left)
+{
+    return left == 0 || (plain_block_end(block)[-1] & ((1u << left) - 1)) == 0;
 }
 
 /* How many codes the line has that starts at this bit of a skeleton. */
@@ -235,6 +157,16 @@ typedef struct {
  * `record` then holds what is said above; its view only if `wanted` is below the count of views. */
 fsk_answer plain_judge(const uint8_t *bytes, size_t length, uint32_t wanted, plain_record *record);
 
+/* The same, and 13 where the wanted view is not there. */
+static inline fsk_answer plain_judge_view(const uint8_t *bytes, size_t length, uint32_t wanted,
+                                          plain_record *record)
+{
+    const fsk_answer refusal = plain_judge(bytes, length, wanted, record);
+    if (refusal.number == 0 && wanted >= record->views)
+        return plain_refused(NO_VIEW);
+    return refusal;
+}
+
 /* Of record bytes 15 to 21, points per cm to N: how many stand before the first that is outside its
  * range; SCALE if none is. */
 unsigned plain_right_scale(const uint8_t *bytes);
@@ -243,5 +175,33 @@ unsigned plain_right_scale(const uint8_t *bytes);
  * is not allowed; VIEW_VALUES if all are allowed. `seen` counts the earlier views of each position;
  * the view is then counted too. */
 unsigned plain_right_values(const uint8_t *header, uint8_t *seen);
+
+/* Whether no segment of this extended block keeps lines from being removed: each is one of local
+ * quality. */
+int plain_only_quality(plain_block extended);
+
+/* 19 and 20, of a new record with this length. */
+static inline fsk_answer plain_judge_length(size_t length, size_t room)
+{
+    if (length > LARGEST_RECORD)
+        return plain_refused(TOO_LONG);
+    return length > room ? plain_refused(NO_ROOM) : plain_accepted(0);
+}
+
+/* The old record's bytes before `end`, with the new record's length among them; gives the place
+ * behind them. */
+static inline uint8_t *plain_put_before(uint8_t *out, const plain_record *record,
+                                        const uint8_t *end, size_t length)
+{
+    uint8_t *behind = plain_put_bytes(out, record->bytes, (size_t)(end - record->bytes));
+    plain_put_two_bytes(out + 10, (uint32_t)length);
+    return behind;
+}
+
+/* The old record's bytes from `start` on, which end the new record too. */
+static inline void plain_put_behind(uint8_t *out, const plain_record *record, const uint8_t *start)
+{
+    plain_put_bytes(out, start, (size_t)(record->end - start));
+}
 
 #endif

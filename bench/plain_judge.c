@@ -76,12 +76,6 @@ unsigned plain_right_values(const uint8_t *header, uint8_t *seen)
     return VIEW_VALUES;
 }
 
-/* The last `left` bits of a block, 0 to 7, are zero. */
-static int is_padding(plain_block block, size_t left)
-{
-    return left == 0 || (plain_block_end(block)[-1] & ((1u << left) - 1)) == 0;
-}
-
 /* The first of the last `left` bits of a block that is 1; the eighth of them if none is. */
 static size_t bad_padding(plain_block block, size_t left)
 {
@@ -114,7 +108,7 @@ static fsk_answer judge_skeleton(plain_record *record, plain_view *view)
         sheet_length += SHEET_LINE + codes;
         lines++;
     }
-    if (!is_padding(view->skeleton, bits - bit))
+    if (!plain_is_padding(view->skeleton, bits - bit))
         return refused_at(record, BAD_LINE, bytes, bad_padding(view->skeleton, bits - bit));
     record->sheet_length += sheet_length;
     view->lines = lines;
@@ -161,7 +155,7 @@ static fsk_answer judge_index(plain_record *record, const plain_view *view)
         left -= (size_t)count * w;
         entries += count;
     }
-    if (left >= 8 || !is_padding(view->index, left))
+    if (left >= 8 || !plain_is_padding(view->index, left))
         return refused_at(record, BAD_INDEX, bytes, bad_padding(view->index, left));
     record->sheet_length += SHEET_INDEX + (size_t)SHEET_LIST * view->lines + 2 * entries;
     return plain_accepted(0);

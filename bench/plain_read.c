@@ -22,16 +22,6 @@ static uint8_t *put_end(uint8_t *out, const plain_record *record, plain_reader *
     return plain_put_two_bytes(out, plain_take(reader, record->c));
 }
 
-static uint8_t *put_codes(uint8_t *out, plain_reader *reader, unsigned k, uint32_t count)
-{
-    const uint32_t sign = 1u << (k - 1);
-    plain_reader from = *reader; /* a copy that no byte written can change: it stays in registers */
-    for (uint32_t i = 0; i < count; i++)
-        *out++ = (uint8_t)((plain_take(&from, k) ^ sign) - sign);
-    *reader = from;
-    return out;
-}
-
 /* The sheet has a line's end before its codes, the record behind them. */
 static uint8_t *put_line(uint8_t *out, const plain_record *record, plain_reader *reader)
 {
@@ -40,7 +30,7 @@ static uint8_t *put_line(uint8_t *out, const plain_record *record, plain_reader 
     put_end(start, record, reader);
     count = plain_take(reader, COUNT_OF_CODES);
     put_tag(out, TAG_LINE, 12 + count);
-    out = put_codes(codes, reader, record->k, count);
+    out = plain_take_each(codes, reader, record->k, count, 1u << (record->k - 1));
     put_end(end, record, reader);
     return out;
 }

@@ -1,6 +1,5 @@
 /*
- * Looks something up in one view of a record: the trail of a line, and where a segment's payload
- * is. Both judge the whole record first, and the judge hands them the view's blocks.
+ * The trail of a line. The whole record is judged first, and the judge hands on the view's blocks.
  */
 #include "plain.h"
 
@@ -71,11 +70,9 @@ fsk_answer plain_trail(const uint8_t *record, size_t record_length, uint32_t vie
     const size_t room = trail_length / 2;
     plain_record judged;
     line_codes codes;
-    const fsk_answer refusal = plain_judge(record, record_length, view, &judged);
+    const fsk_answer refusal = plain_judge_view(record, record_length, view, &judged);
     if (refusal.number != 0)
         return refusal;
-    if (view >= judged.views)
-        return plain_refused(NO_VIEW);
     if (line >= judged.view.lines)
         return plain_refused(NO_LINE);
     codes = find_line(&judged, line);
@@ -83,24 +80,4 @@ fsk_answer plain_trail(const uint8_t *record, size_t record_length, uint32_t vie
     if (codes.count > room && drawn(codes, judged.k) > room)
         return plain_refused(NO_ROOM);
     return plain_accepted(put_trail(trail, codes, &judged));
-}
-
-fsk_answer plain_segment(const uint8_t *record, size_t record_length, uint32_t view,
-                         uint32_t segment)
-{
-    plain_record judged;
-    const uint8_t *at, *end;
-    const fsk_answer refusal = plain_judge(record, record_length, view, &judged);
-    if (refusal.number != 0)
-        return refusal;
-    if (view >= judged.views)
-        return plain_refused(NO_VIEW);
-    at = judged.view.extended.bytes;
-    end = plain_block_end(judged.view.extended);
-    for (; segment > 0 && at < end; segment--)
-        at += plain_two_bytes(at + 2);
-    if (at == end)
-        return plain_refused(NO_SEGMENT);
-    return (fsk_answer){0, (uint32_t)(8 * (at + SEGMENT_HEADER - record)),
-                        plain_two_bytes(at + 2) - SEGMENT_HEADER};
 }

@@ -118,24 +118,6 @@ static int is_end(const uint8_t *end, const judged_sheet *sheet)
         && plain_two_bytes(end + 4) >> sheet->c == 0;
 }
 
-/* Each byte is a number of k bits in two's complement: from bit k on, no bit differs from the one
- * below it. Of eight bytes at a time only bit 0 meets another byte's bit, and k is at least 2. */
-static int are_codes(const uint8_t *codes, size_t count, unsigned k)
-{
-    const uint64_t from_k = UINT64_C(0x0101010101010101) * (0xFFu << k & 0xFF);
-    uint64_t differing = 0, eight;
-    for (; count >= 8; count -= 8) {
-        memcpy(&eight, codes, 8);
-        differing |= eight ^ eight << 1;
-        codes += 8;
-    }
-    for (; count > 0; count--) {
-        differing |= *codes ^ (uint64_t)*codes << 1;
-        codes++;
-    }
-    return (differing & from_k) == 0;
-}
-
 static int judge_lines(fields *rest, judged_sheet *sheet)
 {
     size_t bits = 0;
@@ -144,7 +126,7 @@ static int judge_lines(fields *rest, judged_sheet *sheet)
         const size_t codes = line.length - LINE_ENDS;
         if (!is_end(line.bytes, sheet) || !is_end(line.bytes + LINE_ENDS / 2, sheet))
             return 0;
-        if (!are_codes(line.bytes + LINE_ENDS, codes, sheet->k))
+        if (!plain_each_fits(line.bytes + LINE_ENDS, codes, sheet->k, 1))
             return 0;
         bits += 2 * sheet->end_bits + COUNT_OF_CODES + codes * sheet->k;
     }
@@ -225,19 +207,6 @@ static inline void put_end(plain_writer *to, const uint8_t *end, const judged_sh
     plain_put(to, 2 * sheet->c, plain_two_bytes(end + 2) << sheet->c | plain_two_bytes(end + 4));
 }
 
-/* Four codes at a time: they have no more than 32 bits. */
-static inline void put_codes(plain_writer *to, const uint8_t *codes, size_t count, unsigned k)
-{
-    const uint32_t low = (1u << k) - 1;
-    for (; count >= 4; count -= 4) {
-        const uint32_t two = (codes[0] & low) << k | (codes[1] & low);
-        plain_put(to, 4 * k, (two << k | (codes[2] & low)) << k | (codes[3] & low));
-        codes += 4;
-    }
-    for (; count > 0; count--)
-        plain_put(to, k, *codes++ & low);
-}
-
 /* Every writer of a block gives the place behind it. */
 
 static uint8_t *put_lines(uint8_t *out, fields *rest, const judged_sheet *sheet)
@@ -248,7 +217,7 @@ static uint8_t *put_lines(uint8_t *out, fields *rest, const judged_sheet *sheet)
         const size_t codes = line.length - LINE_ENDS;
         put_end(&to, line.bytes, sheet);
         plain_put(&to, COUNT_OF_CODES, (uint32_t)codes);
-        put_codes(&to, line.bytes + LINE_ENDS, codes, sheet->k);
+        plain_put_each(&to, sheet->k, line.bytes + LINE_ENDS, codes);
         put_end(&to, line.bytes + LINE_ENDS / 2, sheet);
     }
     return plain_put_rest(to);
@@ -327,15 +296,15 @@ fsk_answer plain_write(const uint8_t *sheet, size_t sheet_length, uint8_t *recor
 {
     const fields all = {sheet, sheet_length};
     judged_sheet judged;
+    fsk_answer refusal;
     judged.views = count_views(all);
     if (judged.views == 0)
         return plain_refused(BAD_SHEET);
     if (!judge_values(all, &judged))
         return plain_refused(BAD_VALUE);
-    if (judged.record_length > LARGEST_RECORD)
-        return plain_refused(TOO_LONG);
-    if (judged.record_length > record_length)
-        return plain_refused(NO_ROOM);
+    refusal = plain_judge_length(judged.record_length, record_length);
+    if (refusal.number != 0)
+        return refusal;
     put_record(record, all, &judged);
     return plain_accepted(judged.record_length);
 }

@@ -8,7 +8,7 @@
 #include <stddef.h>
 #include <stdint.h>
 
-enum { SAMPLES = 3 };
+enum { SAMPLES = 4 };
 
 typedef struct {
     const char *name;
@@ -19,7 +19,9 @@ typedef struct {
     uint32_t view, lines;          /* the last view and its count of lines */
     uint32_t with_segments;        /* the last view that has segments */
     uint32_t segments;             /* how many it has; 0 where no view has any */
-    uint32_t ordered;              /* the last view without segments, which orders are for */
+    const uint8_t *values;         /* the local quality that the last of them holds */
+    size_t values_length;          /* 0 where it holds none */
+    uint32_t ordered;              /* the last view that has no segments but of local quality */
     uint32_t ordered_lines;        /* its count of lines */
     const uint8_t *removed;        /* every third of them, as a removal's list */
     size_t removed_length;         /* in bytes */
