@@ -45,13 +45,13 @@ pub record AcceptedSetting (view place : ℕ) (values bytes : List ℕ) (lent : 
 
 -- ---- refused with 24: "a segment of another type, or a payload or values to be written that break these rules"
 
--- of right values with its type its payload is none
+-- it has another type, or its payload is that of no right values
 pub record BrokenQuality (view place : ℕ) (bytes : List ℕ) : Type 0 where
   pub there : SegmentThere view place bytes
   pub wrong : segmentAt (viewAt (there .value) view) place .kind ≡ localQuality → (values : List ℕ) → T (valuesRight (imageOf (viewAt (there .value) view)) values)
       → segmentAt (viewAt (there .value) view) place .payload ≢ payloadFor (imageOf (viewAt (there .value) view)) values
 
--- with its type the values are not right
+-- it has another type, or the values are not right
 pub record BrokenSetting (view place : ℕ) (values bytes : List ℕ) : Type 0 where
   pub there : SegmentThere view place bytes
   pub wrong : segmentAt (viewAt (there .value) view) place .kind ≡ localQuality → T (not (valuesRight (imageOf (viewAt (there .value) view)) values))

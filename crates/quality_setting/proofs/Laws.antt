@@ -4,12 +4,12 @@ use mathlib.Core.Path.{_≡_, sym, ap, _∙_, subst}
 use mathlib.Core.Logic.{_≢_}
 use Prim.Native.Nat.{ℕ, _+_, _-_, _*_, _/_, _^_, _≤_, _<_}
 use native.Mathlib.Omega.{arith}
-use mathlib.Core.Bool.{Bool, true, false, not, _&&_}
+use mathlib.Core.Bool.{Bool, false, not, _&&_}
 use mathlib.Core.List.{List, [], _++_}
 use lib.ListN.{length, drop, length-append, length-replicate, length-drop}
 use lib.Seq.{take-all}
-use lib.Dec.{T}
-use mir.Facts.{yes-eqb, no-eqb, yes-and}
+use lib.Dec.{T, eqb→eq}
+use mir.Facts.{T-not, not-T, yes-eqb, and-yes, yes-and}
 use Rattle.bits.specs.ChoiceLaws.{pick-yes, pick-no, within-high}
 use Rattle.bits.specs.Lists.{All}
 use Rattle.bits.specs.Bits.{Bits, zeros, pad, filled}
@@ -47,14 +47,6 @@ use Rattle.quality_cells.proofs.Laws.Written.{payloadBits, payload-is, payload-
 use Rattle.quality_payload.specs.Payload.{RightValues, PayloadRoom, PayloadLaid}
 use Rattle.quality_setting.specs.Setting.{PutThere, RecordPut, PayloadSet}
 
-not-first : (a b : Bool) → T (not a) → T (not (a && b))
-not-first true b t = absurd t
-not-first false b t = tt
-
-not-second : (a b : Bool) → T (not b) → T (not (a && b))
-not-second true b t = t
-not-second false b t = tt
-
 -- ---- how long the payload is that right values make
 
 pub payload-size : {image : Image} {vs : List ℕ} {g : Grid} → RightValues image vs g → length (payloadFor image vs) ≡ 3 + (g .cells * g .bits + 7) / 8
@@ -86,24 +78,26 @@ image-small t = let (w, h) = small-image (t .stands) in record { width = w; heig
 
 module _ {s : List ℕ} {x : Spot} (vs before : List ℕ) where
   -- refused, by the type or by the values
-  wrong : ((view place : ℕ) (h : SegmentStands s view place x)
-      → T (not (isQuality (segmentAt (viewAt (h .value) view) place) && valuesRight (imageOf (viewAt (h .value) view)) vs)))
+  wrong : ((view place : ℕ) (h : SegmentStands s view place x) → T (isQuality (segmentAt (viewAt (h .value) view) place))
+      → T (valuesRight (imageOf (viewAt (h .value) view)) vs) → ⊥)
       → PayloadSet s x vs before before (record { number = badQuality; place = 0; length = 0 })
   unfolding setQuality
   wrong n =
       record {
         is = λ view place h.
             let a = h .at in
+            let kind : Bool = isQuality (segmentAt (viewAt (h .value) view) place) in
+            let right : Bool = valuesRight (imageOf (viewAt (h .value) view)) vs in
             answer-refused (λ xs. xs) (length before) before
             (on-segment view place (setQualityIn place vs) s (h .reads) (a .there) (a .below)
-            ∙ pick-no (isQuality (segmentAt (viewAt (h .value) view) place) && valuesRight (imageOf (viewAt (h .value) view)) vs) _ _ (n view place h));
+            ∙ pick-no (kind && right) _ _ (not-T (kind && right) λ t. let (p, q) = and-yes kind right t in n view place h p q));
       }
 
   pub other-type : x .kind ≢ localQuality → PayloadSet s x vs before before (record { number = badQuality; place = 0; length = 0 })
-  other-type n = wrong λ view place h. not-first (isQuality (segmentAt (viewAt (h .value) view) place)) (valuesRight (imageOf (viewAt (h .value) view)) vs) (no-eqb (λ e. n (h .at .kind ∙ e)))
+  other-type n = wrong λ view place h p q. n (h .at .kind ∙ eqb→eq (segmentAt (viewAt (h .value) view) place .kind) localQuality p)
 
   pub broken : T (not (valuesRight (x .image) vs)) → PayloadSet s x vs before before (record { number = badQuality; place = 0; length = 0 })
-  broken t = wrong λ view place h. not-second (isQuality (segmentAt (viewAt (h .value) view) place)) (valuesRight (imageOf (viewAt (h .value) view)) vs) (subst (λ (i : Image). T (not (valuesRight i vs))) (h .at .image) t)
+  broken t = wrong λ view place h p q. T-not (valuesRight (x .image) vs) (subst (λ (i : Image). T (valuesRight i vs)) (sym (h .at .image)) q) t
 
   -- ---- accepted so far: the type is right, and the values are
 

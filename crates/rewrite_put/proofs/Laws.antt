@@ -1,7 +1,7 @@
 -- From where a segment stands to the rewritten record: how long it is, and that its bytes are those up to the payload, the payload,
 -- and what followed the old one.
 use mathlib.Core.Path.{_≡_, sym, ap, ap₂, _∙_}
-use Prim.Native.Nat.{ℕ, _+_, _-_, _*_, _≤_, _<_}
+use Prim.Native.Nat.{ℕ, _+_, _-_, _*_, _≤_}
 use native.Mathlib.Omega.{arith}
 use mathlib.Core.List.{List, [], _++_}
 use lib.ListN.{length, drop, set, length-append, length-take, length-drop}
@@ -102,9 +102,6 @@ module _ {s : List ℕ} {x : Spot} {k : ℕ} {out : List ℕ} (t : FrontRoom s x
 
   pub between-end : {o o1 : List ℕ} {a : ℕ} → Laid (part s (x .extended .from) (x .payload .from - 2 - x .extended .from)) o o1 a → a + 2 + x .extended .from ≡ x .payload .from
   between-end h = omega (arith, h .count, between-long)
-
-  pub extended-small : newExtended x k < 65536
-  extended-small = omega (arith, bounds, t .small)
 
   pub front-end : {o o1 : List ℕ} {a : ℕ} → Laid (frontOf s x k) o o1 a → a ≡ x .payload .from
   front-end h =

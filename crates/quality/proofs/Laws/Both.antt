@@ -64,7 +64,7 @@ quality-given image g vs h =
     (λ t e. let z : _≡_ {A = ℕ} 0 1 = cc in absurd (omega arith))
 
 module _ (view place : ℕ) (vs bytes : List ℕ) (b : All Byte bytes) where
-  -- what a record that was read brings with it
+  -- rewriting what was read
   pub set-after-read : quality view place bytes ≡ given vs → setQuality view place vs bytes ≡ given bytes
   unfolding quality setQuality
   set-after-read h =
@@ -99,6 +99,7 @@ module _ (view place : ℕ) (vs bytes : List ℕ) (b : All Byte bytes) where
       f r rest e a l k ty right (rewritten-allowed view place (payloadFor image vs) r l k (payload-bytes image vs) small a) n)
       (λ t q. let z : _≡_ {A = ℕ} 0 1 = cc in absurd (omega arith))
 
+  -- reading what was rewritten
   pub read-after-set : (new : List ℕ) → setQuality view place vs bytes ≡ given new → quality view place new ≡ given vs
   unfolding quality
   read-after-set new h =

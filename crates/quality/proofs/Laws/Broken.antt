@@ -45,7 +45,8 @@ is-24 n e = ap (λ (o : Outcome ℕ). numberOf (room n o)) e
 never : {X : Type 0} {e p : ℕ} {xs : List ℕ} → refused e p ≡ given xs → X
 never h = let z : _≡_ {A = ℕ} 0 1 = cc in absurd (omega arith)
 
-no-values : (o : Read Bool (List ℕ)) → ((vs : List ℕ) (rest : Bits) → o ≡ C.got vs rest → ⊥) → valuesRead o ≡ refused badQuality 0
+-- a payload that is read as no values is refused
+pub no-values : (o : Read Bool (List ℕ)) → ((vs : List ℕ) (rest : Bits) → o ≡ C.got vs rest → ⊥) → valuesRead o ≡ refused badQuality 0
 no-values (C.got vs rest) f = absurd (f vs rest refl)
 no-values (C.refused e left) f = refl
 

@@ -64,11 +64,11 @@ refuse-requires-3 c κs = search needs
 
 returns-3 : tie.Need-returns-3
 returns-3 c =
-    rw (c .refuse3 .ensures) (no-room (c .before .before .before .before .before .before .before .before .before .before .before .before .args .out .now) (c .before .before .before .before .before .before .before .before .if1 .left) (right (c .before .before .before .before)) (bytes (c .before .before .before .before .before .before .before .before .before .before .before)) (c .before .if2 .taken))
+    rw (c .refuse3 .ensures) (no-room (c .before .before .before .before .before .before .before .before .before .before .before .before .args .out .now) (c .before .before .before .before .before .before .before .before .if1 .left) (right (c .before .before .before .before)) (bytes (c .before .before .before .before .before .before .before .before .before .before .before)) (omega (arith, c .before .if2 .taken)))
 
 put-values-requires : tie.Need-put-values-requires
 put-values-requires c κs =
-    record { image = c .before .before .before .before .before .before .before .before .before .before .before .before .args .spot .image; right = right (c .before .before .before .before); short = payload-there (c .before .before .before .before .before .before .before .before .before .before .before .before .pre) .short; room = c .before .if2 .left }
+    record { image = c .before .before .before .before .before .before .before .before .before .before .before .before .args .spot .image; right = right (c .before .before .before .before); short = payload-there (c .before .before .before .before .before .before .before .before .before .before .before .before .pre) .short; room = omega (arith, c .before .if2 .left) }
 
 accept-requires : tie.Need-accept-requires
 accept-requires c κs = search needs
@@ -78,7 +78,7 @@ same-length c = search needs
 
 returns-4 : tie.Need-returns-4
 returns-4 c =
-    rw (c .accept .ensures) (values-given (c .before .before .before .before .before .before .before .before .before .before .before .before .before .before .before .before .args .out .now) (c .before .before .before .before .before .before .before .before .before .before .before .before .if1 .left) (right (c .before .before .before .before .before .before .before .before)) (bytes (c .before .before .before .before .before .before .before .before .before .before .before .before .before .before .before)) (c .before .before .before .before .before .if2 .left) (c .before .before .before .put-values .ensures))
+    rw (c .accept .ensures) (values-given (c .before .before .before .before .before .before .before .before .before .before .before .before .before .before .before .before .args .out .now) (c .before .before .before .before .before .before .before .before .before .before .before .before .if1 .left) (right (c .before .before .before .before .before .before .before .before)) (bytes (c .before .before .before .before .before .before .before .before .before .before .before .before .before .before .before)) (omega (arith, c .before .before .before .before .before .if2 .left)) (c .before .before .before .put-values .ensures))
 
 pub values-at-spec : {M : Type 1} → statement M
 values-at-spec =

@@ -1,9 +1,8 @@
 -- The judge's ways out: bytes with a broken start, of another length, or with a filling that is not zero were written from no values;
 -- all others were, and their values are read.
-use mathlib.Core.Path.{_≡_, refl, sym, ap, ap₂, _∙_}
+use mathlib.Core.Path.{_≡_, sym, ap, ap₂, _∙_}
 use Prim.Native.Nat.{ℕ, _+_, _*_, _/_}
 use native.Mathlib.Omega.{arith}
-use mathlib.Core.Bool.{Bool}
 use mathlib.Core.List.{List, _∷_, _++_}
 use lib.ListN.{length, take, drop, length-drop, take-append-drop}
 use lib.Seq.{length-take-le, take-all, drop-at, drop-drop}
@@ -11,8 +10,7 @@ use lib.Dec.{T, leb}
 use Rattle.bits.specs.Lists.{All}
 use Rattle.bits.specs.Bits.{Bits, numberOfBits, bitsOfNumber, zeros, pad}
 use Rattle.bits.specs.Bytes.{Byte, bitsOf}
-use Rattle.bits.specs.Codec.{Read, got, fieldDec}
-use Rattle.bits.specs.Codec as C
+use Rattle.bits.specs.Codec.{fieldDec}
 use Rattle.bits.specs.CodecLaws.{pick-got}
 use Rattle.bits.specs.Reads.{found, Reads}
 use Rattle.bits.proofs.Laws.Reads.{length-rest}
@@ -24,6 +22,7 @@ use Rattle.quality.specs.Parts.{valuesRight}
 use Rattle.quality.specs.PartsLaws.{values-small}
 use Rattle.quality.specs.Payload.{values, qualityBlock}
 use Rattle.quality.specs.Quality.{valuesRead}
+use Rattle.quality.proofs.Laws.Broken.{no-values}
 use Rattle.quality_cells.specs.declared.Grid.{Grid}
 use Rattle.quality_cells.specs.Grid.{Started, NoStart}
 use Rattle.quality_cells.proofs.Laws.Written.{cellBits, cells-long, payload-is, cells-right}
@@ -33,13 +32,9 @@ use Rattle.quality_values.proofs.Laws.Valued.{whole, behind-three, same
 
 -- ---- no values
 
-no-value : (o : Read Bool (List ℕ)) → ((vs : List ℕ) (r : Bits) → o ≡ got vs r → ⊥) → valuesRead o ≡ refused badQuality 0
-no-value (C.got vs r) f = absurd (f vs r refl)
-no-value (C.refused e l) f = refl
-
 none-written : (image : Image) (s : List ℕ) → ((vs : List ℕ) → T (valuesRight image vs) → bitsOf s ≡ qualityBlock image .enc vs → ⊥)
     → valuesRead (qualityBlock image .dec (bitsOf s)) ≡ refused badQuality 0
-none-written image s f = no-value (qualityBlock image .dec (bitsOf s)) λ vs r p. let (t, e) = decoded image s vs r p in f vs t e
+none-written image s f = no-values (qualityBlock image .dec (bitsOf s)) λ vs r p. let (t, e) = decoded image s vs r p in f vs t e
 
 pub broken-start : (image : Image) {s : List ℕ} → NoStart s → All Byte s → valuesRead (qualityBlock image .dec (bitsOf s)) ≡ refused badQuality 0
 broken-start image {s} h a = none-written image s λ vs t e. h .is image vs t (same-start image vs s a t e)

@@ -22,6 +22,7 @@ use Rattle.format.specs.Places.{noViewThere, noSegmentThere, viewAt, withView, 
 use Rattle.format.specs.declared.Widths.{Widths}
 use Rattle.format.proofs.Laws.Size.{view-length}
 use Rattle.format.proofs.Laws.Changed.{FitsAs, changed-count, changed-here, changed-allowed}
+use Rattle.find_parts.proofs.Laws.Apart.{same-record}
 use Rattle.rewrite.specs.Rewrite.{withPayload, rewritten, rewriting}
 
 -- ---- the view
@@ -103,4 +104,4 @@ rewritten-same view place r =
     let v : View = viewAt r view in
     let e : withPayload place (segmentAt v place .payload) v ≡ v =
     ap (λ (gs : List Segment). record { head = v .head; lines = v .lines; index = v .index; segments = gs }) (set-getD (v .segments) place noSegmentThere) in
-    ap (withView r view) e ∙ ap (λ (vs : List View). record { head = r .head; views = vs }) (set-getD (r .views) view noViewThere)
+    ap (withView r view) e ∙ same-record r view

@@ -5,7 +5,7 @@ use Prim.Native.Nat.{_-_}
 use lib.ListN.{length}
 use Rattle.bits.proofs.Laws.Parts.{part}
 use Rattle.put_bytes.proofs.Laws.{laid-next}
-use Rattle.rewrite_put.proofs.Laws.{room-behind, bounds, room-is, head-end, between-long, between-end, extended-small}
+use Rattle.rewrite_put.proofs.Laws.{room-behind, bounds, room-is, head-end, between-long, between-end}
 use borrow.Author.Needs.{needs}
 use Rattle.rewrite_put.proofs.front_put.Statement.{statement}
 use Rattle.rewrite_put.proofs.front_put.Tie as tie
@@ -59,7 +59,7 @@ put-two-requires : tie.Need-put-two-requires
 put-two-requires c κs =
     let t = c .before .before .before .before .before .before .before .before .before .pre in
     let h = c .before .before .before .before .head-put .ensures in
-    (room-behind 2 h (omega (arith, bounds t, room-is t, head-end t h)), extended-small t)
+    (room-behind 2 h (omega (arith, bounds t, room-is t, head-end t h)), omega (arith, bounds t, t .small))
 
 add-at : tie.Need-add-at
 add-at c =
