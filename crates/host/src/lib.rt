@@ -9,9 +9,11 @@ ghost use Rattle.quality.specs.Quality.{quality, setQuality};
 ghost use Rattle.orders.specs.Order.{order};
 ghost use Rattle.order_holds.specs.Held.{held};
 ghost use Rattle.orders.specs.Called.{removalOrder, pairOrder};
+ghost use Rattle.orders.specs.Pairs.{pairsCall, pairs};
 use order_holds::Held;
 use order_holds::which_holds;
 use ordering::join;
+use ordering::pairs;
 use ordering::part;
 use ordering::remove;
 use outcome::Answer;
@@ -123,6 +125,19 @@ pub extern "C" fn fsk_part(
         b as usize,
         out,
     )
+}
+
+#[no_mangle]
+pub extern "C" fn fsk_pairs(
+    bytes: &[u8],
+    view: u32,
+    count: u32,
+    list: &[u8],
+    out: &mut [u8],
+) -> Answer
+    ensures { λ r. ⌜ Answers (pairs (pairsCall view count (now (list .entry)) (now (out .entry))) (now (bytes .entry))) (now (out .entry)) (now (out .exit)) r ⌝ }
+{
+    pairs(bytes, view as usize, count as usize, list, out)
 }
 
 #[no_mangle]

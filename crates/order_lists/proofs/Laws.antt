@@ -1,5 +1,5 @@
 -- The laws of lists under an order, by topic.
-pub mod Walk
+pub mod Fate
 pub mod List
 pub mod Lists
 pub mod ListsPut

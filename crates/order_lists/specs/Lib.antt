@@ -1,4 +1,3 @@
-pub mod Walk
 pub mod List
 pub mod Lists
 pub mod Index

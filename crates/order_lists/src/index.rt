@@ -1,6 +1,5 @@
 // The index block after an order: its width and size first, and then the block, put at that width.
 ghost use Rattle.order_lists.specs.Index.{IndexThere, IndexSized, IndexPutThere, IndexPut};
-use crate::lists::Change;
 use crate::lists::lists_numbers;
 use crate::lists::lists_put;
 use crate::width::least_width;
@@ -14,12 +13,12 @@ pub struct Size {
 }
 
 // The size of the new index block. The old one is `block`, of a view with `lines` lines.
-pub fn index_size(block: &[u8], lines: usize, change: Change, removal: &[u8]) -> Size
-    requires { ⌜ IndexThere (now block) lines change (now removal) ⌝ }
-    ensures { λ r. ⌜ IndexSized (now (block .entry)) lines change (now (removal .entry)) r ⌝ }
+pub fn index_size(block: &[u8], lines: usize, words: &[u8], removal: &[u8]) -> Size
+    requires { ⌜ IndexThere (now block) lines (now words) (now removal) ⌝ }
+    ensures { λ r. ⌜ IndexSized (now (block .entry)) lines (now (words .entry)) (now (removal .entry)) r ⌝ }
 {
     let w = Cursor::start().sure(block, 8);
-    let totals = lists_numbers(block, w.value, lines, change, removal);
+    let totals = lists_numbers(block, w.value, lines, words, removal);
     let width = least_width(totals.most);
     Size {
         width,
@@ -32,15 +31,15 @@ pub fn index_put(
     out: &mut [u8],
     block: &[u8],
     lines: usize,
-    change: Change,
+    words: &[u8],
     removal: &[u8],
     width: usize,
 ) -> usize
-    requires { ⌜ IndexPutThere (now block) lines change (now removal) width (now out) ⌝ }
-    ensures { λ r. ⌜ IndexPut (now (block .entry)) lines change (now (removal .entry)) (now (out .entry)) (now (out .exit)) r ⌝ }
+    requires { ⌜ IndexPutThere (now block) lines (now words) (now removal) width (now out) ⌝ }
+    ensures { λ r. ⌜ IndexPut (now (block .entry)) lines (now (words .entry)) (now (removal .entry)) (now (out .entry)) (now (out .exit)) r ⌝ }
 {
     let w = Cursor::start().sure(block, 8);
     put_bits(out, 0, width, 8);
-    let end = lists_put(out, block, w.value, lines, change, removal, width);
+    let end = lists_put(out, block, w.value, lines, words, removal, width);
     (end + 7) / 8
 }

@@ -1,21 +1,27 @@
 // One list after an order: measured, for the index's width and size, or put at a width.
 ghost use mathlib.Core.Path.{_≡_};
 ghost use Prim.Native.Nat.{max};
-ghost use Rattle.order_lists.specs.List.{ListThere, Numbered, PutThere, ListPut};
-use crate::walk::Fate;
-use crate::walk::ListWalk;
-use crate::walk::fate_of;
-use crate::walk::step_on;
+ghost use Rattle.orders.specs.Listed.{removalLines};
+ghost use Rattle.order_removal.specs.Rank.{Rising};
+ghost use Rattle.order_lists.specs.List.{Fares, ListThere, Numbered, PutThere, ListPut};
+use order_removal::rank_of;
+use order_walk::merge::Merge;
+use order_walk::merge::step_on;
 use put_bits::put_bits;
 use put_bits::put_into;
 
-// A list of the old index under the order: the walk along it in the block, the line that is put in where one waits (`low`), the line
-// that is left out, or NO_LINE (`drop`), and the new number of the line whose list it is (`own`).
+// A list of the old index under the order: all of it, merged with the words about its line (`from`), and the line whose list it is, by
+// its old number (`line`) and by its new one (`own`).
 pub struct OldList {
-    pub walk: ListWalk,
-    pub low: usize,
-    pub drop: usize,
+    pub from: Merge,
+    pub line: usize,
     pub own: usize,
+}
+
+// What becomes of a line: it stays with its new number, or it is gone.
+pub enum Fate {
+    Stays(usize),
+    Gone,
 }
 
 // How many neighbours the new list has, and its largest difference.
@@ -30,19 +36,35 @@ pub fn larger(a: usize, b: usize) -> usize
     if a < b { b } else { a }
 }
 
-// What the list `list` becomes, measured. It stands in the index block `block`, whose numbers have w bits.
-pub fn list_numbers(block: &[u8], w: usize, list: OldList, removal: &[u8]) -> Numbers
-    requires { ⌜ ListThere w (now block) list (now removal) ⌝ }
-    ensures { λ r. ⌜ Numbered w (now (block .entry)) list (now (removal .entry)) r ⌝ }
+// What becomes of line `line` under the removal; `stays` says whether the words let it stay.
+fn fate_of(removal: &[u8], stays: bool, line: usize) -> Fate
+    requires { ⌜ Rising (now removal) ⌝ }
+    ensures { λ r. ⌜ Fares (removalLines (now (removal .entry))) stays line r ⌝ }
 {
-    let mut k = list.walk;
+    if !stays {
+        return Fate::Gone;
+    }
+    let rank = rank_of(removal, line);
+    if rank.gone {
+        Fate::Gone
+    } else {
+        Fate::Stays(line - rank.below)
+    }
+}
+
+// What the list `list` of the index block `block` becomes, measured.
+pub fn list_numbers(block: &[u8], list: OldList, words: &[u8], removal: &[u8]) -> Numbers
+    requires { ⌜ ListThere (now block) list (now words) (now removal) ⌝ }
+    ensures { λ r. ⌜ Numbered (now (block .entry)) list (now (words .entry)) (now (removal .entry)) r ⌝ }
+{
+    let mut k = list.from;
     let mut before = list.own;
     let mut count: usize = 0;
     let mut most: usize = 0;
-    while 0 < k.left + k.waiting {
-        let step = step_on(block, w, k, list.low);
+    while 0 < k.walk.left + k.bound {
+        let step = step_on(block, words, list.line, k);
         k = step.next;
-        let Fate::Stays(line) = fate_of(removal, list.drop, step.line) else {
+        let Fate::Stays(line) = fate_of(removal, step.stays, step.line) else {
             continue;
         };
         most = larger(most, before - line);
@@ -58,22 +80,22 @@ pub fn list_put(
     out: &mut [u8],
     at: usize,
     block: &[u8],
-    w: usize,
     list: OldList,
+    words: &[u8],
     removal: &[u8],
     width: usize,
 ) -> usize
-    requires { ⌜ PutThere w (now block) list (now removal) width (now out) at ⌝ }
-    ensures { λ r. ⌜ ListPut w (now (block .entry)) list (now (removal .entry)) width (now (out .entry)) at (now (out .exit)) r ⌝ }
+    requires { ⌜ PutThere (now block) list (now words) (now removal) width (now out) at ⌝ }
+    ensures { λ r. ⌜ ListPut (now (block .entry)) list (now (words .entry)) (now (removal .entry)) width (now (out .entry)) at (now (out .exit)) r ⌝ }
 {
     let mut p = put_bits(out, at, 0, width);
-    let mut k = list.walk;
+    let mut k = list.from;
     let mut before = list.own;
     let mut count: usize = 0;
-    while 0 < k.left + k.waiting {
-        let step = step_on(block, w, k, list.low);
+    while 0 < k.walk.left + k.bound {
+        let step = step_on(block, words, list.line, k);
         k = step.next;
-        let Fate::Stays(line) = fate_of(removal, list.drop, step.line) else {
+        let Fate::Stays(line) = fate_of(removal, step.stays, step.line) else {
             continue;
         };
         p = put_bits(out, p, before - line, width);

@@ -1,5 +1,5 @@
 -- The blocks that an order leaves, and what the code that measures and puts them asks and answers. The order is known by a removal's
--- bytes and a change of one list.
+-- bytes and the bytes of words about pairs.
 use mathlib.Core.Path.{_≡_}
 use Prim.Native.Nat.{ℕ, _+_, _≤_, _<_}
 use mathlib.Core.Option.{Option, some, Option·map}
@@ -18,7 +18,6 @@ use Rattle.orders.specs.Least.{leastWidth, indexOf}
 use Rattle.order_removal.specs.Rank.{Rising}
 use Rattle.find_parts.specs.Stored.{sized}
 use Rattle.order_lists.specs.Index.{left}
-use Rattle.order_lists.specs.declared.lists.Change.{Change}
 use Rattle.order_lists.specs.declared.index.Size.{Size}
 use Rattle.order_lines.specs.Lines.{keptBlock}
 
@@ -47,38 +46,38 @@ pub record SkeletonLaid (w : Widths) (s removal before after : List ℕ) (r : �
 
 -- ---- the index block of a view with `lines` lines, whose old bytes are s
 
-abbrev pub newIndex : List ℕ → Change → Option Index → Option Index
-newIndex removal ch o = Option·map (λ i. indexOf (left removal ch i)) o
+abbrev pub newIndex : (removal words : List ℕ) → Option Index → Option Index
+newIndex removal words o = Option·map (λ i. indexOf (left removal words i)) o
 
 -- its bytes; where there is one, those of newBlock (order_lists/specs/Index)
-abbrev pub newIndexBlock : List ℕ → Change → Option Index → List ℕ
-newIndexBlock removal ch o = inBytes (indexBlock 0 .enc (newIndex removal ch o))
+abbrev pub newIndexBlock : (removal words : List ℕ) → Option Index → List ℕ
+newIndexBlock removal words o = inBytes (indexBlock 0 .enc (newIndex removal words o))
 
 -- the new lists are right
-abbrev pub Keeps : List ℕ → Change → Option Index → Type 0
-Keeps removal ch o = (i : Index) → o ≡ some i → Along up (Falls 0) 0 (left removal ch i) × (length (left removal ch i) ≤ 1024)
+abbrev pub Keeps : (removal words : List ℕ) → Option Index → Type 0
+Keeps removal words o = (i : Index) → o ≡ some i → Along up (Falls 0) 0 (left removal words i) × (length (left removal words i) ≤ 1024)
 
-pub record OldIndex (s : List ℕ) (lines : ℕ) (ch : Change) (removal : List ℕ) : Type 0 where
+pub record OldIndex (s : List ℕ) (lines : ℕ) (words removal : List ℕ) : Type 0 where
   pub short : length s ≤ 65535
   pub rising : Rising removal
   pub few : lines ≤ 1024
   pub value : Option Index
   pub reads : indexBlock lines .dec (bitsOf s) ≡ got value []
-  pub keeps : Keeps removal ch value
+  pub keeps : Keeps removal words value
 
 -- r says how wide and how long the new index is
-pub record SizeOf (removal : List ℕ) (ch : Change) (o : Option Index) (r : Size) : Type 0 where
-  pub width : (i : Index) → o ≡ some i → r .width ≡ leastWidth (left removal ch i)
-  pub bytes : r .bytes ≡ length (newIndexBlock removal ch o)
+pub record SizeOf (removal words : List ℕ) (o : Option Index) (r : Size) : Type 0 where
+  pub width : (i : Index) → o ≡ some i → r .width ≡ leastWidth (left removal words i)
+  pub bytes : r .bytes ≡ length (newIndexBlock removal words o)
 
-pub record IndexMeasured (s : List ℕ) (lines : ℕ) (ch : Change) (removal : List ℕ) (r : Size) : Type 0 where
-  pub is : (o : Option Index) → indexBlock lines .dec (bitsOf s) ≡ got o [] → SizeOf removal ch o r
+pub record IndexMeasured (s : List ℕ) (lines : ℕ) (words removal : List ℕ) (r : Size) : Type 0 where
+  pub is : (o : Option Index) → indexBlock lines .dec (bitsOf s) ≡ got o [] → SizeOf removal words o r
 
-pub record IndexRoom (s : List ℕ) (lines : ℕ) (ch : Change) (removal : List ℕ) (width n : ℕ) (out : List ℕ) : Type 0 where
-  pub there : OldIndex s lines ch removal
-  pub size : SizeOf removal ch (there .value) (record { width = width; bytes = n })
+pub record IndexRoom (s : List ℕ) (lines : ℕ) (words removal : List ℕ) (width n : ℕ) (out : List ℕ) : Type 0 where
+  pub there : OldIndex s lines words removal
+  pub size : SizeOf removal words (there .value) (record { width = width; bytes = n })
   pub small : n < 65536
   pub room : 2 + n ≤ length out
 
-pub record IndexLaid (s : List ℕ) (lines : ℕ) (ch : Change) (removal before after : List ℕ) (r : ℕ) : Type 0 where
-  pub is : (o : Option Index) → indexBlock lines .dec (bitsOf s) ≡ got o [] → Laid (sized (newIndexBlock removal ch o)) before after r
+pub record IndexLaid (s : List ℕ) (lines : ℕ) (words removal before after : List ℕ) (r : ℕ) : Type 0 where
+  pub is : (o : Option Index) → indexBlock lines .dec (bitsOf s) ≡ got o [] → Laid (sized (newIndexBlock removal words o)) before after r

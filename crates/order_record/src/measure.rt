@@ -6,7 +6,6 @@ use format::Widths;
 use order_lines::lines_size;
 use order_lists::index::Size;
 use order_lists::index::index_size;
-use order_lists::lists::Change;
 
 // How many bytes the new skeleton block has, how many bits the numbers of the new index have and how many bytes its block, and how
 // many bytes the new record has.
@@ -29,27 +28,27 @@ fn skeleton_size(block: &[u8], w: Widths, lines: usize, removal: &[u8]) -> usize
 }
 
 // The size of the new index block. The old one is `block`, of a view with `lines` lines; an empty one is no index, and stays empty.
-fn lists_size(block: &[u8], lines: usize, change: Change, removal: &[u8]) -> Size
-    requires { ⌜ OldIndex (now block) lines change (now removal) ⌝ }
-    ensures { λ r. ⌜ IndexMeasured (now (block .entry)) lines change (now (removal .entry)) r ⌝ }
+fn lists_size(block: &[u8], lines: usize, words: &[u8], removal: &[u8]) -> Size
+    requires { ⌜ OldIndex (now block) lines (now words) (now removal) ⌝ }
+    ensures { λ r. ⌜ IndexMeasured (now (block .entry)) lines (now (words .entry)) (now (removal .entry)) r ⌝ }
 {
     if block.len() == 0 {
         return Size { width: 1, bytes: 0 };
     }
-    index_size(block, lines, change, removal)
+    index_size(block, lines, words, removal)
 }
 
 // The sizes of the new record. The old one is `old`, and `site` says where the view stands that the order names.
-pub fn measure(old: &[u8], site: Site, change: Change, removal: &[u8]) -> Sizes
-    requires { ⌜ Placed (now old) site change (now removal) ⌝ }
-    ensures { λ r. ⌜ Measured (now (old .entry)) site change (now (removal .entry)) r ⌝ }
+pub fn measure(old: &[u8], site: Site, words: &[u8], removal: &[u8]) -> Sizes
+    requires { ⌜ Placed (now old) site (now words) (now removal) ⌝ }
+    ensures { λ r. ⌜ Measured (now (old .entry)) site (now (words .entry)) (now (removal .entry)) r ⌝ }
 {
     let from = site.skeleton.from;
     let to = site.skeleton.to;
     let skeleton = skeleton_size(&old[from..to], site.widths, site.lines, removal);
     let index = site.index.from;
     let end = site.index.to;
-    let lists = lists_size(&old[index..end], site.lines, change, removal);
+    let lists = lists_size(&old[index..end], site.lines, words, removal);
     Sizes {
         skeleton,
         width: lists.width,

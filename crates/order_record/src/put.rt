@@ -6,7 +6,6 @@ use find_parts::site::Site;
 use format::Widths;
 use order_lines::lines_put;
 use order_lists::index::index_put;
-use order_lists::lists::Change;
 use put_bytes::copy;
 use put_bytes::put_two;
 use put_record::head_put;
@@ -37,19 +36,19 @@ fn lists_put(
     out: &mut [u8],
     block: &[u8],
     lines: usize,
-    change: Change,
+    words: &[u8],
     removal: &[u8],
     width: usize,
     bytes: usize,
 ) -> usize
-    requires { ⌜ IndexRoom (now block) lines change (now removal) width bytes (now out) ⌝ }
-    ensures { λ r. ⌜ IndexLaid (now (block .entry)) lines change (now (removal .entry)) (now (out .entry)) (now (out .exit)) r ⌝ }
+    requires { ⌜ IndexRoom (now block) lines (now words) (now removal) width bytes (now out) ⌝ }
+    ensures { λ r. ⌜ IndexLaid (now (block .entry)) lines (now (words .entry)) (now (removal .entry)) (now (out .entry)) (now (out .exit)) r ⌝ }
 {
     let at = put_two(out, bytes);
     if block.len() == 0 {
         return at;
     }
-    at + index_put(&mut out[at..], block, lines, change, removal, width)
+    at + index_put(&mut out[at..], block, lines, words, removal, width)
 }
 
 // The new record, whose sizes are `sizes`; the answer is how many bytes it has. The old one is `old`, and `site` says where the view
@@ -58,12 +57,12 @@ pub fn put(
     out: &mut [u8],
     old: &[u8],
     site: Site,
-    change: Change,
+    words: &[u8],
     removal: &[u8],
     sizes: Sizes,
 ) -> usize
-    requires { ⌜ RebuildRoom (now old) site change (now removal) sizes (now out) ⌝ }
-    ensures { λ r. ⌜ Rebuilt (now (old .entry)) site change (now (removal .entry)) sizes (now (out .entry)) (now (out .exit)) r ⌝ }
+    requires { ⌜ RebuildRoom (now old) site (now words) (now removal) sizes (now out) ⌝ }
+    ensures { λ r. ⌜ Rebuilt (now (old .entry)) site (now (words .entry)) (now (removal .entry)) sizes (now (out .entry)) (now (out .exit)) r ⌝ }
 {
     let lines = site.lines;
     let from = site.skeleton.from;
@@ -83,7 +82,7 @@ pub fn put(
         &mut out[at..],
         &old[index..end],
         lines,
-        change,
+        words,
         removal,
         sizes.width,
         sizes.index,

@@ -1,3 +1,3 @@
--- The laws of the three calls, by topic.
 pub mod View
-pub mod Pair
+pub mod Removal
+pub mod Pairs

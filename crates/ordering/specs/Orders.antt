@@ -1,17 +1,21 @@
--- What a pair order on the view that stands at x asks and answers.
-use Prim.Native.Nat.{ℕ}
-use mathlib.Core.Bool.{Bool}
+-- What orders about pairs on the view that stands at x ask and answer.
+use Prim.Native.Nat.{ℕ, _<_}
 use mathlib.Core.List.{List}
+use lib.Dec.{T}
 use Rattle.outcome.specs.Outcome.{Answers}
 use Rattle.outcome.specs.declared.Answer.{Answer}
-use Rattle.orders.specs.Order.{order}
-use Rattle.orders.specs.Called.{pairOrder}
+use Rattle.orders.specs.Listed.{shapeOk}
+use Rattle.orders.specs.Pairs.{pairsCall, singly, inTurn}
 use Rattle.find_parts.specs.declared.site.Site.{Site}
 use Rattle.order_view.specs.Named.{Named}
 
--- some view stands there, with as many lines as code has counted
-abbrev pub PairThere : List ℕ → Site → Type 0
-PairThere s x = (view : ℕ) × Named s view (x .lines) x
+-- some view stands there and has an index, and the list has its shape
+pub record PairsThere (s : List ℕ) (x : Site) (list : List ℕ) : Type 0 where
+  pub view : ℕ
+  pub count : ℕ
+  pub named : Named s view count x
+  pub index : x .index .from < x .index .to
+  pub shape : T (shapeOk list)
 
-pub record PairDone (s : List ℕ) (x : Site) (p q : ℕ) (joins : Bool) (before after : List ℕ) (a : Answer) : Type 0 where
-  pub is : (view n : ℕ) → Named s view n x → Answers (order (pairOrder view n p q joins) s) before after a
+pub record PairsDone (s : List ℕ) (x : Site) (list before after : List ℕ) (a : Answer) : Type 0 where
+  pub is : (view n : ℕ) → Named s view n x → Answers (inTurn 0 (singly (pairsCall view n list before)) s) before after a

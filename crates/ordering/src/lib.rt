@@ -1,21 +1,22 @@
-// Orders on a record: remove lines, join a pair, part a pair. The record is judged, the view is found and its line count compared;
-// then come the order's own tests, the size of the new record, and the room that is lent. Only then is anything written.
-ghost use mathlib.Core.Path.{_≡_};
-ghost use Prim.Native.Nat.{min, max};
-ghost use mathlib.Core.Bool.{true, false, not};
-ghost use Rattle.bits.specs.Choice.{pick};
+// Orders on a record: remove lines, join a pair, part a pair, and a list of pairs. The record is judged, the view is found and its line
+// count compared; then come the order's own tests, the size of the new record, and the room that is lent. Only then is anything
+// written. One order about a pair is a list of one.
+ghost use mathlib.Core.Bool.{true, false};
 ghost use Rattle.outcome.specs.Outcome.{Answers};
 ghost use Rattle.orders.specs.Order.{order};
 ghost use Rattle.orders.specs.Called.{removalOrder, pairOrder};
-ghost use Rattle.ordering.specs.Orders.{PairThere, PairDone};
+ghost use Rattle.orders.specs.Pairs.{pairsCall, pairs};
+ghost use Rattle.ordering.specs.Orders.{PairsThere, PairsDone};
 use find_parts::site::Site;
 use order_carry::carry_out;
-use order_lists::lists::Change;
-use order_near::are_near;
+use order_pairs::judge::Judged;
+use order_pairs::judge::judge_list;
 use order_removal::lines_right;
 use order_segments::only_quality;
 use order_view::NamedView;
 use order_view::named_view;
+use order_words::one_word;
+use order_words::shape_right;
 use outcome::Answer;
 use outcome::Refusal;
 use outcome::refuse;
@@ -32,12 +33,7 @@ pub fn remove(bytes: &[u8], view: usize, count: usize, removal: &[u8], out: &mut
                 let from = site.extended.from;
                 let to = site.extended.to;
                 if only_quality(&bytes[from..to]) {
-                    let change = Change {
-                        high: count,
-                        low: 0,
-                        joins: false,
-                    };
-                    carry_out(bytes, site, change, removal, out)
+                    carry_out(bytes, site, &bytes[0..0], removal, 0, out)
                 } else {
                     refuse(Refusal::EXTENDED)
                 }
@@ -48,54 +44,15 @@ pub fn remove(bytes: &[u8], view: usize, count: usize, removal: &[u8], out: &mut
     }
 }
 
-// What a pair order changes: the list of the higher line, in which the lower one stands.
-fn pair_of(a: usize, b: usize, joins: bool) -> Change
-    ensures { λ r. ⌜ r ≡ record { high = max a b; low = min a b; joins = joins } ⌝ }
+// The orders of the list, which has its shape, on the view that is found, which has an index: 15, 18, 19, 20.
+fn pairs_at(bytes: &[u8], site: Site, list: &[u8], out: &mut [u8]) -> Answer
+    requires { ⌜ PairsThere (now bytes) site (now list) ⌝ }
+    ensures { λ r. ⌜ PairsDone (now (bytes .entry)) site (now (list .entry)) (now (out .entry)) (now (out .exit)) r ⌝ }
 {
-    if a < b {
-        Change {
-            high: b,
-            low: a,
-            joins,
-        }
-    } else {
-        Change {
-            high: a,
-            low: b,
-            joins,
-        }
+    match judge_list(bytes, site, list, out.len()) {
+        Judged::Refused { number, place } => refuse_at(number, place),
+        Judged::Right { last } => carry_out(bytes, site, list, &bytes[0..0], last, out),
     }
-}
-
-// Join of neighbours, or part of two that are not.
-fn already_so(near: bool, joins: bool) -> bool
-    ensures { λ r. ⌜ r ≡ pick joins near (not near) ⌝ }
-{
-    if joins { near } else { !near }
-}
-
-// A pair order on the view that is found: 17, 15, 18 are its own.
-fn pair_at(bytes: &[u8], site: Site, a: usize, b: usize, joins: bool, out: &mut [u8]) -> Answer
-    requires { ⌜ PairThere (now bytes) site ⌝ }
-    ensures { λ r. ⌜ PairDone (now (bytes .entry)) site a b joins (now (out .entry)) (now (out .exit)) r ⌝ }
-{
-    let from = site.index.from;
-    let to = site.index.to;
-    if to <= from {
-        return refuse(Refusal::NO_INDEX);
-    }
-    if site.lines <= a {
-        return refuse(Refusal::BAD_LINES);
-    }
-    if site.lines <= b {
-        return refuse(Refusal::BAD_LINES);
-    }
-    let change = pair_of(a, b, joins);
-    let near = are_near(&bytes[from..to], change.high, change.low);
-    if already_so(near, joins) {
-        return refuse(Refusal::ALREADY_SO);
-    }
-    carry_out(bytes, site, change, &bytes[0..0], out)
 }
 
 fn pair(
@@ -111,7 +68,19 @@ fn pair(
 {
     match named_view(bytes, view, count) {
         NamedView::Refused { number, place } => refuse_at(number, place),
-        NamedView::At(site) => pair_at(bytes, site, a, b, joins, out),
+        NamedView::At(site) => {
+            if site.index.to <= site.index.from {
+                return refuse(Refusal::NO_INDEX);
+            }
+            if count <= a {
+                return refuse(Refusal::BAD_LINES);
+            }
+            if count <= b {
+                return refuse(Refusal::BAD_LINES);
+            }
+            let word = one_word(a, b, joins);
+            pairs_at(bytes, site, &word, out)
+        }
     }
 }
 
@@ -127,4 +96,25 @@ pub fn part(bytes: &[u8], view: usize, count: usize, a: usize, b: usize, out: &m
     ensures { λ r. ⌜ Answers (order (pairOrder view count a b false) (now (bytes .entry))) (now (out .entry)) (now (out .exit)) r ⌝ }
 {
     pair(bytes, view, count, a, b, false, out)
+}
+
+// The orders of the list, one after another: three numbers of two bytes each, high byte first: 0 join or 1 part, and two lines. 17 and
+// 25 come first.
+pub fn pairs(bytes: &[u8], view: usize, count: usize, list: &[u8], out: &mut [u8]) -> Answer
+    ensures { λ r. ⌜ Answers (pairs (pairsCall view count (now (list .entry)) (now (out .entry))) (now (bytes .entry))) (now (out .entry)) (now (out .exit)) r ⌝ }
+{
+    match named_view(bytes, view, count) {
+        NamedView::Refused { number, place } => refuse_at(number, place),
+        NamedView::At(site) => {
+            if site.index.from < site.index.to {
+                if shape_right(list) {
+                    pairs_at(bytes, site, list, out)
+                } else {
+                    refuse(Refusal::BAD_PAIRS)
+                }
+            } else {
+                refuse(Refusal::NO_INDEX)
+            }
+        }
+    }
 }

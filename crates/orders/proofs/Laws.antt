@@ -12,4 +12,9 @@ pub mod Bytes
 pub mod Sequence
 pub mod Holds
 pub mod AcceptCall
+pub mod Turn
+pub mod Pairs
+pub mod PairsNumbers
+pub mod Singly
+pub mod AnyCalls
 pub mod Calls

@@ -21,13 +21,13 @@ use Rattle.orders.specs.Act.{Act, remove, join, part, near, after}
 use Rattle.orders.specs.Order.{Order, edited, tests, allTests, verdict, order}
 
 -- two lines: with an index of these bytes, and with these segments
-abbrev twoLines : ℕ → List ℕ → List ℕ → List ℕ
+abbrev pub twoLines : ℕ → List ℕ → List ℕ → List ℕ
 twoLines n index segments = headerA n 8 ++ viewHeaderA 16 ++ linesA 2 ++ index ++ segments
 
-abbrev none : List ℕ
+abbrev pub none : List ℕ
 none = 0x00 ∷ 0x00 ∷ []
 
-abbrev indexed : ℕ → List ℕ
+abbrev pub indexed : ℕ → List ℕ
 indexed lists = 0x00 ∷ 0x02 ∷ 0x01 ∷ lists ∷ []
 
 pub record Row : Type 0 where

@@ -1,9 +1,15 @@
--- When a call for an order is accepted: its number is 0 exactly where this holds.
+-- When a call for an order is accepted: its number is 0 exactly where this holds. And when a list of pairs is refused with 25.
 use mathlib.Core.Path.{_≡_}
-use Prim.Native.Nat.{ℕ, _≤_}
+use Prim.Native.Nat.{ℕ, _≤_, _<_}
+use mathlib.Core.Bool.{not}
 use mathlib.Core.List.{List, []}
+use lib.ListN.{length}
+use lib.Dec.{T}
 use Rattle.bits.specs.Codec.{got}
 use Rattle.format.specs.Record.{Record, read, size}
+use Rattle.format.specs.Places.{viewAt, count}
+use Rattle.orders.specs.Act.{indexed?}
+use Rattle.orders.specs.Listed.{shapeOk}
 use Rattle.orders.specs.Order.{edited, Accepted}
 use Rattle.orders.specs.History.{Call}
 
@@ -14,3 +20,18 @@ pub record AcceptedCall (c : Call) (bytes : List ℕ) : Type 0 where
   pub reads : read bytes ≡ got value []
   pub order : Accepted (c .order) value
   pub room : size (edited (c .order) value) ≤ c .lent
+
+-- ---- a list of pairs
+
+-- its view is there, and has the count and an index
+pub record ReadyView (view n : ℕ) (r : Record) : Type 0 where
+  pub place : view < length (r .views)
+  pub count : count (viewAt r view) ≡ n
+  pub indexed : T (indexed? (viewAt r view))
+
+-- the bytes read as a record that has such a view, and the list is empty or has another shape
+pub record BrokenPairs (view n : ℕ) (list bytes : List ℕ) : Type 0 where
+  pub value : Record
+  pub reads : read bytes ≡ got value []
+  pub ready : ReadyView view n value
+  pub shape : T (not (shapeOk list))

@@ -17,6 +17,12 @@ pub data Act : Type 0 where
   join : ℕ → ℕ → Act
   part : ℕ → ℕ → Act
 
+-- what is said about two lines: that they be joined, or parted
+pub record Word : Type 0 where
+  pub one : ℕ
+  pub other : ℕ
+  pub joins : Bool
+
 -- ---- what a view holds
 
 -- the lists of neighbours, where there is an index

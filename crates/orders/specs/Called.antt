@@ -4,7 +4,7 @@ use mathlib.Core.Bool.{Bool}
 use mathlib.Core.List.{List}
 use Rattle.bits.specs.Choice.{pick}
 use Rattle.orders.specs.Listed.{removalLines}
-use Rattle.orders.specs.Act.{Act, remove, join, part}
+use Rattle.orders.specs.Act.{Act, remove, join, part, Word}
 use Rattle.orders.specs.Order.{Order}
 
 -- removal: the bytes of the removal list
@@ -16,3 +16,6 @@ pairAct joins a b = pick joins (join a b) (part a b)
 
 abbrev pub pairOrder : (view count a b : ℕ) → (joins : Bool) → Order
 pairOrder view count a b joins = record { view = view; count = count; act = pairAct joins a b }
+
+abbrev pub wordOrder : (view count : ℕ) → Word → Order
+wordOrder view count w = pairOrder view count (w .one) (w .other) (w .joins)

@@ -14,7 +14,7 @@ use Rattle.format.specs.View.{View}
 use Rattle.format.specs.Places.{count, lineAt}
 use Rattle.orders.specs.Survive.{at, upFrom, survivors, RisesFrom}
 use Rattle.orders.specs.Least.{leastWidth}
-use Rattle.orders.specs.Act.{Act, remove, join, part, near, indexed?}
+use Rattle.orders.specs.Act.{Act, remove, join, part, Word, near, indexed?}
 use Rattle.orders.specs.Order.{Order, order}
 
 -- ---- a sequence, in bytes
@@ -38,14 +38,8 @@ run (c ∷ cs) bytes = run cs (nowHolds bytes (outcome c bytes))
 
 -- ---- what the accepted orders on a view say
 
--- an accepted order about two lines, by their numbers at the start
-pub record Word : Type 0 where
-  pub one : ℕ
-  pub other : ℕ
-  pub joins : Bool
-
--- left: the lines that are left, by their numbers at the start; words: the accepted orders about pairs, the last first; accepted:
--- how many orders on the view were accepted
+-- left: the lines that are left, by their numbers at the start; words: the accepted orders about pairs, by these numbers too, the
+-- last first; accepted: how many orders on the view were accepted
 pub record History : Type 0 where
   pub left : List ℕ
   pub words : List Word

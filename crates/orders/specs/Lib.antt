@@ -1,10 +1,12 @@
 pub mod Survive
-pub mod Listed
 pub mod Least
 pub mod Act
+pub mod Listed
 pub mod Order
 pub mod Called
 pub mod History
+pub mod Pairs
+pub mod AnyCall
 pub mod Bytes
 pub mod Kept
 pub mod Made

@@ -6,18 +6,18 @@ use mathlib.Core.List.{List, [], _∷_}
 use lib.ListN.{length}
 use Rattle.outcome.specs.Outcome.{Answers}
 use Rattle.outcome.specs.declared.Answer.{Answer}
-use Rattle.orders.specs.Order.{order, holds}
-use Rattle.orders.specs.History.{Call}
+use Rattle.orders.specs.Order.{holds}
+use Rattle.orders.specs.AnyCall.{AnyCall, asked, lentFor}
 
 -- one call: before and after are what the second buffer holds
-pub record Made (c : Call) (old new : List ℕ) : Type 0 where
+pub record Made (q : AnyCall) (old new : List ℕ) : Type 0 where
   pub before : List ℕ
   pub after : List ℕ
   pub answer : Answer
-  pub lent : length before ≡ c .lent
-  pub answers : Answers (order (c .order) old) before after answer
+  pub lent : length before ≡ lentFor q
+  pub answers : Answers (asked q old) before after answer
   pub held : new ≡ holds old after (answer .number) (answer .length)
 
-abbrev pub MadeAll : List Call → List ℕ → List ℕ → Type 0
+abbrev pub MadeAll : List AnyCall → List ℕ → List ℕ → Type 0
 MadeAll [] bytes last = last ≡ bytes
-MadeAll (c ∷ cs) bytes last = (new : List ℕ) × Made c bytes new × MadeAll cs new last
+MadeAll (q ∷ qs) bytes last = (new : List ℕ) × Made q bytes new × MadeAll qs new last

@@ -26,6 +26,12 @@ same-answer a b p q r = λ i. record { number = p i; place = q i; length = r i }
 pub room-enough : {A : Type 0} (n : ℕ) (xs : List A) → length xs ≤ n → room n (given xs) ≡ given xs
 room-enough n xs h = pick-yes (leb (length xs) n) _ _ (le→leb (length xs) n h)
 
+-- held against the same room again, it is what it is
+pub room-again : {A : Type 0} (n : ℕ) (o : Outcome A) → room n (room n o) ≡ room n o
+room-again n (refused e p) = refl
+room-again {A} n (given xs) =
+    pick-case (λ (x : Outcome A). room n x ≡ x) (leb (length xs) n) _ _ (λ t. pick-yes (leb (length xs) n) _ _ t) (λ t. refl)
+
 -- in the room that is lent the number is 0 exactly where something is given, and fits; no refusal has that number
 pub room-zero : {A P : Type 0} (n : ℕ) {o : Outcome A} → ((e p : ℕ) → o ≡ refused e p → e ≢ 0) → numberOf (room n o) ≡ 0
     → ((xs : List A) → o ≡ given xs → length xs ≤ n → P) → P
@@ -75,6 +81,18 @@ module _ {A B : Type 0} (form : List A → List B) (lent : ℕ) {o : Outcome A} 
     pub answer-given : (after : List B) (n : ℕ) → length xs ≤ lent → n ≡ length xs → after ≡ form xs ++ drop (length (form xs)) before
         → AnswersAs form lent o before after (record { number = 0; place = 0; length = n })
     answer-given after n l m b = answer-is (given xs) after n (ap (room lent) q ∙ room-enough lent xs l) m b
+
+-- an outcome that has been held against the room
+pub room-answers : {A B : Type 0} {form : List A → List B} {lent : ℕ} {o : Outcome A} {before after : List B} {a : Answer}
+    → AnswersAs form lent (room lent o) before after a → AnswersAs form lent o before after a
+room-answers {form = form} {lent = lent} {o = o} {before = before} h =
+    let e = room-again lent o in
+    record {
+      number = h .number ∙ ap numberOf e;
+      place = h .place ∙ ap placeOf e;
+      written = h .written ∙ ap lengthOf e;
+      buffer = h .buffer ∙ ap (laidAs form before) e;
+    }
 
 -- ---- what an answer says, where elements stand as they are
 

@@ -1,5 +1,7 @@
 -- What is said of every refusal of an outcome, by its number and its place: how it goes over to the answers.
+use mathlib.Core.Path.{_≡_, refl}
 use Prim.Native.Nat.{ℕ}
+use mathlib.Core.List.{List}
 use lib.ListN.{length}
 use lib.Dec.{leb}
 use Rattle.bits.specs.ChoiceLaws.{pick-case}
@@ -16,6 +18,16 @@ module _ (P : ℕ → ℕ → Type 0) {A : Type 0} where
   pub room-refused : P noRoom 0 → (n : ℕ) (o : Outcome A) → Refused P o → Refused P (room n o)
   room-refused t n (refused e p) h = h
   room-refused t n (given xs) h = pick-case (Refused P) (leb (length xs) n) _ _ (λ u. tt) (λ u. t)
+
+  -- an outcome is refused, and P holds, or something is given
+  pub refused-case : {X : Type 0} (o : Outcome A) → Refused P o → ((e p : ℕ) → o ≡ refused e p → P e p → X)
+      → ((xs : List A) → o ≡ given xs → X) → X
+  refused-case (refused e p) h f g = f e p refl h
+  refused-case (given xs) h f g = g xs refl
+
+  pub refused-map : (Q : ℕ → ℕ → Type 0) → ((e p : ℕ) → P e p → Q e p) → (o : Outcome A) → Refused P o → Refused Q o
+  refused-map Q f (refused e p) h = f e p h
+  refused-map Q f (given xs) h = tt
 
   -- what is given has the number 0 and no place
   pub refused-shown : P 0 0 → (o : Outcome A) → Refused P o → P (numberOf o) (placeOf o)

@@ -42,6 +42,10 @@ removalNumbers = (1, 16) ∷ (19, 20) ∷ []
 abbrev pub pairNumbers : List (ℕ × ℕ)
 pairNumbers = (1, 15) ∷ (17, 20) ∷ []
 
+-- many pairs: "25, empty list or another shape, after 17; the rest per order as in 01", behind 1 to 14
+abbrev pub pairsNumbers : List (ℕ × ℕ)
+pairsNumbers = (1, 15) ∷ (17, 20) ∷ (25, 25) ∷ []
+
 -- local quality: "24, .. after 23; then 19, 20", behind 1 to 13; reading it gives no 19
 abbrev pub qualityNumbers : List (ℕ × ℕ)
 qualityNumbers = (1, 13) ∷ (20, 20) ∷ (23, 24) ∷ []

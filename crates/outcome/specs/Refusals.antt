@@ -96,3 +96,7 @@ noSegment = 23
 -- 24: a segment of another type than local quality, or a payload or values to be written that break its rules
 abbrev pub badQuality : ℕ
 badQuality = 24
+
+-- 25: a list of pairs that is empty or has another shape
+abbrev pub badPairs : ℕ
+badPairs = 25

@@ -1,8 +1,9 @@
 // What a call gives back. The numbers of the refusals, and what an answer means for the lent buffer, are in specs/.
 ghost use mathlib.Core.Path.{_≡_};
 
-// number: 0 where accepted, else the refusal's. place: the first bit of what is refused, counted from the record's first; of a
-// segment that is found, its payload's first bit; else 0. length: how many elements were written.
+// number: 0 where accepted, else the refusal's. place: the first bit of what is refused, counted from the record's first; of an order
+// that is refused in a list of them, its place there, counted from 0; of a segment that is found, its payload's first bit; else 0.
+// length: how many elements were written.
 #[repr(C)]
 pub struct Answer {
     pub number: u32,
@@ -10,7 +11,7 @@ pub struct Answer {
     pub length: usize,
 }
 
-// A refusal at a place of the record.
+// A refusal at a place of the record, or of a list of orders.
 pub fn refuse_at(number: u32, place: u32) -> Answer
     ensures { λ r. ⌜ r ≡ record { number = number; place = place; length = 0 } ⌝ }
 {
@@ -90,4 +91,6 @@ impl Refusal {
     pub const NO_SEGMENT: u32 = 23;
 
     pub const BAD_QUALITY: u32 = 24;
+
+    pub const BAD_PAIRS: u32 = 25;
 }

@@ -1,18 +1,23 @@
 -- What decides a refusal 2 to 12, of each call on a record: each refuses with these where the record is refused, and has other
 -- numbers of its own.
-use mathlib.Core.Path.{_≡_}
-use Prim.Native.Nat.{ℕ, _+_}
-use mathlib.Core.List.{List}
+use mathlib.Core.Path.{_≡_, refl, sym, ap, subst, _∙_}
+use Prim.Native.Nat.{ℕ, _+_, _-_, _*_}
+use native.Mathlib.Omega.{arith}
+use mathlib.Core.Bool.{Bool}
+use mathlib.Core.List.{List, []}
 use lib.ListN.{length}
 use lib.Dec.{T, ltb, eqb}
 use mir.Facts.{eqb-no}
 use Rattle.bits.specs.Choice.{within}
 use Rattle.bits.specs.ChoiceLaws.{pick-case}
-use Rattle.outcome.specs.Outcome.{Outcome, given, AnswersAs, Answers}
+use Rattle.bits.specs.Codec.{Read}
+use Rattle.bits.specs.Codec as C
+use Rattle.outcome.specs.Outcome.{Outcome, refused, given, AnswersAs, Answers}
 use Rattle.outcome.specs.declared.Answer.{Answer}
 use Rattle.format.specs.Record.{Record, read}
-use Rattle.format.specs.Call.{inView, onView, inSegment, onSegment}
+use Rattle.format.specs.Call.{fromRead, onRecord, inView, onView, inSegment, onSegment}
 use Rattle.format.specs.Places.{viewAt, count}
+use Rattle.format.proofs.Laws.Record.{read-is}
 use Rattle.places.specs.Reach.{reach, Agree, AnsweredAlike}
 use Rattle.places.proofs.Laws.Calls.{Other, Own, Shows, answer-shows, told-shows, answered-alike}
 use Rattle.sheet.specs.Sheet.{sheetOf, reading}
@@ -21,7 +26,10 @@ use Rattle.segment.specs.Segment.{payloadIn, payload, firstBitRead, segmentAnsw
 use Rattle.quality.specs.Quality.{qualityIn, quality, setQualityIn, setQuality}
 use Rattle.quality.proofs.Laws.Numbers.{quality-refused, setting-refused}
 use Rattle.orders.specs.Order.{Order, verdict, ordered, order}
+use Rattle.orders.specs.Pairs.{PairsCall, pairsCall, pairs}
 use Rattle.orders.proofs.Laws.Numbers.{verdict-above}
+use Rattle.orders.proofs.Laws.Pairs.{unread, pairs-view}
+use Rattle.orders.proofs.Laws.PairsNumbers.{pairs-own}
 
 -- a call on a view
 view-alike : {A : Type 0} (view : ℕ) (f : ℕ → Record → Outcome A) → ((r : Record) → Own (f view r)) → (a b : List ℕ) {x y : Answer}
@@ -75,3 +83,50 @@ pub setting-decided : (view place : ℕ) (vs a b : List ℕ) {before after befor
 unfolding setQuality
 setting-decided view place vs a b h k =
     segment-alike view place (setQualityIn place vs) (setting-refused Other tt tt place vs view) a b (answer-shows h) (answer-shows k)
+
+-- ---- a list of pairs
+
+-- The call goes by the bytes again where it gives its orders, so that it is no function of the record alone; but of the record's
+-- refusals it shows what any call does.
+abbrev judged : Record → Outcome ℕ
+judged r = given []
+
+module _ (m : PairsCall) (bytes : List ℕ) {before after : List ℕ} {x : Answer} (h : Answers (pairs m bytes) before after x) where
+  on-refused : (e left : ℕ) → read bytes ≡ C.refused e left → Shows (onRecord judged bytes) x
+  unfolding onRecord
+  on-refused e left q =
+      let place : ℕ = 8 * length bytes - left in
+      let d : onRecord judged bytes ≡ refused e place = ap (fromRead (8 * length bytes) judged) q in
+      let (i, j) = answer-shows h .refusal e place (pairs-view m bytes (λ f. unread (m .view) f bytes q)) in
+      record {
+        refusal = λ n p z. let y : _≡_ {A = Outcome ℕ} (refused e place) (refused n p) = sym d ∙ z in
+            let u : e ≡ n = cc in
+            let v : place ≡ p = cc in
+            (i ∙ u, j ∙ v);
+        own = λ k. rw i (subst Own d k);
+      }
+
+  on-read : (r : Record) → read bytes ≡ C.got r [] → Shows (onRecord judged bytes) x
+  unfolding onRecord
+  on-read r q =
+      let d : onRecord judged bytes ≡ given [] = ap (fromRead (8 * length bytes) judged) q in
+      record {
+        refusal = λ n p z. let y : _≡_ {A = Outcome ℕ} (given []) (refused n p) = sym d ∙ z in
+            let w : _≡_ {A = ℕ} 0 1 = cc in
+            absurd (omega arith);
+        own = λ k. answer-shows h .own (pairs-own m bytes r q);
+      }
+
+  pairs-shows : Shows (onRecord judged bytes) x
+  pairs-shows = go (read bytes) refl
+    where
+      go : (o : Read Bool Record) → read bytes ≡ o → Shows (onRecord judged bytes) x
+      go (C.got r rest) q = on-read r (q ∙ ap (C.got r) (read-is bytes r rest q .3))
+      go (C.refused e left) q = on-refused e left q
+
+pub pairs-decided : (view n : ℕ) (orders a b : List ℕ) {before after before₂ after₂ : List ℕ} {x y : Answer}
+    → Answers (pairs (pairsCall view n orders before) a) before after x
+    → Answers (pairs (pairsCall view n orders before₂) b) before₂ after₂ y → T (within 2 12 (x .number)) → Agree (x .place + reach (x .number)) a b → AnsweredAlike x y
+pairs-decided view n orders a b {before} {before₂ = before₂} h k =
+    answered-alike judged (λ r. tt) a b (pairs-shows (pairsCall view n orders before) a h)
+    (pairs-shows (pairsCall view n orders before₂) b k)

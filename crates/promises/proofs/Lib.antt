@@ -5,3 +5,4 @@ pub mod Decides
 pub mod Promises
 pub mod PromisesCalls
 pub mod PromisesQuality
+pub mod PromisesPairs

@@ -1,6 +1,7 @@
 -- WHAT THE LIBRARY PROMISES, of every record, sheet and sequence of orders. Which numbers and places each call gives, and when it is
--- accepted, is promised in PromisesCalls beside it; what is promised of local quality, in PromisesQuality. Each promise is a
--- statement; its proof is one citation. Every name in a statement leads to one definition, and all of these stand in specs/:
+-- accepted, is promised in PromisesCalls beside it; what is promised of local quality, in PromisesQuality; of lists of pairs, in
+-- PromisesPairs. Each promise is a statement; its proof is one citation. Every name in a statement leads to one definition, and all
+-- of these stand in specs/:
 --   bits/specs/Choice, Lists, Bits, Bytes   within; All, Along; Bits; Byte
 --   bits/specs/Codec           Codec.got, Codec.refused: what reading gives; enc, what is written
 --   outcome/specs/Refusals, Placed   otherCount, tooLong, badSheet, badValue; Placed
@@ -13,7 +14,8 @@
 --   segment/specs/Segment      segmentAnswer, payload, payloadOf
 --   orders/specs/Act, Least    remove; leastWidth
 --   orders/specs/Order         Order, Accepted, edited, order, holds
---   orders/specs/History       Call, outcome, nowHolds, run
+--   orders/specs/History       Call, nowHolds, run
+--   orders/specs/AnyCall       AnyCall, one, outcomeOf, runAny, singles
 --   orders/specs/Kept, Made    Kept; MadeAll
 --   order_holds/specs/Held     held
 --   promises/specs/Samples     table, expected, computed
@@ -53,13 +55,14 @@ use Rattle.segment.specs.Segment.{payload, payloadOf, segmentAnswer}
 use Rattle.orders.specs.Least.{leastWidth}
 use Rattle.orders.specs.Act.{remove}
 use Rattle.orders.specs.Order.{Order, edited, Accepted, order, holds}
-use Rattle.orders.specs.History.{Call, outcome, nowHolds, run}
+use Rattle.orders.specs.History.{Call, nowHolds, run}
+use Rattle.orders.specs.AnyCall.{AnyCall, one, outcomeOf, runAny, singles}
 use Rattle.orders.specs.Kept.{Kept}
 use Rattle.orders.specs.Made.{MadeAll}
 use Rattle.orders.proofs.Laws.Least as LeastLaws
 use Rattle.orders.proofs.Laws.Keep as KeepLaws
 use Rattle.orders.proofs.Laws.Sequence as SequenceLaws
-use Rattle.orders.proofs.Laws.Holds as HoldsLaws
+use Rattle.orders.proofs.Laws.AnyCalls as AnyLaws
 use Rattle.orders.proofs.Laws.Calls as CallLaws
 use Rattle.order_holds.specs.Held.{held}
 use Rattle.order_holds.specs.declared.Held.{Held}
@@ -130,7 +133,8 @@ pub nearest-heading : (n b direction : ℕ) → Nearest (direction * (2 * n)) (2
 nearest-heading = TrailLaws.heading-near
 
 -- ---- DEMAND 3: orders
--- (that an order is refused for the numbered causes alone: PromisesCalls)
+-- (that an order is refused for the numbered causes alone: PromisesCalls; that a list of pairs is its orders, given singly:
+-- PromisesPairs)
 
 -- an accepted order leaves an allowed record
 pub order-keeps : (o : Order) (r : Record) → Allowed r → Accepted o r → Allowed (edited o r)
@@ -145,9 +149,9 @@ others-keep-their-bits = KeepLaws.edited-bits
 pub least-width : (ls : List (List ℕ)) (u : ℕ) → 1 ≤ u → Along up (FitsList u) 0 ls → leastWidth ls ≤ u
 least-width = LeastLaws.least-least
 
--- a refused order changes nothing
-pub refused-stays : (c : Call) (bytes : List ℕ) → numberOf (outcome c bytes) ≢ 0 → nowHolds bytes (outcome c bytes) ≡ bytes
-refused-stays = SequenceLaws.refused-stays
+-- a refused call changes nothing, for one order or for a list of pairs
+pub refused-stays : (q : AnyCall) (bytes : List ℕ) → numberOf (outcomeOf q bytes) ≢ 0 → nowHolds bytes (outcomeOf q bytes) ≡ bytes
+refused-stays = AnyLaws.refused-stays
 
 -- THE SEQUENCE: from any accepted record, any orders, each result fed to the next: the bytes that hold at the end are those of an
 -- allowed record with the header and as many views, and each view is what the accepted orders on it say, through all renumbering.
@@ -156,20 +160,28 @@ refused-stays = SequenceLaws.refused-stays
 pub orders-follow : (cs : List Call) (bytes : List ℕ) (r : Record) → All Byte bytes → read bytes ≡ Codec.got r [] → Kept cs r bytes (run cs bytes)
 orders-follow = SequenceLaws.orders-follow
 
--- the calls themselves, whose contracts are `Answers (order o record)` (ordering/src) and `holds` (order_holds/src): made one behind
--- the other, each lent the record that then holds, they come to the record of the sequence
-pub calls-run : (cs : List Call) (bytes last : List ℕ) → MadeAll cs bytes last → last ≡ run cs bytes
+-- a sequence may hold lists of pairs, and says the same as the single orders in their place: those of the lists that are accepted
+pub any-run : (qs : List AnyCall) (bytes : List ℕ) → runAny qs bytes ≡ run (singles qs bytes) bytes
+any-run = AnyLaws.any-run
+
+pub any-follow : (qs : List AnyCall) (bytes : List ℕ) (r : Record) → All Byte bytes → read bytes ≡ Codec.got r []
+    → Kept (singles qs bytes) r bytes (runAny qs bytes)
+any-follow = AnyLaws.any-follow
+
+-- the calls themselves, whose contracts are `Answers (order o record)`, `Answers (pairs m record)` (ordering/src) and `holds`
+-- (order_holds/src): made one behind the other, each lent the record that then holds, they come to the record of the sequence
+pub calls-run : (qs : List AnyCall) (bytes last : List ℕ) → MadeAll qs bytes last → last ≡ runAny qs bytes
 calls-run = CallLaws.calls-run
 
-pub calls-follow : (cs : List Call) (bytes last : List ℕ) (r : Record) → All Byte bytes → read bytes ≡ Codec.got r [] → MadeAll cs bytes last
-    → Kept cs r bytes last
+pub calls-follow : (qs : List AnyCall) (bytes last : List ℕ) (r : Record) → All Byte bytes → read bytes ≡ Codec.got r []
+    → MadeAll qs bytes last → Kept (singles qs bytes) r bytes last
 calls-follow = CallLaws.calls-follow
 
--- NEVER TWICE: after any orders a removal is accepted; after any further ones it comes again, whatever room is lent: 14
-pub removal-again : (before : List Call) (c : Call) (after : List Call) (rs bytes : List ℕ) (r : Record) → All Byte bytes → read bytes ≡ Codec.got r []
-    → c .order .act ≡ remove rs → numberOf (outcome c (run before bytes)) ≡ 0
-    → (n : ℕ) → outcome (record { order = c .order; lent = n }) (run (before ++ c ∷ after) bytes) ≡ refused otherCount 0
-removal-again = SequenceLaws.removal-again
+-- NEVER TWICE: after any calls a removal is accepted; after any further ones it comes again, whatever room is lent: 14
+pub removal-again : (before : List AnyCall) (c : Call) (after : List AnyCall) (rs bytes : List ℕ) (r : Record) → All Byte bytes
+    → read bytes ≡ Codec.got r [] → c .order .act ≡ remove rs → numberOf (outcomeOf (one c) (runAny before bytes)) ≡ 0
+    → (n : ℕ) → outcomeOf (one (record { order = c .order; lent = n })) (runAny (before ++ one c ∷ after) bytes) ≡ refused otherCount 0
+removal-again = AnyLaws.removal-again
 
 -- THE REPEATED HOUR: a call for a removal answers 0; the same removal is called for again, on the record that then holds. It is
 -- refused with 14, the second buffer is as it was, and the same record holds. A function that makes these calls (src/remove_twice)
@@ -182,9 +194,10 @@ pub repeated-hour : (o : Order) {rs : List ℕ} → o .act ≡ remove rs → (by
 repeated-hour = CallLaws.repeated
 
 -- the record that now holds, found from the answer and the second buffer, is the one that the sequence goes on with
-pub holds-now : (c : Call) (bytes second : List ℕ)
-    → holds bytes (laid second (outcome c bytes)) (numberOf (outcome c bytes)) (lengthOf (outcome c bytes)) ≡ nowHolds bytes (outcome c bytes)
-holds-now = HoldsLaws.holds-now
+pub holds-now : (q : AnyCall) (bytes second : List ℕ)
+    → holds bytes (laid second (outcomeOf q bytes)) (numberOf (outcomeOf q bytes)) (lengthOf (outcomeOf q bytes))
+    ≡ nowHolds bytes (outcomeOf q bytes)
+holds-now = AnyLaws.holds-now
 
 -- for a host that takes numbers alone: whatever `which_holds` answers, whose contract is the equation with `held`
 -- (order_holds/specs/Held), second is 1 and the record that holds is the second buffer's first bytes, `length` of them; or second is 0
@@ -196,7 +209,7 @@ held-holds = HeldLaws.held-holds
 
 -- ---- UNIQUENESS: two answers that a statement allows are equal, and so are the buffers they leave
 
--- the calls that write: read, write, trail as numbers and as bytes, quality, set quality, remove, join, part
+-- the calls that write: read, write, trail as numbers and as bytes, quality, set quality, remove, join, part, pairs
 pub one-answer : {A B : Type 0} {form : List A → List B} {lent : ℕ} {o : Outcome A} {before after₁ after₂ : List B} {a₁ a₂ : Answer}
     → AnswersAs form lent o before after₁ a₁ → AnswersAs form lent o before after₂ a₂ → (a₁ ≡ a₂) × (after₁ ≡ after₂)
 one-answer = OutcomeLaws.one-answer

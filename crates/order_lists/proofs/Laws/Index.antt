@@ -1,4 +1,4 @@
--- The index block: what stands in it before the order, and how long it is and what is put after it.
+-- The index block after an order: how long it is, and what is put. What stands in the block before it is a matter of order_walk.
 use mathlib.Core.Path.{_≡_, sym, ap, _∙_}
 use Prim.Native.Nat.{ℕ, suc, _+_, _*_, _/_, _≤_}
 use native.Mathlib.Omega.{arith}
@@ -8,7 +8,6 @@ use mathlib.Core.List.{List, [], _∷_}
 use lib.ListN.{length}
 use Rattle.bits.specs.Lists.{Along, total}
 use Rattle.bits.specs.Bits.{Bits, bitsOfNumber}
-use Rattle.bits.specs.BitsLaws.{length-bits}
 use Rattle.bits.specs.Bytes.{bitsOf, inBytes}
 use Rattle.bits.specs.Codec.{got, fieldDec}
 use Rattle.bits.specs.CodecLaws.{encAlong}
@@ -19,40 +18,17 @@ use Rattle.format.specs.Limits.{mostLines}
 use Rattle.format.specs.Differences.{Falls}
 use Rattle.format.specs.DifferencesLaws.{falls-count}
 use Rattle.format.specs.Index.{Index, FitsIndex, neighbours, up, indexBlock}
-use Rattle.find_parts.proofs.Laws.Standing.{stands-behind, stands-within}
 use Rattle.find_parts.proofs.Laws.Blocks.{block-long}
 use Rattle.find_parts.proofs.Laws.Lists.{along-long, list-bits}
-use Rattle.find_parts.proofs.Laws.Index.{IndexAt, index-at, width-is, index-enc, index-long}
+use Rattle.find_parts.proofs.Laws.Index.{width-is, index-enc, index-long}
 use Rattle.put_bits.specs.Put.{PutMore, Puts, Room}
 use Rattle.put_bits.proofs.Laws.{put-none, put-laid}
 use Rattle.orders.specs.Least.{find, maxOf, numbersFrom, leastWidth, indexOf}
 use Rattle.orders.proofs.Laws.Least.{least-fits}
-use Rattle.order_lists.specs.Lists.{ListsAt, ListsNumbered, ListsPut}
+use Rattle.order_walk.proofs.Laws.Block.{before, as-many, lists-stand}
+use Rattle.order_lists.specs.Lists.{ListsNumbered, ListsPut}
 use Rattle.order_lists.specs.Index.{left, IndexSized, IndexPut}
-use Rattle.order_lists.specs.declared.lists.Change.{Change}
 use Rattle.order_lists.specs.declared.lists.Totals.{Totals}
-
--- ---- the block before
-
-module _ (s : List ℕ) (lines : ℕ) {i : Index} {u : Bits} (e : indexBlock lines .dec (bitsOf s) ≡ got (some i) u) where
-  pub before : IndexAt lines s i
-  before = index-at lines s e
-
-  abbrev first : Bits
-  first = bitsOfNumber 8 (i .width)
-
-  pub width-there : 8 ≤ 8 * length s
-  width-there = omega (arith, stands-within s 0 first _ (before .bits) (omega arith), length-bits 8 (i .width))
-
-  pub width-narrow : i .width ≤ 16
-  width-narrow = before .fits .high
-
-  pub as-many : length (i .lists) ≡ lines
-  as-many = before .fits .count
-
-  pub lists-stand : ListsAt (i .width) s 0 8 (i .lists) (before .after)
-  lists-stand =
-      record { bits = stands-behind s 0 first _ (before .bits) 8 (length-bits 8 (i .width)); fits = before .fits .lists; within = width-there }
 
 -- ---- the block after
 
@@ -107,49 +83,49 @@ module _ (ls : List (List ℕ)) where
 
 -- ---- the answers of the code
 
-module _ (s : List ℕ) (lines : ℕ) (ch : Change) (removal : List ℕ) {v q : ℕ} (h : Reads (fieldDec badIndex 8) s 0 (found v q)) where
-  module _ {t : Totals} (N : ListsNumbered v s lines ch removal t) where
-    totals : {i : Index} {u : Bits} → indexBlock lines .dec (bitsOf s) ≡ got (some i) u → Along up (Falls 0) 0 (left removal ch i)
-        → (t .lists ≡ length (left removal ch i)) × (t .entries ≡ total length (left removal ch i)) × (t .most ≡ maxOf (numbersFrom 0 (left removal ch i)))
+module _ (s : List ℕ) (lines : ℕ) (words removal : List ℕ) {v q : ℕ} (h : Reads (fieldDec badIndex 8) s 0 (found v q)) where
+  module _ {t : Totals} (N : ListsNumbered v s lines words removal t) where
+    totals : {i : Index} {u : Bits} → indexBlock lines .dec (bitsOf s) ≡ got (some i) u → Along up (Falls 0) 0 (left removal words i)
+        → (t .lists ≡ length (left removal words i)) × (t .entries ≡ total length (left removal words i)) × (t .most ≡ maxOf (numbersFrom 0 (left removal words i)))
     totals {i} e f = rw (width-is lines s e h) at N .is (i .lists) (before s lines e .after) (lists-stand s lines e) (as-many s lines e) f
 
-    module _ {i : Index} {u : Bits} (e : indexBlock lines .dec (bitsOf s) ≡ got (some i) u) (f : Along up (Falls 0) 0 (left removal ch i)) (n : length (left removal ch i) ≤ 1024) where
+    module _ {i : Index} {u : Bits} (e : indexBlock lines .dec (bitsOf s) ≡ got (some i) u) (f : Along up (Falls 0) 0 (left removal words i)) (n : length (left removal words i) ≤ 1024) where
       pub sizes-small : (t .lists ≤ 1024) × (t .entries ≤ 1025 * 1024)
-      sizes-small = let (a, b, c) = totals e f in (omega (arith, a), omega (arith, b, few-entries (left removal ch i) f n))
+      sizes-small = let (a, b, c) = totals e f in (omega (arith, a), omega (arith, b, few-entries (left removal words i) f n))
 
       pub product-small : {width : ℕ} → width ≡ find 15 1 (t .most) → (t .lists + t .entries) * width ≤ 16 * (1024 + 1025 * 1024)
       product-small k =
           let (a, b, c) = totals e f in
-          let x = least-is (left removal ch i) c k in
-          rw (a, b, x) (small-block (left removal ch i) f n)
+          let x = least-is (left removal words i) c k in
+          rw (a, b, x) (small-block (left removal words i) f n)
 
-    pub sized : {width : ℕ} → width ≡ find 15 1 (t .most) → IndexSized s lines ch removal (record { width = width; bytes = (8 + (t .lists + t .entries) * width + 7) / 8 })
+    pub sized : {width : ℕ} → width ≡ find 15 1 (t .most) → IndexSized s lines words removal (record { width = width; bytes = (8 + (t .lists + t .entries) * width + 7) / 8 })
     sized k =
         record {
           is = λ i u e f n.
               let (a, b, c) = totals e f in
-              let x = least-is (left removal ch i) c k in
-              (x, rw (a, b, x) (sym (new-long (left removal ch i))));
+              let x = least-is (left removal words i) c k in
+              (x, rw (a, b, x) (sym (new-long (left removal words i))));
         }
 
-  lists-are : {width : ℕ} {i : Index} {u : Bits} {mid now : List ℕ} {p : ℕ} → indexBlock lines .dec (bitsOf s) ≡ got (some i) u → width ≡ leastWidth (left removal ch i)
-      → Along up (Falls 0) 0 (left removal ch i) → length (left removal ch i) ≤ 1024 → ListsPut v s lines ch removal width mid now p
-      → Puts (encAlong (neighbours (leastWidth (left removal ch i))) up 0 (left removal ch i)) mid 8 now p
+  lists-are : {width : ℕ} {i : Index} {u : Bits} {mid now : List ℕ} {p : ℕ} → indexBlock lines .dec (bitsOf s) ≡ got (some i) u → width ≡ leastWidth (left removal words i)
+      → Along up (Falls 0) 0 (left removal words i) → length (left removal words i) ≤ 1024 → ListsPut v s lines words removal width mid now p
+      → Puts (encAlong (neighbours (leastWidth (left removal words i))) up 0 (left removal words i)) mid 8 now p
   lists-are {i = i} e x f n L =
-      rw (width-is lines s e h, x) at L .is (i .lists) (before s lines e .after) (lists-stand s lines e) (as-many s lines e) (least-right (left removal ch i) f n .lists)
+      rw (width-is lines s e h, x) at L .is (i .lists) (before s lines e .after) (lists-stand s lines e) (as-many s lines e) (least-right (left removal words i) f n .lists)
 
-  pub put-end : {width : ℕ} {i : Index} {u : Bits} {mid now : List ℕ} {p : ℕ} → indexBlock lines .dec (bitsOf s) ≡ got (some i) u → width ≡ leastWidth (left removal ch i)
-      → Along up (Falls 0) 0 (left removal ch i) → length (left removal ch i) ≤ 1024 → ListsPut v s lines ch removal width mid now p
-      → p ≡ 8 + length (encAlong (neighbours (leastWidth (left removal ch i))) up 0 (left removal ch i))
+  pub put-end : {width : ℕ} {i : Index} {u : Bits} {mid now : List ℕ} {p : ℕ} → indexBlock lines .dec (bitsOf s) ≡ got (some i) u → width ≡ leastWidth (left removal words i)
+      → Along up (Falls 0) 0 (left removal words i) → length (left removal words i) ≤ 1024 → ListsPut v s lines words removal width mid now p
+      → p ≡ 8 + length (encAlong (neighbours (leastWidth (left removal words i))) up 0 (left removal words i))
   put-end e x f n L = lists-are e x f n L .place
 
-  pub put-index : {width : ℕ} {i : Index} {u : Bits} {old mid now : List ℕ} {at p r : ℕ} → indexBlock lines .dec (bitsOf s) ≡ got (some i) u → width ≡ leastWidth (left removal ch i)
-      → PutMore old 0 width 8 mid at → ListsPut v s lines ch removal width mid now p → r ≡ (p + 7) / 8 → IndexPut s lines ch removal old now r
+  pub put-index : {width : ℕ} {i : Index} {u : Bits} {old mid now : List ℕ} {at p r : ℕ} → indexBlock lines .dec (bitsOf s) ≡ got (some i) u → width ≡ leastWidth (left removal words i)
+      → PutMore old 0 width 8 mid at → ListsPut v s lines words removal width mid now p → r ≡ (p + 7) / 8 → IndexPut s lines words removal old now r
   put-index {i = i} d k m L z =
       record {
         is = λ j u e f n.
             let y : i ≡ j = let y : got (some i) _ ≡ got (some j) u = sym d ∙ e in cc in
-            let x = k ∙ ap (λ (x : Index). leastWidth (left removal ch x)) y in
+            let x = k ∙ ap (λ (x : Index). leastWidth (left removal words x)) y in
             let P = lists-are e x f n L in
-            block-laid (left removal ch j) (rw x at m) P z;
+            block-laid (left removal words j) (rw x at m) P z;
       }

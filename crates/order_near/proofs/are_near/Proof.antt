@@ -10,7 +10,7 @@ use Rattle.bits.specs.Reads.{Reads, found}
 use Rattle.outcome.specs.Refusals.{badIndex}
 use Rattle.order_near.specs.Near.{FindThere}
 use Rattle.find_parts.proofs.Laws.Index.{width-is}
-use Rattle.order_lists.proofs.Laws.Index.{before, width-there, width-narrow, as-many, lists-stand}
+use Rattle.order_walk.proofs.Laws.Block.{before, width-there, width-narrow, as-many, lists-stand}
 use Rattle.order_near.proofs.Laws.{near-is}
 use borrow.Author.Needs.{needs}
 use Rattle.order_near.proofs.are_near.Statement.{statement}
@@ -52,7 +52,7 @@ list-has-requires c κs =
     let t = there (c .before) in
     let F = c .list-of .ensures in
     let (v, a) = F .is (t .value) (t .behind) (t .at) (t .there) in
-    record { narrow = t .narrow; short = t .short; none = F .none; value = getD (t .value) (c .before .before .before .before .args .high) []; behind = v; at = a }
+    record { narrow = omega (arith, t .narrow, F .width); short = t .short; value = getD (t .value) (c .before .before .before .before .args .high) []; behind = v; at = a }
 
 returns : tie.Need-returns
 returns c =

@@ -8,11 +8,11 @@ use Rattle.order_near.proofs.list_of.Statement.{statement}
 use Rattle.order_near.proofs.list_of.Tie as tie
 
 abbrev Inv-loop : tie.InvT-loop
-Inv-loop s w line p₀ l₀ p l =
-    (l ≤ line) × PassingAll w s line l p
+Inv-loop block w line p₀ l₀ p l =
+    (l ≤ line) × PassingAll w block line l p
 
 abbrev μ-loop : tie.MeasureT-loop
-μ-loop s w line p₀ l₀ p l =
+μ-loop block w line p₀ l₀ p l =
     line - l
 
 next : (c : tie.At-loop Inv-loop μ-loop) → NextList (c .before .before .args .w) (c .before .before .args .block .now) (c .before .before .pre .value) (c .before .before .pre .behind) (c .loop .l) (c .loop .p)
@@ -26,7 +26,7 @@ list-at-requires : tie.Need-list-at-requires Inv-loop μ-loop
 list-at-requires c κs =
     let p = c .before .before .before .pre in
     let x = next (c .before) in
-    record { narrow = p .narrow; short = p .short; one = omega arith; value = _; behind = x .after; here = x .here }
+    record { narrow = p .narrow; short = p .short; value = _; behind = x .after; here = x .here }
 
 add-l : tie.Need-add-l Inv-loop μ-loop
 add-l c =
@@ -45,7 +45,7 @@ list-at-requires-2 c κs =
     let p = c .before .before .before .pre in
     let z : c .before .loop .l ≡ c .before .before .before .args .line = omega (arith, c .before .loop .inv .0, c .loop-test .left) in
     let x = rw z at (next (c .before)) in
-    record { narrow = p .narrow; short = p .short; one = omega arith; value = _; behind = x .after; here = x .here }
+    record { narrow = p .narrow; short = p .short; value = _; behind = x .after; here = x .here }
 
 returns : tie.Need-returns Inv-loop μ-loop
 returns c =

@@ -1,90 +1,122 @@
--- The record that code puts together is the one that the order leaves: a removal is its bytes and a change of no list, a pair order
--- the change of one list and no bytes.
-use mathlib.Core.Path.{_≡_, refl, sym, ap, ap₂, _∙_}
-use Prim.Native.Nat.{ℕ, _≤_, min, max}
+-- The record that code puts together is the one that the definitions leave: of a removal, which says no words, and of words about pairs
+-- that have passed their tests, which remove no line. And the lists of the view stay right.
+use mathlib.Core.Path.{_≡_, refl, sym, ap, _∙_, subst}
+use Prim.Native.Nat.{ℕ, _≤_, _<_}
 use native.Mathlib.Nat.{zero-add}
 use native.Mathlib.Omega.{arith}
-use mathlib.Core.Bool.{true, false}
 use mathlib.Core.Option.{Option, none, some, Option·map}
-use mathlib.Core.List.{List, []}
+use mathlib.Core.List.{List, [], _∷_}
 use lib.ListN.{length, length-map}
+use Rattle.bits.specs.Lists.{Along}
 use Rattle.bits.specs.ListsLaws.{up-along}
-use Rattle.format.specs.Line.{Line}
 use Rattle.format.specs.Differences.{Falls}
-use Rattle.format.specs.Index.{Index}
+use Rattle.format.specs.Index.{Index, up}
 use Rattle.format.specs.View.{View}
 use Rattle.format.specs.Record.{Record}
 use Rattle.format.specs.Places.{lineAt, viewAt, withView, count}
 use Rattle.orders.specs.Survive.{survivors}
 use Rattle.orders.specs.Listed.{removalLines}
 use Rattle.orders.specs.Least.{indexOf}
-use Rattle.orders.specs.Act.{Act, remove, join, part, lists, newLists, newLines, after}
-use Rattle.orders.specs.Order.{Order, edited, tests, Pass}
+use Rattle.orders.specs.Act.{Word, remove, lists, newLists, after}
+use Rattle.orders.specs.Order.{edited, tests, Pass}
+use Rattle.orders.specs.Called.{removalOrder}
 use Rattle.orders.proofs.Laws.Survive.{survivors-le}
-use Rattle.orders.proofs.Laws.Near.{lines-after, lists-after}
+use Rattle.orders.proofs.Laws.Near.{head-after, segments-after, lines-after, index-after, lists-after}
 use Rattle.orders.proofs.Laws.Right.{RightLists, Right, after-right}
 use Rattle.order_removal.specs.Rank.{Rising}
 use Rattle.order_removal.proofs.Laws.Kept.{kept-all}
+use Rattle.order_words.specs.After.{heardIn, viewAfter, recordAfter, listsAfter, Passed}
+use Rattle.order_words.proofs.Laws.Listed.{heard-none, heard-count}
+use Rattle.order_words.proofs.Laws.After.{wordAct, head-words, segments-words, lines-words, lists-words, right-lists}
+use Rattle.order_words.proofs.Laws.Record.{record-words}
+use Rattle.order_lists.specs.Lists.{newFrom}
 use Rattle.order_lists.specs.Index.{left}
-use Rattle.order_lists.specs.declared.lists.Change.{Change}
-use Rattle.order_lists.proofs.Laws.Acts.{remove-lists, join-lists, part-lists}
+use Rattle.order_lists.proofs.Laws.Acts.{remove-lists, words-lists}
 use Rattle.order_lines.proofs.Laws.Lines.{remove-lines}
 use Rattle.order_record.specs.Blocks.{newIndex, Keeps}
-use Rattle.order_record.specs.Rebuilt.{Means, newView, newRecord}
+use Rattle.order_record.specs.Rebuilt.{newView, newRecord}
 
--- ---- what the orders mean to code
+-- ---- a view and its lists
 
-module _ (v : View) (r : Right v) (few : count v ≤ 1024) where
-  -- where there is an index, its lists are right
-  with-lists : {i : Index} → v .index ≡ some i → RightLists (count v) (i .lists)
-  with-lists {i} e = r (i .lists) (ap (Option·map (λ j. j .lists)) e)
+-- a view is told by its parts
+same-view : {u v : View} → u .head ≡ v .head → u .lines ≡ v .lines → u .index ≡ v .index → u .segments ≡ v .segments → u ≡ v
+same-view a b c d = λ i. record { head = a i; lines = b i; index = c i; segments = d i }
 
-  as-many : {i : Index} → v .index ≡ some i → RightLists (length (i .lists)) (i .lists) × (length (i .lists) ≡ count v)
-  as-many e = let h = with-lists e in (rw (h .count) h, h .count)
+lists-of : (v : View) {i : Index} → v .index ≡ some i → lists v ≡ some (i .lists)
+lists-of v e = ap (Option·map (λ j. j .lists)) e
 
-  pub remove-means : (removal : List ℕ) (ch : Change) → Rising removal → count v ≤ ch .high → Means (remove (removalLines removal)) v removal ch
-  remove-means removal ch h k =
-      record {
-        lines = remove-lines (removalLines removal) v;
-        lists = λ i e.
-            let (g, n) = as-many e in
-            remove-lists (removalLines removal) (h .rises) ch (i .lists) g (omega (arith, n)) (omega (arith, n)) ∙ ap (λ (m : ℕ). newLists (remove (removalLines removal)) m (i .lists)) n;
-      }
+-- none stays none; of one that is there, f makes the lists
+new-index : (removal words : List ℕ) (f : List (List ℕ) → List (List ℕ)) (o : Option Index) → ((i : Index) → o ≡ some i → left removal words i ≡ f (i .lists))
+    → newIndex removal words o ≡ Option·map indexOf (Option·map f (Option·map (λ i. i .lists) o))
+new-index removal words f none k = refl
+new-index removal words f (some i) k = ap (λ (ls : List (List ℕ)). some (indexOf ls)) (k i refl)
 
-  pub join-means : (a b : ℕ) → Means (join a b) v [] (record { high = max a b; low = min a b; joins = true })
-  join-means a b = record { lines = kept-all 0 (v .lines); lists = λ i e. let (g, n) = as-many e in join-lists a b (count v) (i .lists) g (omega (arith, n)) }
+abbrev Kept : List (List ℕ) → Type 0
+Kept ls = Along up (Falls 0) 0 ls × (length ls ≤ 1024)
 
-  pub part-means : (a b : ℕ) → Means (part a b) v [] (record { high = max a b; low = min a b; joins = false })
-  part-means a b = record { lines = kept-all 0 (v .lines); lists = λ i e. let (g, n) = as-many e in part-lists a b (count v) (i .lists) g (omega (arith, n)) }
+lists-kept : {n : ℕ} {ls : List (List ℕ)} → RightLists n ls → n ≤ 1024 → Kept ls
+lists-kept {ls = ls} g few = (up-along (Falls 0) [] 0 ls λ j l. rw zero-add (g .falls j (omega (arith, g .count))), omega (arith, g .count))
 
--- ---- the view and the record
+-- ---- a removal
 
-module _ {a : Act} {v : View} {removal : List ℕ} {ch : Change} (M : Means a v removal ch) where
-  new-index : (o : Option Index) → ((i : Index) → o ≡ some i → left removal ch i ≡ newLists a (count v) (i .lists))
-      → newIndex removal ch o ≡ Option·map (λ ls. indexOf (newLists a (count v) ls)) (Option·map (λ i. i .lists) o)
-  new-index none h = refl
-  new-index (some i) h = ap (λ (ls : List (List ℕ)). some (indexOf ls)) (h i refl)
+module _ (removal : List ℕ) (h : Rising removal) (v : View) (r : Right v) where
+  removal-left : (i : Index) → v .index ≡ some i → left removal [] i ≡ newLists (remove (removalLines removal)) (count v) (i .lists)
+  removal-left i e =
+      let rs : List ℕ = removalLines removal in
+      let g : RightLists (count v) (i .lists) = r (i .lists) (lists-of v e) in
+      ap (λ (hs : List Word). newFrom rs hs 0 (i .lists)) heard-none ∙ remove-lists rs (h .rises) (i .lists) (rw (g .count) g)
+      ∙ ap (λ (m : ℕ). newLists (remove rs) m (i .lists)) (g .count)
 
-  pub view-after : newView removal ch v ≡ after a v
-  unfolding newView after
-  view-after =
-      ap₂ (λ (ls : List Line) (o : Option Index). record { head = v .head; lines = ls; index = o; segments = v .segments }) (M .lines) (new-index (v .index) (M .lists))
+  pub removal-view : newView removal [] v ≡ after (remove (removalLines removal)) v
+  unfolding newView
+  removal-view =
+      let rs : List ℕ = removalLines removal in
+      let i = new-index removal [] (newLists (remove rs) (count v)) (v .index) removal-left in
+      same-view (sym (head-after (remove rs) v)) (remove-lines rs v ∙ sym (lines-after (remove rs) v))
+      (i ∙ sym (index-after (remove rs) v ∙ ap (Option·map indexOf) (lists-after (remove rs) v))) (sym (segments-after (remove rs) v))
 
-  -- the lists that it leaves are right
-  fewer-lines : (b : Act) → length (newLines b v) ≤ count v
-  fewer-lines (remove rs) = omega (arith, survivors-le (count v) rs, length-map (survivors (count v) rs) (lineAt v))
-  fewer-lines (join p q) = omega arith
-  fewer-lines (part p q) = omega arith
+  pub removal-keeps : count v ≤ 1024 → Pass (tests (remove (removalLines removal)) v) → Keeps removal [] (v .index)
+  removal-keeps few p i e =
+      let rs : List ℕ = removalLines removal in
+      let q : lists (after (remove rs) v) ≡ some (newLists (remove rs) (count v) (i .lists)) = lists-after (remove rs) v ∙ ap (Option·map (newLists (remove rs) (count v))) (lists-of v e) in
+      let g = after-right (remove rs) v p r (newLists (remove rs) (count v) (i .lists)) q in
+      let k : count (after (remove rs) v) ≤ 1024 =
+      omega (arith, ap length (lines-after (remove rs) v), length-map (survivors (count v) rs) (lineAt v), survivors-le (count v) rs) in
+      subst Kept (sym (removal-left i e)) (lists-kept g k)
 
-  pub keeps : Right v → count v ≤ 1024 → Pass (tests a v) → Keeps removal ch (v .index)
-  keeps r few p i e =
-      let ls : List (List ℕ) = left removal ch i in
-      let q : lists (after a v) ≡ some ls = lists-after a v ∙ ap (λ o. Option·map (newLists a (count v)) (Option·map (λ j. j .lists) o)) e ∙ ap (λ ks. some ks) (sym (M .lists i e)) in
-      let g : RightLists (length (newLines a v)) ls = rw (lines-after a v) at (after-right a v p r ls q) in (
-        up-along (Falls 0) [] 0 ls λ j l. rw zero-add (g .falls j (omega (arith, g .count))),
-        omega (arith, g .count, fewer-lines a),
-      )
-
-pub record-after : (o : Order) (r : Record) {removal : List ℕ} {ch : Change} → Means (o .act) (viewAt r (o .view)) removal ch → newRecord removal ch (o .view) r ≡ edited o r
+pub record-removed : (view n : ℕ) (removal : List ℕ) (r : Record) → Rising removal → Right (viewAt r view) → newRecord removal [] view r ≡ edited (removalOrder view n removal) r
 unfolding newRecord edited
-record-after o r M = ap (withView r (o .view)) (view-after M)
+record-removed view n removal r h k = ap (withView r view) (removal-view removal h (viewAt r view) k)
+
+-- ---- words
+
+-- after at least one, the index is what its lists call for
+index-words : (hs : List Word) (v : View) → 0 < length hs → viewAfter hs v .index ≡ Option·map indexOf (Option·map (listsAfter hs) (lists v))
+index-words [] v l = absurd (omega arith)
+index-words (w ∷ hs) v l = index-after (wordAct w) (viewAfter hs v) ∙ ap (Option·map indexOf) (lists-words (w ∷ hs) v)
+
+module _ (words : List ℕ) (v : View) (r : Right v) (p : Passed (heardIn words) v) where
+  -- the lists that code leaves
+  pub words-left : (i : Index) → v .index ≡ some i → left [] words i ≡ listsAfter (heardIn words) (i .lists)
+  words-left i e = words-lists (heardIn words) v (i .lists) (lists-of v e) r p
+
+  pub words-view : 6 ≤ length words → newView [] words v ≡ viewAfter (heardIn words) v
+  unfolding newView
+  words-view l =
+      let hs : List Word = heardIn words in
+      let i = new-index [] words (listsAfter hs) (v .index) words-left in
+      same-view (sym (head-words hs v)) (kept-all 0 (v .lines) ∙ sym (lines-words hs v)) (i ∙ sym (index-words hs v (omega (arith, heard-count words))))
+      (sym (segments-words hs v))
+
+  pub words-keeps : count v ≤ 1024 → Keeps [] words (v .index)
+  words-keeps few i e = subst Kept (sym (words-left i e)) (lists-kept (right-lists v (i .lists) (lists-of v e) r (heardIn words) p) few)
+
+pub record-worded : (view n : ℕ) (words : List ℕ) (r : Record) → view < length (r .views) → Right (viewAt r view) → Passed (heardIn words) (viewAt r view) → 6 ≤ length words
+    → newRecord [] words view r ≡ recordAfter view n (heardIn words) r
+unfolding newRecord
+record-worded view n words r t k p l =
+    ap (withView r view) (words-view words (viewAt r view) k p l) ∙ sym (go (heardIn words) (omega (arith, heard-count words)))
+  where
+    go : (hs : List Word) → 0 < length hs → recordAfter view n hs r ≡ withView r view (viewAfter hs (viewAt r view))
+    go [] m = absurd (omega arith)
+    go (w ∷ hs) m = record-words view n r t w hs

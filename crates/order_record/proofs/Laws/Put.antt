@@ -16,7 +16,6 @@ use Rattle.format.specs.Places.{viewAt}
 use Rattle.find_parts.specs.Stored.{sized, recordOut}
 use Rattle.find_parts.proofs.Laws.Blocks.{cut}
 use Rattle.find_parts.proofs.Laws.Written.{stored-long}
-use Rattle.order_lists.specs.declared.lists.Change.{Change}
 use Rattle.order_lines.specs.Lines.{keptBlock}
 use Rattle.put_record.specs.Head.{headOf, HeadLaid}
 use Rattle.put_record.proofs.Laws.{is-stored}
@@ -31,14 +30,14 @@ use Rattle.order_record.proofs.Laws.Splice.{from-long, spliced, head-lo
 rest-into : (s o : List ℕ) (e a : ℕ) → length s - e + a ≤ length o → length (part s e (length s - e)) ≤ length (lent o a)
 rest-into s o e a h = simp (length-take, length-drop) (omega arith)
 
-module _ {s : List ℕ} {x : Site} {ch : Change} {removal : List ℕ} {m : Sizes} {out : List ℕ} (t : RebuildRoom s x ch removal m out) (f : All Byte s) where
+module _ {s : List ℕ} {x : Site} {words removal : List ℕ} {m : Sizes} {out : List ℕ} (t : RebuildRoom s x words removal m out) (f : All Byte s) where
   stored : s ≡ recordOut (t .placed .value)
   stored = is-stored f (t .placed .reads)
 
   pub in-all : m .bytes ≡ x .skeleton .from + m .skeleton + 2 + m .index + (length s - x .index .to)
   in-all =
       let z = t .sizes in
-      omega (arith, z .bytes, z .skeleton, z .index .bytes, new-size (t .placed .at) stored removal ch)
+      omega (arith, z .bytes, z .skeleton, z .index .bytes, new-size (t .placed .at) stored removal words)
 
   pub front : 34 ≤ x .skeleton .from
   front = from-long (t .placed .at)
@@ -61,11 +60,11 @@ module _ {s : List ℕ} {x : Site} {ch : Change} {removal : List ℕ} {m : Sizes
       let z : m .skeleton ≡ length (keptBlock (x .widths) removal (v .lines)) = rw (a .widths) (t .sizes .skeleton) in
       omega (arith, h .is (v .lines) (a .lines .value) .count, z)
 
-  pub index-room : {rest : List ℕ} → 2 + m .index ≤ length rest → IndexRoom (cut s (x .index .from) (x .index .to)) (x .lines) ch removal (m .width) (m .index) rest
+  pub index-room : {rest : List ℕ} → 2 + m .index ≤ length rest → IndexRoom (cut s (x .index .from) (x .index .to)) (x .lines) words removal (m .width) (m .index) rest
   unfolding old-index
   index-room h = record { there = old-index (t .placed); size = t .sizes .index; small = omega (arith, in-all, t .small); room = h }
 
-  pub index-end : {o o1 : List ℕ} {a : ℕ} → IndexLaid (cut s (x .index .from) (x .index .to)) (x .lines) ch removal o o1 a → a ≡ 2 + m .index
+  pub index-end : {o o1 : List ℕ} {a : ℕ} → IndexLaid (cut s (x .index .from) (x .index .to)) (x .lines) words removal o o1 a → a ≡ 2 + m .index
   index-end h =
       let a = t .placed .at in
       let v = viewAt (t .placed .value) (t .placed .view) in
@@ -73,7 +72,7 @@ module _ {s : List ℕ} {x : Site} {ch : Change} {removal : List ℕ} {m : Sizes
 
   -- there is room for what is left of the record behind its blocks
   pub rest-fits : {o1 o2 o3 : List ℕ} {a b c : ℕ} → HeadLaid s (x .skeleton .from - 2) (m .bytes) out o1 a → SkeletonLaid (x .widths) (cut s (x .skeleton .from) (x .skeleton .to)) removal (lent o1 a) o2 b
-      → IndexLaid (cut s (x .index .from) (x .index .to)) (x .lines) ch removal (lent (back o1 a o2) (a + b)) o3 c
+      → IndexLaid (cut s (x .index .from) (x .index .to)) (x .lines) words removal (lent (back o1 a o2) (a + b)) o3 c
       → length (part s (x .index .to) (length s - x .index .to)) ≤ length (lent (back (back o1 a o2) (a + b) o3) (a + b + c))
   rest-fits {o1} {o2} {o3} {a} {b} {c} H K I =
       let p = t .placed .at in
@@ -83,18 +82,18 @@ module _ {s : List ℕ} {x : Site} {ch : Change} {removal : List ℕ} {m : Sizes
       rest-into s (back (back o1 a o2) (a + b) o3) (x .index .to) (a + b + c) (omega (arith, r, laid-same L (omega (arith, r))))
 
   -- the whole, and the buffer behind it
-  pub whole : {after : List ℕ} {n : ℕ} → Rebuilt s x ch removal m out after n → (n ≡ m .bytes) × (length after ≡ length out)
+  pub whole : {after : List ℕ} {n : ℕ} → Rebuilt s x words removal m out after n → (n ≡ m .bytes) × (length after ≡ length out)
   whole R =
       let p = t .placed in
       let L = R .is (p .value) (p .view) (p .reads) (p .at) (t .sizes) in
       let e : _ ≡ m .bytes = L .count ∙ stored-long _ ∙ sym (t .sizes .bytes) in
       (e, laid-same L (omega (arith, e, t .room)))
 
-module _ {s : List ℕ} {x : Site} {ch : Change} {removal : List ℕ} {m : Sizes} (f : All Byte s) {o o1 : List ℕ} {a : ℕ} (H : HeadLaid s (x .skeleton .from - 2) (m .bytes) o o1 a)
+module _ {s : List ℕ} {x : Site} {words removal : List ℕ} {m : Sizes} (f : All Byte s) {o o1 : List ℕ} {a : ℕ} (H : HeadLaid s (x .skeleton .from - 2) (m .bytes) o o1 a)
     {o2 : List ℕ} {b : ℕ} (K : SkeletonLaid (x .widths) (cut s (x .skeleton .from) (x .skeleton .to)) removal (lent o1 a) o2 b)
-    {o3 : List ℕ} {c : ℕ} (I : IndexLaid (cut s (x .index .from) (x .index .to)) (x .lines) ch removal (lent (back o1 a o2) (a + b)) o3 c)
+    {o3 : List ℕ} {c : ℕ} (I : IndexLaid (cut s (x .index .from) (x .index .to)) (x .lines) words removal (lent (back o1 a o2) (a + b)) o3 c)
     {o4 : List ℕ} {d : ℕ} (T : Laid (part s (x .index .to) (length s - x .index .to)) (lent (back (back o1 a o2) (a + b) o3) (a + b + c)) o4 d) where
-  pub rebuilt : Rebuilt s x ch removal m o (back (back (back o1 a o2) (a + b) o3) (a + b + c) o4) (a + b + c + d)
+  pub rebuilt : Rebuilt s x words removal m o (back (back (back o1 a o2) (a + b) o3) (a + b + c) o4) (a + b + c + d)
   rebuilt =
       record {
         is = λ r i e S z.
@@ -104,7 +103,7 @@ module _ {s : List ℕ} {x : Site} {ch : Change} {removal : List ℕ} {m : Sizes
             let g : part s (x .index .to) (length s - x .index .to) ≡ drop (x .index .to) s = take-all (length s - x .index .to) (drop (x .index .to) s) (omega (arith, length-drop (x .index .to) s)) in
             let all = laid-next (laid-next (laid-next H k) y) (rw g at T) in
             let w = r .head .scale .widths in
-            let q : ((headOf s (x .skeleton .from - 2) (m .bytes) ++ sized (keptBlock w removal (v .lines))) ++ sized (newIndexBlock removal ch (v .index))) ++ drop (x .index .to) s ≡ recordOut (newRecord removal ch i r) =
-            ap (λ (n : ℕ). ((headOf s (x .skeleton .from - 2) n ++ sized (keptBlock w removal (v .lines))) ++ sized (newIndexBlock removal ch (v .index))) ++ drop (x .index .to) s) (z .bytes) ∙ sym (spliced S (is-stored f e) removal ch) in
+            let q : ((headOf s (x .skeleton .from - 2) (m .bytes) ++ sized (keptBlock w removal (v .lines))) ++ sized (newIndexBlock removal words (v .index))) ++ drop (x .index .to) s ≡ recordOut (newRecord removal words i r) =
+            ap (λ (n : ℕ). ((headOf s (x .skeleton .from - 2) n ++ sized (keptBlock w removal (v .lines))) ++ sized (newIndexBlock removal words (v .index))) ++ drop (x .index .to) s) (z .bytes) ∙ sym (spliced S (is-stored f e) removal words) in
             subst (λ (ys : List ℕ). Laid ys o (back (back (back o1 a o2) (a + b) o3) (a + b + c) o4) (a + b + c + d)) q all;
       }

@@ -10,14 +10,13 @@ use Rattle.format.specs.Places.{viewAt, count}
 use Rattle.format.proofs.Laws.Record.{narrow}
 use Rattle.find_parts.proofs.Laws.Blocks.{cut, cut-long, few-lines}
 use Rattle.find_parts.proofs.Laws.Record.{record-apart}
-use Rattle.order_lists.specs.declared.lists.Change.{Change}
 use Rattle.order_record.specs.Blocks.{OldSkeleton, OldIndex}
 use Rattle.order_record.specs.Rebuilt.{Placed}
 use Rattle.find_parts.specs.declared.site.Site.{Site}
 
 -- ---- the blocks, cut out of the record
 
-module _ {s : List ℕ} {x : Site} {ch : Change} {removal : List ℕ} (t : Placed s x ch removal) where
+module _ {s : List ℕ} {x : Site} {words removal : List ℕ} (t : Placed s x words removal) where
   pub short : length s ≤ 32768
   short = record-apart s (t .reads) .short
 
@@ -36,7 +35,7 @@ module _ {s : List ℕ} {x : Site} {ch : Change} {removal : List ℕ} (t : Place
         count = t .at .count;
       }
 
-  unfoldable pub old-index : OldIndex (cut s (x .index .from) (x .index .to)) (x .lines) ch removal
+  unfoldable pub old-index : OldIndex (cut s (x .index .from) (x .index .to)) (x .lines) words removal
   old-index =
       record {
         short = omega (arith, short, cut-long (t .at .index), t .at .index .within);

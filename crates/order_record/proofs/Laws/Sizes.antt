@@ -1,29 +1,44 @@
--- How long the new record is: what code measures of the two blocks and of the rest is the size of the record that the order leaves.
-use Prim.Native.Nat.{ℕ, _+_, _-_, _≤_}
+-- How long the new record is: what code measures of the two blocks and of the rest is the size of the record that the order leaves. Words
+-- about pairs leave the skeleton as it is, so that the size is told by the new lists, and is at most what bounds for these say.
+use mathlib.Core.Path.{_≡_, ap, _∙_}
+use Prim.Native.Nat.{ℕ, _+_, _-_, _*_, _/_, _≤_}
 use native.Mathlib.Omega.{arith}
-use mathlib.Core.List.{List}
+use native.Mathlib.Nat.{mul-le-mul}
+use mathlib.Core.Option.{Option, some}
+use mathlib.Core.List.{List, []}
 use lib.ListN.{length}
-use Rattle.bits.specs.Lists.{All}
-use Rattle.bits.specs.Bytes.{Byte}
+use Rattle.bits.specs.Lists.{All, total}
+use Rattle.bits.specs.Bytes.{Byte, inBytes}
+use Rattle.format.specs.Line.{Line, skeleton}
+use Rattle.format.specs.Index.{Index}
+use Rattle.format.specs.Record.{Record, size}
 use Rattle.format.specs.Places.{viewAt}
-use Rattle.find_parts.proofs.Laws.Blocks.{cut}
+use Rattle.format.specs.declared.Widths.{Widths}
+use Rattle.find_parts.specs.Stands.{BlockAt}
+use Rattle.find_parts.specs.Stored.{recordOut}
+use Rattle.find_parts.specs.Site.{SiteOf}
+use Rattle.find_parts.proofs.Laws.Blocks.{cut, block-bits, block-long}
 use Rattle.put_record.proofs.Laws.{is-stored}
-use Rattle.order_lists.specs.declared.lists.Change.{Change}
+use Rattle.orders.specs.Least.{leastWidth}
+use Rattle.order_removal.proofs.Laws.Kept.{kept-all}
+use Rattle.order_lists.specs.Index.{left}
 use Rattle.order_lists.specs.declared.index.Size.{Size}
-use Rattle.order_record.specs.Blocks.{SkeletonMeasured, IndexMeasured}
-use Rattle.order_record.specs.Rebuilt.{Placed, Measured}
+use Rattle.order_lists.proofs.Laws.Index.{new-long}
+use Rattle.order_lines.specs.Lines.{keptBlock}
+use Rattle.order_record.specs.Blocks.{newIndexBlock, SkeletonMeasured, IndexMeasured}
+use Rattle.order_record.specs.Rebuilt.{newRecord, Placed, Measured}
 use Rattle.find_parts.specs.declared.site.Site.{Site}
 use Rattle.order_record.proofs.Laws.Skeleton.{skeleton-fewer}
 use Rattle.order_record.proofs.Laws.Site.{old-skeleton}
 use Rattle.order_record.proofs.Laws.Splice.{new-size}
 
-module _ {s : List ℕ} {x : Site} {ch : Change} {removal : List ℕ} (t : Placed s x ch removal) (f : All Byte s) {n : ℕ} (A : SkeletonMeasured (x .widths) (cut s (x .skeleton .from) (x .skeleton .to)) removal n) where
+module _ {s : List ℕ} {x : Site} {words removal : List ℕ} (t : Placed s x words removal) (f : All Byte s) {n : ℕ} (A : SkeletonMeasured (x .widths) (cut s (x .skeleton .from) (x .skeleton .to)) removal n) where
   -- a skeleton becomes no longer
   pub skeleton-small : n ≤ 65535
   skeleton-small = omega (arith, skeleton-fewer (old-skeleton t f) A)
 
-  pub measured : {z : Size} → IndexMeasured (cut s (x .index .from) (x .index .to)) (x .lines) ch removal z
-      → Measured s x ch removal (record { skeleton = n; width = z .width; index = z .bytes; bytes = x .skeleton .from + n + 2 + z .bytes + (length s - x .index .to) })
+  pub measured : {z : Size} → IndexMeasured (cut s (x .index .from) (x .index .to)) (x .lines) words removal z
+      → Measured s x words removal (record { skeleton = n; width = z .width; index = z .bytes; bytes = x .skeleton .from + n + 2 + z .bytes + (length s - x .index .to) })
   measured {z} B =
       record {
         is = λ r i e S.
@@ -32,6 +47,31 @@ module _ {s : List ℕ} {x : Site} {ch : Change} {removal : List ℕ} (t : Place
             record {
               skeleton = a;
               index = b;
-              bytes = omega (arith, a, b .bytes, new-size S (is-stored f e) removal ch);
+              bytes = omega (arith, a, b .bytes, new-size S (is-stored f e) removal words);
             };
       }
+
+-- ---- after words about pairs
+
+module _ {r : Record} {s : List ℕ} {i : ℕ} {x : Site} (S : SiteOf r s i x) (e : s ≡ recordOut r) where
+  skeleton-long : x .skeleton .from + length (keptBlock (r .head .scale .widths) [] (viewAt r i .lines)) ≡ x .skeleton .to
+  skeleton-long =
+      let w : Widths = r .head .scale .widths in
+      let ls : List Line = viewAt r i .lines in
+      let L : BlockAt (skeleton w) s (x .skeleton .from) (x .skeleton .to) ls = rw (S .widths) at (S .lines) in
+      let k = ap (λ (xs : List Line). length (inBytes (skeleton w .enc xs))) (kept-all 0 ls) in
+      omega (arith, k, L .from, block-bits L, block-long (skeleton w) ls)
+
+  -- ls are the lists that the words leave
+  module _ (words : List ℕ) {j : Index} (z : viewAt r i .index ≡ some j) {ls : List (List ℕ)} (q : left [] words j ≡ ls) where
+    pub words-size : size (newRecord [] words i r) ≡ x .index .from + (8 + (length ls + total length ls) * leastWidth ls + 7) / 8 + (length s - x .index .to)
+    words-size =
+        let y : length (newIndexBlock [] words (viewAt r i .index)) ≡ (8 + (length ls + total length ls) * leastWidth ls + 7) / 8 =
+        ap (λ (o : Option Index). length (newIndexBlock [] words o)) z ∙ new-long (left [] words j)
+        ∙ ap (λ (ks : List (List ℕ)). (8 + (length ks + total length ks) * leastWidth ks + 7) / 8) q in
+        omega (arith, new-size S e [] words, skeleton-long, S .next, y)
+
+    -- so many numbers at most, of so many bits at most
+    pub words-most : {numbers width : ℕ} → length ls + total length ls ≤ numbers → leastWidth ls ≤ width
+        → size (newRecord [] words i r) ≤ x .index .from + (8 + numbers * width + 7) / 8 + (length s - x .index .to)
+    words-most a b = omega (arith, words-size, mul-le-mul a b)

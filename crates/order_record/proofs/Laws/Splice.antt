@@ -21,7 +21,6 @@ use Rattle.find_parts.proofs.Laws.Written.{stored-long}
 use Rattle.put_record.specs.Head.{headOf}
 use Rattle.put_record.proofs.Laws.{Around}
 use Rattle.put_record.proofs.Laws as put
-use Rattle.order_lists.specs.declared.lists.Change.{Change}
 use Rattle.order_lines.specs.Lines.{keptBlock}
 use Rattle.find_parts.specs.Site.{SiteOf}
 use Rattle.order_record.specs.Blocks.{newIndexBlock}
@@ -70,17 +69,17 @@ module _ {r : Record} {s : List ℕ} {i : ℕ} {x : Site} (S : SiteOf r s i x) w
           end = blocks-long;
         }
 
-    pub spliced : (removal : List ℕ) (ch : Change) → recordOut (newRecord removal ch i r)
-        ≡ ((headOf s (x .skeleton .from - 2) (size (newRecord removal ch i r)) ++ sized (keptBlock (r .head .scale .widths) removal (viewAt r i .lines)))
-        ++ sized (newIndexBlock removal ch (viewAt r i .index))) ++ drop (x .index .to) s
+    pub spliced : (removal words : List ℕ) → recordOut (newRecord removal words i r)
+        ≡ ((headOf s (x .skeleton .from - 2) (size (newRecord removal words i r)) ++ sized (keptBlock (r .head .scale .widths) removal (viewAt r i .lines)))
+        ++ sized (newIndexBlock removal words (viewAt r i .index))) ++ drop (x .index .to) s
     unfolding newRecord newView
-    spliced removal ch =
+    spliced removal words =
         let w : Widths = r .head .scale .widths in
-        let u : View = newView removal ch (viewAt r i) in
-        let n : ℕ = size (newRecord removal ch i r) in
+        let u : View = newView removal words (viewAt r i) in
+        let n : ℕ = size (newRecord removal words i r) in
         let A : List ℕ = sizedOut (skeleton w) (u .lines) in
         let B : List ℕ = sizedOut (indexBlock (length (u .lines))) (u .index) in
-        let b : B ≡ sized (newIndexBlock removal ch (viewAt r i .index)) = ap (λ bits. sized (inBytes bits)) (index-bytes (length (u .lines)) (u .index)) in
+        let b : B ≡ sized (newIndexBlock removal words (viewAt r i .index)) = ap (λ bits. sized (inBytes bits)) (index-bytes (length (u .lines)) (u .index)) in
         let h : List ℕ = headOf s (x .skeleton .from - 2) n in
         around r i (S .there) u ∙ between w u (ahead r i n) (behind r i) ∙ put.spliced old n (A ++ B)
         ∙ ap (λ (y : List ℕ). y ++ drop (x .index .to) s) (sym (append-assoc h A B) ∙ ap (λ (y : List ℕ). (h ++ A) ++ y) b)
@@ -90,16 +89,16 @@ module _ {r : Record} {s : List ℕ} {i : ℕ} {x : Site} (S : SiteOf r s i x) w
     pub head-long : (n : ℕ) → length (headOf s (x .skeleton .from - 2) n) ≡ x .skeleton .from - 2
     head-long n = put.head-long old n
 
-    pub new-size : (removal : List ℕ) (ch : Change) → size (newRecord removal ch i r)
-        ≡ x .skeleton .from + length (keptBlock (r .head .scale .widths) removal (viewAt r i .lines)) + 2 + length (newIndexBlock removal ch (viewAt r i .index)) + (length s - x .index .to)
-    new-size removal ch =
-        let n : ℕ = size (newRecord removal ch i r) in
+    pub new-size : (removal words : List ℕ) → size (newRecord removal words i r)
+        ≡ x .skeleton .from + length (keptBlock (r .head .scale .widths) removal (viewAt r i .lines)) + 2 + length (newIndexBlock removal words (viewAt r i .index)) + (length s - x .index .to)
+    new-size removal words =
+        let n : ℕ = size (newRecord removal words i r) in
         let a : List ℕ = headOf s (x .skeleton .from - 2) n in
         let b : List ℕ = sized (keptBlock (r .head .scale .widths) removal (viewAt r i .lines)) in
-        let c : List ℕ = sized (newIndexBlock removal ch (viewAt r i .index)) in
+        let c : List ℕ = sized (newIndexBlock removal words (viewAt r i .index)) in
         omega (
           arith,
-          sym (stored-long (newRecord removal ch i r)) ∙ ap length (spliced removal ch),
+          sym (stored-long (newRecord removal words i r)) ∙ ap length (spliced removal words),
           length-append ((a ++ b) ++ c) (drop (x .index .to) s),
           length-append (a ++ b) c,
           length-append a b,

@@ -1,14 +1,12 @@
 -- What a removal leaves, value by value, is what the survivors have: the definition goes by the survivors' old numbers, the code by
 -- the lines.
 use mathlib.Core.Path.{_≡_, refl, ap, ap₂, _∙_}
-use mathlib.Core.Logic.{_≢_}
 use Prim.Native.Nat.{ℕ, suc, _+_, _-_, _≤_, _<_}
 use native.Mathlib.Omega.{arith}
 use mathlib.Core.Bool.{Bool, true, false}
 use mathlib.Core.List.{List, [], _∷_, map}
-use lib.ListN.{length, getD, set}
+use lib.ListN.{length, getD}
 use Rattle.bits.specs.Choice.{pick}
-use Rattle.bits.specs.ChoiceLaws.{eq-split}
 use Rattle.orders.specs.Survive.{elem, upFrom, without, survivors, RisesFrom}
 use Rattle.orders.proofs.Laws.Survive.{upFrom-rises, without-rises}
 use Rattle.order_removal.specs.Kept.{kept}
@@ -49,23 +47,7 @@ kept-survivors g d rs xs =
     ∙ map-rises (λ j. g (getD xs (j - 0) d)) (λ j. g (getD xs j d)) 0 (survivors (length xs) rs) (without-rises 0 rs (upFrom 0 (length xs)) (upFrom-rises 0 (length xs)))
     (λ j l. let z : j - 0 ≡ j = omega arith in rw z refl)
 
--- ---- where no line is removed, and one line's value changes, or none
-
+-- where no line is removed
 pub kept-all : {A : Type 0} (i : ℕ) (xs : List A) → kept (λ j x. x) [] i xs ≡ xs
 kept-all i [] = refl
 kept-all i (x ∷ xs) = ap (λ ys. x ∷ ys) (kept-all (suc i) xs)
-
-module _ {A : Type 0} (f : ℕ → A → A) (d : A) (hi : ℕ) (same : (l : ℕ) (x : A) → l ≢ hi → f l x ≡ x) where
-  kept-behind : (l : ℕ) (xs : List A) → hi < l → kept f [] l xs ≡ xs
-  kept-behind l [] k = refl
-  kept-behind l (x ∷ xs) k = ap₂ (λ (a : A) (b : List A). a ∷ b) (same l x (λ e. omega arith)) (kept-behind (suc l) xs (omega arith))
-
-  pub kept-set : (l : ℕ) (xs : List A) → l ≤ hi → kept f [] l xs ≡ set xs (hi - l) (f hi (getD xs (hi - l) d))
-  kept-set l [] k = refl
-  kept-set l (x ∷ xs) k =
-      eq-split l hi
-      (λ e. let z : hi - l ≡ 0 = omega arith in
-      rw z (ap₂ (λ (a : A) (b : List A). a ∷ b) (ap (λ (m : ℕ). f m x) e) (kept-behind (suc l) xs (omega arith))))
-      (λ n. let lt : suc l ≤ hi = omega arith in
-      let z : hi - l ≡ suc (hi - suc l) = omega arith in
-      rw z (ap₂ (λ (a : A) (b : List A). a ∷ b) (same l x n) (kept-set (suc l) xs lt)))

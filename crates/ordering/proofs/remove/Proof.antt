@@ -3,9 +3,6 @@
 use native.Mathlib.Omega.{arith}
 use mathlib.Core.Path.{_≡_, sym, _∙_, subst}
 use mathlib.Core.Bool.{true}
-use Rattle.bits.specs.Lists.{All}
-use Rattle.bits.specs.Bytes.{Byte}
-use Rattle.bits.proofs.Laws.Place.{all-bytes}
 use Rattle.outcome.proofs.Laws.{answer-refused}
 use Rattle.orders.specs.Listed.{removalLines}
 use Rattle.orders.specs.Act.{remove}
@@ -13,15 +10,11 @@ use Rattle.orders.specs.Order.{linesOk}
 use Rattle.find_parts.proofs.Laws.Blocks.{block-there}
 use Rattle.find_parts.proofs.Laws.Record.{record-apart}
 use Rattle.order_view.specs.Named.{Named, ViewNamed}
-use Rattle.orders.specs.Called.{removalOrder}
 use Rattle.order_view.specs.declared.NamedView.{NamedView}
-use Rattle.ordering.proofs.Laws.View.{tested, placed, bad-lines, rises, other-type, removal-passes, removal-means}
+use Rattle.ordering.proofs.Laws.Removal.{bad-lines, other-type, removal-placed, removal-done}
 use borrow.Author.Needs.{needs}
 use Rattle.ordering.proofs.remove.Statement.{statement}
 use Rattle.ordering.proofs.remove.Tie as tie
-
-bytes : (c : tie.After-shared-slice-known) → All Byte (c .before .args .bytes .now)
-bytes c = all-bytes (c .before .args .bytes .now) (λ i. c .shared-slice-known .given i .fits)
 
 found : (c : tie.After-site) → Named (c .before .before .before .before .before .before .args .bytes .now) (c .before .before .before .before .before .before .args .view) (c .before .before .before .before .before .before .args .count) (c .site .given .0 .0)
 found c = subst (λ (r : NamedView). ViewNamed (c .before .before .before .before .before .before .args .bytes .now) (c .before .before .before .before .before .before .args .view) (c .before .before .before .before .before .before .args .count) r) (c .site .given .1) (c .before .before .named-view .ensures)
@@ -60,13 +53,18 @@ only-quality-requires : tie.Need-only-quality-requires
 only-quality-requires c κs =
     let f = found (c .before .before .before .before) in block-there (record-apart _ (f .reads) .short) (f .at .segments)
 
+sub-carry-out : tie.Need-sub-carry-out
+sub-carry-out c = search needs
+
+part-carry-out-start : tie.Need-part-carry-out-start
+part-carry-out-start c = search needs
+
+part-carry-out-end : tie.Need-part-carry-out-end
+part-carry-out-end c = search needs
+
 carry-out-requires : tie.Need-carry-out-requires
 carry-out-requires c κs =
-    let f = found (c .before .before .before .before .before .before .before) in
-    let l = c .before .before .before .before .before .before .before .before .before .before .before .before .before .args .removal .now in
-    let g = good (c .before .before .before .before) in
-    let b = bytes (c .before .before .before .before .before .before .before .before .before .before .before .before) in
-    placed f b (rises f l g) (removal-means f l g b) (removal-passes f l g (c .before .before .only-quality .ensures) (c .before .if2 .taken))
+    removal-placed (found (c .before .before .before .before .before .before .before .before)) (c .before .before .before .before .before .before .before .before .before .before .before .before .before .before .args .removal .now) (good (c .before .before .before .before .before)) (c .before .before .before .only-quality .ensures) (c .before .before .if2 .taken)
 
 refuse-requires : tie.Need-refuse-requires
 refuse-requires c κs = search needs
@@ -76,17 +74,14 @@ refuse-requires-2 c κs = search needs
 
 returns : tie.Need-returns
 returns c =
-    rw (c .refuse-at .ensures) (answer-refused (λ xs. xs) _ (c .before .before .before .before .before .before .before .before .args .out .now) (subst (λ (r : NamedView). ViewNamed (c .before .before .before .before .before .before .before .before .args .bytes .now) (c .before .before .before .before .before .before .before .before .args .view) (c .before .before .before .before .before .before .before .before .args .count) r) (c .before .before .number .given .1) (c .before .before .before .before .named-view .ensures) (remove (removalLines (c .before .before .before .before .before .before .before .before .args .removal .now)))))
+    rw (c .refuse-at .ensures) (answer-refused (λ xs. xs) _ (c .before .before .before .before .before .before .before .before .args .out .now) (subst (λ (r : NamedView). ViewNamed (c .before .before .before .before .before .before .before .before .args .bytes .now) (c .before .before .before .before .before .before .before .before .args .view) (c .before .before .before .before .before .before .before .before .args .count) r) (c .before .before .number .given .1) (c .before .before .before .before .named-view .ensures) .order (remove (removalLines (c .before .before .before .before .before .before .before .before .args .removal .now)))))
 
 same-length : tie.Need-same-length
 same-length c = search needs
 
 returns-2 : tie.Need-returns-2
 returns-2 c =
-    let f = found (c .before .before .before .before .before .before .before .before .before .before) in
-    let l = c .before .before .before .before .before .before .before .before .before .before .before .before .before .before .before .before .args .removal .now in
-    let g = good (c .before .before .before .before .before .before .before) in
-    c .before .before .carry-out .ensures .is (removalOrder (c .before .before .before .before .before .before .before .before .before .before .before .before .before .before .before .before .args .view) (c .before .before .before .before .before .before .before .before .before .before .before .before .before .before .before .before .args .count) l) (f .value) (f .reads) (f .at) (tested f (remove (removalLines l)) (removal-passes f l g (c .before .before .before .before .before .only-quality .ensures) (c .before .before .before .before .if2 .taken))) (removal-means f l g (bytes (c .before .before .before .before .before .before .before .before .before .before .before .before .before .before .before)))
+    removal-done (found (c .before .before .before .before .before .before .before .before .before .before .before)) (c .before .before .before .before .before .before .before .before .before .before .before .before .before .before .before .before .before .args .removal .now) (good (c .before .before .before .before .before .before .before .before)) (c .before .before .before .before .before .before .only-quality .ensures) (c .before .before .before .before .before .if2 .taken) (c .before .before .carry-out .ensures)
 
 returns-3 : tie.Need-returns-3
 returns-3 c =
@@ -109,6 +104,9 @@ remove-spec =
     part-only-quality-start
     part-only-quality-end
     only-quality-requires
+    sub-carry-out
+    part-carry-out-start
+    part-carry-out-end
     carry-out-requires
     refuse-requires
     refuse-requires-2

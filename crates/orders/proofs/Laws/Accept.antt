@@ -9,26 +9,28 @@ use lib.ListN.{length}
 use lib.Dec.{T, leb, ltb, eqb, leb→le, le→leb, ltb→lt, eqb→eq}
 use mir.Facts.{and-yes, yes-eqb, no-eqb}
 use Rattle.bits.specs.ChoiceLaws.{pick-yes, pick-no, pick-split}
+use Rattle.bits.specs.Lists.{All}
 use Rattle.bits.specs.ListsLaws.{all-front, all-rest, all-append}
 use Rattle.outcome.specs.Refusals.{otherCount}
+use Rattle.outcome.specs.Numbers.{among}
 use Rattle.format.specs.Limits.{mostBytes}
 use Rattle.format.specs.View.{View}
 use Rattle.format.specs.Record.{Record, size}
 use Rattle.format.specs.Places.{count, viewAt}
-use Rattle.orders.specs.Act.{Act}
 use Rattle.orders.specs.Order.{Order, edited, firstBad, tests, allTests, verdict, Pass, Accepted}
-use Rattle.orders.proofs.Laws.Numbers.{TestsBy, all-by, number-there}
+use Rattle.orders.proofs.Laws.Numbers.{numbersOf, all-by, number-there}
 
 -- ---- tests, one after another
 
-pass-zero : (ts : List (Bool × ℕ)) → Pass ts → firstBad ts ≡ 0
+pub pass-zero : (ts : List (Bool × ℕ)) → Pass ts → firstBad ts ≡ 0
 pass-zero [] h = refl
 pass-zero (t ∷ ts) h = pick-yes (t .0) _ _ (h .0) ∙ pass-zero ts (h .1)
 
 -- no test has the number 0, which says that all passed
-zero-pass : (a : Act) (ts : List (Bool × ℕ)) → TestsBy a ts → firstBad ts ≡ 0 → Pass ts
-zero-pass a [] n p = tt
-zero-pass a (t ∷ ts) n p = pick-split (t .0) _ _ p (λ u e. (u, zero-pass a ts (n .1) e)) (λ u e. absurd (number-there a (t .1) (n .0) e))
+pub zero-pass : (P : ℕ → Type 0) → ((e : ℕ) → P e → e ≢ 0) → (ts : List (Bool × ℕ)) → All (λ t. P (t .1)) ts → firstBad ts ≡ 0
+    → Pass ts
+zero-pass P f [] n p = tt
+zero-pass P f (t ∷ ts) n p = pick-split (t .0) _ _ p (λ u e. (u, zero-pass P f ts (n .1) e)) (λ u e. absurd (f (t .1) (n .0) e))
 
 -- what the test of a pair's lines says
 pub both-lines : (a b n : ℕ) → T (ltb a n && ltb b n) → (a < n) × (b < n)
@@ -39,7 +41,7 @@ both-lines a b n t = let (h, k) = and-yes (ltb a n) (ltb b n) t in (ltb→lt a n
 pub accepted : (o : Order) (r : Record) → o .view < length (r .views) → verdict o r ≡ 0 → Accepted o r
 unfolding verdict allTests
 accepted o r l p =
-    let h = zero-pass (o .act) (allTests o r) (all-by o r) p in
+    let h = zero-pass (λ e. T (among (numbersOf (o .act)) e)) (number-there (o .act)) (allTests o r) (all-by o r) p in
     let v : View = viewAt r (o .view) in
     record {
       place = l;

@@ -16,28 +16,29 @@ use Rattle.format.proofs.Laws.Call.{given-view}
 use Rattle.format.proofs.Laws.Record.{read-back}
 use Rattle.orders.specs.Act.{remove}
 use Rattle.orders.specs.Order.{Order, ordered, order, holds}
-use Rattle.orders.specs.History.{Call, outcome, nowHolds, run}
+use Rattle.orders.specs.History.{Call, nowHolds}
+use Rattle.orders.specs.AnyCall.{AnyCall, one, asked, lentFor, outcomeOf, runAny, singles}
 use Rattle.orders.specs.Kept.{Kept}
 use Rattle.orders.specs.Made.{Made, MadeAll}
-use Rattle.orders.proofs.Laws.Holds.{order-told, holds-now}
-use Rattle.orders.proofs.Laws.Sequence.{orders-follow, removal-again}
+use Rattle.orders.proofs.Laws.Holds.{order-told}
+use Rattle.orders.proofs.Laws.AnyCalls.{holds-now, any-follow, removal-again}
 
 -- what the answer says is what the outcome has
-answered : (o : Order) (old : List ℕ) {before after : List ℕ} {a : Answer} → Answers (order o old) before after a
-    → holds old after (a .number) (a .length) ≡ nowHolds old (outcome (record { order = o; lent = length before }) old)
-unfolding outcome
-answered o old {before} h = rw (h .number, h .written, h .buffer) (holds-now (record { order = o; lent = length before }) old before)
+answered : (q : AnyCall) (old : List ℕ) {before after : List ℕ} {a : Answer} → length before ≡ lentFor q
+    → Answers (asked q old) before after a → holds old after (a .number) (a .length) ≡ nowHolds old (outcomeOf q old)
+unfolding outcomeOf
+answered q old {before} l h = rw (h .number, h .written, h .buffer, l) (holds-now q old before)
 
-made-is : (c : Call) (old new : List ℕ) → Made c old new → new ≡ nowHolds old (outcome c old)
-made-is c old new m = m .held ∙ (rw (m .lent) at (answered (c .order) old (m .answers)))
+made-is : (q : AnyCall) (old new : List ℕ) → Made q old new → new ≡ nowHolds old (outcomeOf q old)
+made-is q old new m = m .held ∙ answered q old (m .lent) (m .answers)
 
-pub calls-run : (cs : List Call) (bytes last : List ℕ) → MadeAll cs bytes last → last ≡ run cs bytes
+pub calls-run : (qs : List AnyCall) (bytes last : List ℕ) → MadeAll qs bytes last → last ≡ runAny qs bytes
 calls-run [] bytes last h = h
-calls-run (c ∷ cs) bytes last (new, m, h) = calls-run cs new last h ∙ ap (run cs) (made-is c bytes new m)
+calls-run (q ∷ qs) bytes last (new, m, h) = calls-run qs new last h ∙ ap (runAny qs) (made-is q bytes new m)
 
-pub calls-follow : (cs : List Call) (bytes last : List ℕ) (r : Record) → All Byte bytes → read bytes ≡ got r [] → MadeAll cs bytes last
-    → Kept cs r bytes last
-calls-follow cs bytes last r f e h = rw (calls-run cs bytes last h) (orders-follow cs bytes r f e)
+pub calls-follow : (qs : List AnyCall) (bytes last : List ℕ) (r : Record) → All Byte bytes → read bytes ≡ got r []
+    → MadeAll qs bytes last → Kept (singles qs bytes) r bytes last
+calls-follow qs bytes last r f e h = rw (calls-run qs bytes last h) (any-follow qs bytes r f e)
 
 -- ---- the same removal twice
 
@@ -55,11 +56,11 @@ module _ (o : Order) {rs : List ℕ} (q : o .act ≡ remove rs) (bytes : List �
       k r (e ∙ ap (got r) m)
 
   pub again-refused : (n : ℕ) → room n (order o now) ≡ refused otherCount 0
-  unfolding outcome
+  unfolding outcomeOf
   again-refused n =
       an-accepted λ r e.
       let c : Call = record { order = o; lent = length before } in
-      rw (answered o bytes h) (removal-again [] c [] rs bytes r f e q (sym (h .number) ∙ z) n)
+      rw (answered (one c) bytes refl h) (removal-again [] c [] rs bytes r f e q (sym (h .number) ∙ z) n)
 
   pub repeated : {before₂ after₂ : List ℕ} {b : Answer} → Answers (order o now) before₂ after₂ b
       → (b ≡ record { number = otherCount; place = 0; length = 0 }) × (after₂ ≡ before₂) × (holds now after₂ (b .number) (b .length) ≡ now)

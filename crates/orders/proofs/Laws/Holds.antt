@@ -10,24 +10,22 @@ use lib.Dec.{leb, le→leb}
 use lib.Seq.{take-append-seam}
 use Rattle.bits.specs.ChoiceLaws.{pick-yes, eqb-false}
 use Rattle.outcome.specs.Outcome.{Outcome, refused, given, numberOf, lengthOf, laid}
+use Rattle.outcome.proofs.Refused.{Refused}
 use Rattle.outcome.proofs.Numbers.{RefusedBy}
 use Rattle.orders.specs.Order.{Order, order, holds}
-use Rattle.orders.specs.History.{Call, outcome, nowHolds}
-use Rattle.orders.proofs.Laws.Numbers.{numbersOf, number-there, order-by, outcome-by}
+use Rattle.orders.specs.History.{nowHolds}
+use Rattle.orders.proofs.Laws.Numbers.{numbersOf, number-there, order-by}
 
 -- no refusal has the number 0
 pub order-told : (o : Order) (bytes : List ℕ) (e p : ℕ) → order o bytes ≡ refused e p → e ≢ 0
 order-told o bytes e p q = number-there (o .act) e (subst (RefusedBy (numbersOf (o .act))) q (order-by o bytes))
 
 -- second: what the second buffer held before the call
-pub holds-now : (c : Call) (bytes second : List ℕ)
-    → holds bytes (laid second (outcome c bytes)) (numberOf (outcome c bytes)) (lengthOf (outcome c bytes)) ≡ nowHolds bytes (outcome c bytes)
+pub laid-holds : (bytes second : List ℕ) (o : Outcome ℕ) → Refused (λ e p. e ≢ 0) o
+    → holds bytes (laid second o) (numberOf o) (lengthOf o) ≡ nowHolds bytes o
 unfolding holds
-holds-now c bytes second = go (outcome c bytes) (outcome-by c bytes)
-  where
-    go : (o : Outcome ℕ) → RefusedBy (numbersOf (c .order .act)) o → holds bytes (laid second o) (numberOf o) (lengthOf o) ≡ nowHolds bytes o
-    go (refused e p) h = rw (eqb-false e 0 (number-there (c .order .act) e h))
-    go (given xs) h =
-        let l : length xs ≤ length (xs ++ drop (length xs) second) = simp length-append (omega arith) in
-        pick-yes (leb (length xs) (length (xs ++ drop (length xs) second))) _ _ (le→leb (length xs) _ l)
-        ∙ take-append-seam xs (drop (length xs) second)
+laid-holds bytes second (refused e p) h = rw (eqb-false e 0 h)
+laid-holds bytes second (given xs) h =
+    let l : length xs ≤ length (xs ++ drop (length xs) second) = simp length-append (omega arith) in
+    pick-yes (leb (length xs) (length (xs ++ drop (length xs) second))) _ _ (le→leb (length xs) _ l)
+    ∙ take-append-seam xs (drop (length xs) second)

@@ -60,7 +60,7 @@ pub number-there : (a : Act) (e : ℕ) → T (among (numbersOf a) e) → e ≢ 0
 number-there a = not-zero (numbersOf a) (both (λ ns. T (not (among ns 0))) tt tt a)
 
 -- what is so of every test's number is so of the first that fails
-first-of : (P : ℕ → Type 0) (ts : List (Bool × ℕ)) → All (λ t. P (t .1)) ts → firstBad ts ≢ 0 → P (firstBad ts)
+pub first-of : (P : ℕ → Type 0) (ts : List (Bool × ℕ)) → All (λ t. P (t .1)) ts → firstBad ts ≢ 0 → P (firstBad ts)
 first-of P [] h n = absurd (n refl)
 first-of P (t ∷ ts) h n = pick-case (λ (x : ℕ). x ≢ 0 → P x) (t .0) _ _ (λ u. first-of P ts (h .1)) (λ u _. h .0) n
 

@@ -19,7 +19,7 @@ use Rattle.format.proofs.Laws.Call.{on-view}
 use Rattle.orders.specs.Order.{Order, edited, firstBad, tests, allTests, verdict, Pass, ordered, order}
 
 -- those before it pass
-first-fail : (ts : List (Bool × ℕ)) (b : Bool) (n : ℕ) (us : List (Bool × ℕ)) → Pass ts → T (not b) → firstBad (ts ++ (b, n) ∷ us) ≡ n
+pub first-fail : (ts : List (Bool × ℕ)) (b : Bool) (n : ℕ) (us : List (Bool × ℕ)) → Pass ts → T (not b) → firstBad (ts ++ (b, n) ∷ us) ≡ n
 first-fail [] b n us h k = pick-no b _ _ k
 first-fail (t ∷ ts) b n us h k = pick-yes (t .0) _ _ (h .0) ∙ first-fail ts b n us (h .1) k
 
@@ -31,19 +31,20 @@ module _ (o : Order) (r : Record) where
     abbrev last : Bool
     last = leb (size (edited o r)) mostBytes
 
-    behind : verdict o r ≡ firstBad (own ++ (last, tooLong) ∷ [])
+    -- the count is right: the first of the others that fails gives the number
+    pub verdict-behind : verdict o r ≡ firstBad (own ++ (last, tooLong) ∷ [])
     unfolding verdict allTests
-    behind = pick-yes (eqb (count (viewAt r (o .view))) (o .count)) _ _ (yes-eqb c)
+    verdict-behind = pick-yes (eqb (count (viewAt r (o .view))) (o .count)) _ _ (yes-eqb c)
 
     -- one of the order's own tests fails
     pub verdict-own : (ts : List (Bool × ℕ)) (b : Bool) (n : ℕ) (us : List (Bool × ℕ)) → tests (o .act) (viewAt r (o .view)) ≡ ts ++ (b, n) ∷ us → Pass ts → T (not b)
         → verdict o r ≡ n
     verdict-own ts b n us e h k =
-        behind ∙ ap (λ (xs : List (Bool × ℕ)). firstBad (xs ++ (last, tooLong) ∷ [])) e ∙ ap firstBad (append-assoc ts ((b, n) ∷ us) ((last, tooLong) ∷ []))
+        verdict-behind ∙ ap (λ (xs : List (Bool × ℕ)). firstBad (xs ++ (last, tooLong) ∷ [])) e ∙ ap firstBad (append-assoc ts ((b, n) ∷ us) ((last, tooLong) ∷ []))
         ∙ first-fail ts b n (us ++ (last, tooLong) ∷ []) h k
 
     pub verdict-long : Pass own → mostBytes < size (edited o r) → verdict o r ≡ tooLong
-    verdict-long h k = behind ∙ first-fail own last tooLong [] h (no-leb k)
+    verdict-long h k = verdict-behind ∙ first-fail own last tooLong [] h (no-leb k)
 
 -- ---- the call on a record
 

@@ -36,35 +36,27 @@ use Rattle.orders.proofs.Laws.Story.{follows-fresh, follows-act, follow
 
 module _ (c : Call) (bytes : List ℕ) (r : Record) (p : read bytes ≡ got r []) where
   -- the view is there
-  outcome-is : c .order .view < length (r .views) → outcome c bytes ≡ room (c .lent) (ordered (c .order) r)
+  pub outcome-is : c .order .view < length (r .views) → outcome c bytes ≡ room (c .lent) (ordered (c .order) r)
   unfolding outcome order
   outcome-is l = ap (room (c .lent)) (on-view (c .order .view) (λ i. ordered (c .order)) bytes p l)
 
-  outcome-none : length (r .views) ≤ c .order .view → outcome c bytes ≡ refused noView 0
+  pub outcome-none : length (r .views) ≤ c .order .view → outcome c bytes ≡ refused noView 0
   unfolding outcome order
   outcome-none l = ap (room (c .lent)) (no-view (c .order .view) (λ i. ordered (c .order)) bytes p l)
 
-  -- it gives the edited record, or is refused
-  outcome-split : {X : Type 0} → (Accepted (c .order) r → outcome c bytes ≡ given (write (edited (c .order) r)) → X)
-      → ((e p : ℕ) → e ≢ 0 → outcome c bytes ≡ refused e p → X) → X
+  -- it gives the edited record, or is refused, without a place
+  pub outcome-split : {X : Type 0} → (Accepted (c .order) r → outcome c bytes ≡ given (write (edited (c .order) r)) → X)
+      → ((e : ℕ) → e ≢ 0 → outcome c bytes ≡ refused e 0 → X) → X
   outcome-split {X} f g =
       let n : ℕ = verdict (c .order) r in
       let new : List ℕ = write (edited (c .order) r) in
       split (length (r .views)) (c .order .view)
-      (λ l. g noView 0 (omega arith) (outcome-none l))
+      (λ l. g noView (omega arith) (outcome-none l))
       (λ l. pick-case (λ (o : Outcome ℕ). outcome c bytes ≡ room (c .lent) o → X) (eqb n 0) _ _
       (λ t. pick-case (λ (o : Outcome ℕ). outcome c bytes ≡ o → X) (leb (length new) (c .lent)) _ _
-      (λ u e. f (accepted (c .order) r l (eqb→eq n 0 t)) e) (λ u e. g noRoom 0 (omega arith) e))
-      (λ t e. g n 0 (eqb-no t) e)
+      (λ u e. f (accepted (c .order) r l (eqb→eq n 0 t)) e) (λ u e. g noRoom (omega arith) e))
+      (λ t e. g n (eqb-no t) e)
       (outcome-is l))
-
--- a refused order changes nothing
-pub refused-stays : (c : Call) (bytes : List ℕ) → numberOf (outcome c bytes) ≢ 0 → nowHolds bytes (outcome c bytes) ≡ bytes
-refused-stays c bytes n = go (outcome c bytes) n
-  where
-    go : (o : Outcome ℕ) → numberOf o ≢ 0 → nowHolds bytes o ≡ bytes
-    go (refused e p) n = refl
-    go (given new) n = absurd (n refl)
 
 -- ---- a sequence
 
@@ -98,7 +90,7 @@ runs-one c bytes r a p =
           (follows-act v₀ (viewAt r (o .view)) h (o .act) (allowed-right r a (o .view) (b .place)) (b .passes) (rw q f)))
           (λ n. rw (eqb-false (o .view) i n, edited-other o r i (λ q. n (sym q))) f));
     })
-    (λ n m d e. record {
+    (λ n d e. record {
       last = r;
       reads = rw e p;
       allowed = a;
@@ -127,7 +119,7 @@ run-bytes : (cs : List Call) (bytes : List ℕ) (r : Record) → Allowed r → r
 run-bytes [] bytes r a p h = h
 run-bytes (c ∷ cs) bytes r a p h =
     let n : Runs (c ∷ []) r bytes = runs-one c bytes r a p in
-    let k : All Byte (nowHolds bytes (outcome c bytes)) = outcome-split c bytes r p (λ z e. rw e (write-bytes (edited (c .order) r))) (λ m l d e. rw e h) in
+    let k : All Byte (nowHolds bytes (outcome c bytes)) = outcome-split c bytes r p (λ z e. rw e (write-bytes (edited (c .order) r))) (λ m d e. rw e h) in
     run-bytes cs (nowHolds bytes (outcome c bytes)) (n .last) (n .allowed) (n .reads) k
 
 -- ---- the theorem
@@ -174,7 +166,7 @@ removal-refused o rs cs r n a e b =
     let other : verdict o (m .last) ≡ otherCount = verdict-count o (m .last) (omega (arith, follows-count _ _ _ f, b .count)) in
     outcome-is (record { order = o; lent = n }) (run cs (write x)) (m .last) (m .reads) there ∙ rw other
 
-run-append : (before after : List Call) (bytes : List ℕ) → run (before ++ after) bytes ≡ run after (run before bytes)
+pub run-append : (before after : List Call) (bytes : List ℕ) → run (before ++ after) bytes ≡ run after (run before bytes)
 run-append [] after bytes = refl
 run-append (c ∷ before) after bytes = run-append before after (nowHolds bytes (outcome c bytes))
 
@@ -186,4 +178,4 @@ removal-again before c after rs bytes r h p e z n =
     let m : Runs before r bytes = runs-all before bytes r (read-back bytes r [] h p .0) p in
     rw (run-append before (c ∷ after) bytes)
     (outcome-split c (run before bytes) (m .last) (m .reads) (λ y d. rw d (removal-refused (c .order) rs after (m .last) n (m .allowed) e y))
-    (λ k l d y. absurd (d (sym (rw y) ∙ z))))
+    (λ k d y. absurd (d (sym (rw y) ∙ z))))

@@ -15,7 +15,7 @@ same-length c = search needs
 
 returns : tie.Need-returns
 returns c =
-    no-lists (c .before .before .before .before .before .before .before .before .pre) (c .before .before .before .put-two .ensures) (c .if1 .taken)
+    no-lists (c .before .before .before .before .before .before .before .before .before .pre) (c .before .before .before .put-two .ensures) (c .if1 .taken)
 
 sub-index-put : tie.Need-sub-index-put
 sub-index-put c = search needs
@@ -28,18 +28,18 @@ part-index-put-end c = search needs
 
 index-put-requires : tie.Need-index-put-requires
 index-put-requires c κs =
-    put-there (c .before .before .before .before .before .before .before .before .before .pre) (c .before .before .before .before .put-two .ensures) (c .before .if1 .left) (simp (length-take, length-drop) (omega (arith, c .before .before .before .before .before .before .before .before .before .pre .room, c .before .before .before .before .put-two .ensures .count)))
+    put-there (c .before .before .before .before .before .before .before .before .before .before .pre) (c .before .before .before .before .put-two .ensures) (c .before .if1 .left) (simp (length-take, length-drop) (omega (arith, c .before .before .before .before .before .before .before .before .before .before .pre .room, c .before .before .before .before .put-two .ensures .count)))
 
 add-result : tie.Need-add-result
 add-result c =
-    omega (arith, c .before .before .before .before .before .before .before .before .before .before .before .before .pre .small, index-end (c .before .before .before .before .before .before .before .before .before .before .before .before .pre) (c .before .before .before .before .if1 .left) (c .before .before .index-put .ensures), c .before .before .before .before .before .before .before .put-two .ensures .count)
+    omega (arith, c .before .before .before .before .before .before .before .before .before .before .before .before .before .pre .small, index-end (c .before .before .before .before .before .before .before .before .before .before .before .before .before .pre) (c .before .before .before .before .if1 .left) (c .before .before .index-put .ensures), c .before .before .before .before .before .before .before .put-two .ensures .count)
 
 same-length-2 : tie.Need-same-length-2
 same-length-2 c = search needs
 
 returns-2 : tie.Need-returns-2
 returns-2 c =
-    some-lists (c .before .before .before .before .before .before .before .before .before .before .before .before .pre) (c .before .before .before .before .before .before .before .put-two .ensures) (c .before .before .before .before .if1 .left) (c .before .before .index-put .ensures)
+    some-lists (c .before .before .before .before .before .before .before .before .before .before .before .before .before .pre) (c .before .before .before .before .before .before .before .put-two .ensures) (c .before .before .before .before .if1 .left) (c .before .before .index-put .ensures)
 
 pub lists-put-spec : {M : Type 1} → statement M
 lists-put-spec =

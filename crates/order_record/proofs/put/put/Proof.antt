@@ -14,161 +14,161 @@ bytes c = all-bytes (c .before .before .args .old .now) (λ i. c .shared-slice-k
 
 sub-head-put : tie.Need-sub-head-put
 sub-head-put c =
-    omega (arith, front (c .before .before .before .before .pre) (bytes (c .before .before)))
+    omega (arith, front (c .before .before .before .before .before .pre) (bytes (c .before .before .before)))
 
 head-put-requires : tie.Need-head-put-requires
 head-put-requires c κs =
-    let t = c .before .before .before .before .pre in
-    let b = bytes (c .before .before) in
+    let t = c .before .before .before .before .before .pre in
+    let b = bytes (c .before .before .before) in
     record { from = omega (arith, front t b); within = omega (arith, places t b); small = omega (arith, t .small); room = omega (arith, t .room, in-all t b) }
 
 sub-skeleton-put : tie.Need-sub-skeleton-put
 sub-skeleton-put c =
-    let t = c .before .before .before .before .before .before .before .pre in
-    let b = bytes (c .before .before .before .before .before) in
+    let t = c .before .before .before .before .before .before .before .before .pre in
+    let b = bytes (c .before .before .before .before .before .before) in
     omega (arith, t .room, in-all t b, places t b, head-end t b (c .before .before .head-put .ensures))
 
 part-skeleton-put-start : tie.Need-part-skeleton-put-start
 part-skeleton-put-start c =
-    let t = c .before .before .before .before .before .before .before .pre in
-    let b = bytes (c .before .before .before .before .before) in
+    let t = c .before .before .before .before .before .before .before .before .pre in
+    let b = bytes (c .before .before .before .before .before .before) in
     omega (arith, t .room, in-all t b, places t b, head-end t b (c .before .before .head-put .ensures))
 
 part-skeleton-put-end : tie.Need-part-skeleton-put-end
 part-skeleton-put-end c =
-    let t = c .before .before .before .before .before .before .before .pre in
-    let b = bytes (c .before .before .before .before .before) in
+    let t = c .before .before .before .before .before .before .before .before .pre in
+    let b = bytes (c .before .before .before .before .before .before) in
     omega (arith, t .room, in-all t b, places t b, head-end t b (c .before .before .head-put .ensures))
 
 sub-skeleton-put-2 : tie.Need-sub-skeleton-put-2
 sub-skeleton-put-2 c =
-    let t = c .before .before .before .before .before .before .before .before .pre in
-    let b = bytes (c .before .before .before .before .before .before) in
+    let t = c .before .before .before .before .before .before .before .before .before .pre in
+    let b = bytes (c .before .before .before .before .before .before .before) in
     omega (arith, t .room, in-all t b, places t b, head-end t b (c .before .before .before .head-put .ensures))
 
 part-skeleton-put-start-2 : tie.Need-part-skeleton-put-start-2
 part-skeleton-put-start-2 c =
-    let t = c .before .before .before .before .before .before .before .before .pre in
-    let b = bytes (c .before .before .before .before .before .before) in
+    let t = c .before .before .before .before .before .before .before .before .before .pre in
+    let b = bytes (c .before .before .before .before .before .before .before) in
     omega (arith, t .room, in-all t b, places t b, head-end t b (c .before .before .before .head-put .ensures))
 
 part-skeleton-put-end-2 : tie.Need-part-skeleton-put-end-2
 part-skeleton-put-end-2 c =
-    let t = c .before .before .before .before .before .before .before .before .pre in
-    let b = bytes (c .before .before .before .before .before .before) in
+    let t = c .before .before .before .before .before .before .before .before .before .pre in
+    let b = bytes (c .before .before .before .before .before .before .before) in
     omega (arith, t .room, in-all t b, places t b, head-end t b (c .before .before .before .head-put .ensures))
 
 skeleton-put-requires : tie.Need-skeleton-put-requires
 skeleton-put-requires c κs =
-    let t = c .before .before .before .before .before .before .before .before .before .pre in
-    let b = bytes (c .before .before .before .before .before .before .before) in
+    let t = c .before .before .before .before .before .before .before .before .before .before .pre in
+    let b = bytes (c .before .before .before .before .before .before .before .before) in
     skeleton-room t b (simp (length-take, length-drop) (omega (arith, t .room, in-all t b, head-end t b (c .before .before .before .before .head-put .ensures))))
 
 add-at : tie.Need-add-at
 add-at c =
-    let t = c .before .before .before .before .before .before .before .before .before .before .before .before .pre in
-    let b = bytes (c .before .before .before .before .before .before .before .before .before .before) in
+    let t = c .before .before .before .before .before .before .before .before .before .before .before .before .before .pre in
+    let b = bytes (c .before .before .before .before .before .before .before .before .before .before .before) in
     omega (arith, t .small, t .room, in-all t b, places t b, head-end t b (c .before .before .before .before .before .before .before .head-put .ensures), skeleton-end t b (c .before .before .skeleton-put .ensures))
 
 sub-lists-put : tie.Need-sub-lists-put
 sub-lists-put c =
-    let t = c .before .before .before .before .before .before .before .before .before .before .before .before .pre in
-    let b = bytes (c .before .before .before .before .before .before .before .before .before .before) in
+    let t = c .before .before .before .before .before .before .before .before .before .before .before .before .before .pre in
+    let b = bytes (c .before .before .before .before .before .before .before .before .before .before .before) in
     omega (arith, t .small, t .room, in-all t b, places t b, head-end t b (c .before .before .before .before .before .before .before .head-put .ensures), skeleton-end t b (c .before .before .skeleton-put .ensures))
 
 part-lists-put-start : tie.Need-part-lists-put-start
 part-lists-put-start c =
-    let t = c .before .before .before .before .before .before .before .before .before .before .before .before .pre in
-    let b = bytes (c .before .before .before .before .before .before .before .before .before .before) in
+    let t = c .before .before .before .before .before .before .before .before .before .before .before .before .before .pre in
+    let b = bytes (c .before .before .before .before .before .before .before .before .before .before .before) in
     omega (arith, t .small, t .room, in-all t b, places t b, head-end t b (c .before .before .before .before .before .before .before .head-put .ensures), skeleton-end t b (c .before .before .skeleton-put .ensures))
 
 part-lists-put-end : tie.Need-part-lists-put-end
 part-lists-put-end c =
-    let t = c .before .before .before .before .before .before .before .before .before .before .before .before .pre in
-    let b = bytes (c .before .before .before .before .before .before .before .before .before .before) in
+    let t = c .before .before .before .before .before .before .before .before .before .before .before .before .before .pre in
+    let b = bytes (c .before .before .before .before .before .before .before .before .before .before .before) in
     omega (arith, t .small, t .room, in-all t b, places t b, head-end t b (c .before .before .before .before .before .before .before .head-put .ensures), skeleton-end t b (c .before .before .skeleton-put .ensures))
 
 sub-lists-put-2 : tie.Need-sub-lists-put-2
 sub-lists-put-2 c =
-    let t = c .before .before .before .before .before .before .before .before .before .before .before .before .before .pre in
-    let b = bytes (c .before .before .before .before .before .before .before .before .before .before .before) in
+    let t = c .before .before .before .before .before .before .before .before .before .before .before .before .before .before .pre in
+    let b = bytes (c .before .before .before .before .before .before .before .before .before .before .before .before) in
     omega (arith, t .small, t .room, in-all t b, places t b, head-end t b (c .before .before .before .before .before .before .before .before .head-put .ensures), skeleton-end t b (c .before .before .before .skeleton-put .ensures))
 
 part-lists-put-start-2 : tie.Need-part-lists-put-start-2
 part-lists-put-start-2 c =
-    let t = c .before .before .before .before .before .before .before .before .before .before .before .before .before .pre in
-    let b = bytes (c .before .before .before .before .before .before .before .before .before .before .before) in
+    let t = c .before .before .before .before .before .before .before .before .before .before .before .before .before .before .pre in
+    let b = bytes (c .before .before .before .before .before .before .before .before .before .before .before .before) in
     omega (arith, t .small, t .room, in-all t b, places t b, head-end t b (c .before .before .before .before .before .before .before .before .head-put .ensures), skeleton-end t b (c .before .before .before .skeleton-put .ensures))
 
 part-lists-put-end-2 : tie.Need-part-lists-put-end-2
 part-lists-put-end-2 c =
-    let t = c .before .before .before .before .before .before .before .before .before .before .before .before .before .pre in
-    let b = bytes (c .before .before .before .before .before .before .before .before .before .before .before) in
+    let t = c .before .before .before .before .before .before .before .before .before .before .before .before .before .before .pre in
+    let b = bytes (c .before .before .before .before .before .before .before .before .before .before .before .before) in
     omega (arith, t .small, t .room, in-all t b, places t b, head-end t b (c .before .before .before .before .before .before .before .before .head-put .ensures), skeleton-end t b (c .before .before .before .skeleton-put .ensures))
 
 lists-put-requires : tie.Need-lists-put-requires
 lists-put-requires c κs =
-    let t = c .before .before .before .before .before .before .before .before .before .before .before .before .before .before .pre in
-    let b = bytes (c .before .before .before .before .before .before .before .before .before .before .before .before) in
+    let t = c .before .before .before .before .before .before .before .before .before .before .before .before .before .before .before .pre in
+    let b = bytes (c .before .before .before .before .before .before .before .before .before .before .before .before .before) in
     index-room t b (simp (length-take, length-drop) (omega (arith, t .room, in-all t b, head-end t b (c .before .before .before .before .before .before .before .before .before .head-put .ensures), skeleton-end t b (c .before .before .before .before .skeleton-put .ensures))))
 
 add-at-2 : tie.Need-add-at-2
 add-at-2 c =
-    let t = c .before .before .before .before .before .before .before .before .before .before .before .before .before .before .before .before .before .pre in
-    let b = bytes (c .before .before .before .before .before .before .before .before .before .before .before .before .before .before .before) in
+    let t = c .before .before .before .before .before .before .before .before .before .before .before .before .before .before .before .before .before .before .pre in
+    let b = bytes (c .before .before .before .before .before .before .before .before .before .before .before .before .before .before .before .before) in
     omega (arith, t .small, t .room, in-all t b, places t b, head-end t b (c .before .before .before .before .before .before .before .before .before .before .before .before .head-put .ensures), skeleton-end t b (c .before .before .before .before .before .before .before .skeleton-put .ensures), index-end t b (c .before .before .lists-put .ensures))
 
 sub-copy : tie.Need-sub-copy
 sub-copy c =
-    let t = c .before .before .before .before .before .before .before .before .before .before .before .before .before .before .before .before .before .pre in
-    let b = bytes (c .before .before .before .before .before .before .before .before .before .before .before .before .before .before .before) in
+    let t = c .before .before .before .before .before .before .before .before .before .before .before .before .before .before .before .before .before .before .pre in
+    let b = bytes (c .before .before .before .before .before .before .before .before .before .before .before .before .before .before .before .before) in
     omega (arith, t .small, t .room, in-all t b, places t b, head-end t b (c .before .before .before .before .before .before .before .before .before .before .before .before .head-put .ensures), skeleton-end t b (c .before .before .before .before .before .before .before .skeleton-put .ensures), index-end t b (c .before .before .lists-put .ensures))
 
 part-copy-start : tie.Need-part-copy-start
 part-copy-start c =
-    let t = c .before .before .before .before .before .before .before .before .before .before .before .before .before .before .before .before .before .pre in
-    let b = bytes (c .before .before .before .before .before .before .before .before .before .before .before .before .before .before .before) in
+    let t = c .before .before .before .before .before .before .before .before .before .before .before .before .before .before .before .before .before .before .pre in
+    let b = bytes (c .before .before .before .before .before .before .before .before .before .before .before .before .before .before .before .before) in
     omega (arith, t .small, t .room, in-all t b, places t b, head-end t b (c .before .before .before .before .before .before .before .before .before .before .before .before .head-put .ensures), skeleton-end t b (c .before .before .before .before .before .before .before .skeleton-put .ensures), index-end t b (c .before .before .lists-put .ensures))
 
 part-copy-end : tie.Need-part-copy-end
 part-copy-end c =
-    let t = c .before .before .before .before .before .before .before .before .before .before .before .before .before .before .before .before .before .pre in
-    let b = bytes (c .before .before .before .before .before .before .before .before .before .before .before .before .before .before .before) in
+    let t = c .before .before .before .before .before .before .before .before .before .before .before .before .before .before .before .before .before .before .pre in
+    let b = bytes (c .before .before .before .before .before .before .before .before .before .before .before .before .before .before .before .before) in
     omega (arith, t .small, t .room, in-all t b, places t b, head-end t b (c .before .before .before .before .before .before .before .before .before .before .before .before .head-put .ensures), skeleton-end t b (c .before .before .before .before .before .before .before .skeleton-put .ensures), index-end t b (c .before .before .lists-put .ensures))
 
 sub-copy-2 : tie.Need-sub-copy-2
 sub-copy-2 c =
-    let t = c .before .before .before .before .before .before .before .before .before .before .before .before .before .before .before .before .before .before .pre in
-    let b = bytes (c .before .before .before .before .before .before .before .before .before .before .before .before .before .before .before .before) in
+    let t = c .before .before .before .before .before .before .before .before .before .before .before .before .before .before .before .before .before .before .before .pre in
+    let b = bytes (c .before .before .before .before .before .before .before .before .before .before .before .before .before .before .before .before .before) in
     omega (arith, t .small, t .room, in-all t b, places t b, head-end t b (c .before .before .before .before .before .before .before .before .before .before .before .before .before .head-put .ensures), skeleton-end t b (c .before .before .before .before .before .before .before .before .skeleton-put .ensures), index-end t b (c .before .before .before .lists-put .ensures))
 
 part-copy-start-2 : tie.Need-part-copy-start-2
 part-copy-start-2 c =
-    let t = c .before .before .before .before .before .before .before .before .before .before .before .before .before .before .before .before .before .before .pre in
-    let b = bytes (c .before .before .before .before .before .before .before .before .before .before .before .before .before .before .before .before) in
+    let t = c .before .before .before .before .before .before .before .before .before .before .before .before .before .before .before .before .before .before .before .pre in
+    let b = bytes (c .before .before .before .before .before .before .before .before .before .before .before .before .before .before .before .before .before) in
     omega (arith, t .small, t .room, in-all t b, places t b, head-end t b (c .before .before .before .before .before .before .before .before .before .before .before .before .before .head-put .ensures), skeleton-end t b (c .before .before .before .before .before .before .before .before .skeleton-put .ensures), index-end t b (c .before .before .before .lists-put .ensures))
 
 part-copy-end-2 : tie.Need-part-copy-end-2
 part-copy-end-2 c =
-    let t = c .before .before .before .before .before .before .before .before .before .before .before .before .before .before .before .before .before .before .pre in
-    let b = bytes (c .before .before .before .before .before .before .before .before .before .before .before .before .before .before .before .before) in
+    let t = c .before .before .before .before .before .before .before .before .before .before .before .before .before .before .before .before .before .before .before .pre in
+    let b = bytes (c .before .before .before .before .before .before .before .before .before .before .before .before .before .before .before .before .before) in
     omega (arith, t .small, t .room, in-all t b, places t b, head-end t b (c .before .before .before .before .before .before .before .before .before .before .before .before .before .head-put .ensures), skeleton-end t b (c .before .before .before .before .before .before .before .before .skeleton-put .ensures), index-end t b (c .before .before .before .lists-put .ensures))
 
 copy-requires : tie.Need-copy-requires
 copy-requires c κs =
-    rest-fits (c .before .before .before .before .before .before .before .before .before .before .before .before .before .before .before .before .before .before .before .pre) (bytes (c .before .before .before .before .before .before .before .before .before .before .before .before .before .before .before .before .before)) (c .before .before .before .before .before .before .before .before .before .before .before .before .before .before .head-put .ensures) (c .before .before .before .before .before .before .before .before .before .skeleton-put .ensures) (c .before .before .before .before .lists-put .ensures)
+    rest-fits (c .before .before .before .before .before .before .before .before .before .before .before .before .before .before .before .before .before .before .before .before .pre) (bytes (c .before .before .before .before .before .before .before .before .before .before .before .before .before .before .before .before .before .before)) (c .before .before .before .before .before .before .before .before .before .before .before .before .before .before .head-put .ensures) (c .before .before .before .before .before .before .before .before .before .skeleton-put .ensures) (c .before .before .before .before .lists-put .ensures)
 
 add-at-3 : tie.Need-add-at-3
 add-at-3 c =
-    omega (arith, c .before .before .before .before .before .before .before .before .before .before .before .before .before .before .before .before .before .before .before .before .before .before .pre .small, whole (c .before .before .before .before .before .before .before .before .before .before .before .before .before .before .before .before .before .before .before .before .before .before .pre) (bytes (c .before .before .before .before .before .before .before .before .before .before .before .before .before .before .before .before .before .before .before .before)) (rebuilt (bytes (c .before .before .before .before .before .before .before .before .before .before .before .before .before .before .before .before .before .before .before .before)) (c .before .before .before .before .before .before .before .before .before .before .before .before .before .before .before .before .before .head-put .ensures) (c .before .before .before .before .before .before .before .before .before .before .before .before .skeleton-put .ensures) (c .before .before .before .before .before .before .before .lists-put .ensures) (c .before .before .copy .ensures)) .0)
+    omega (arith, c .before .before .before .before .before .before .before .before .before .before .before .before .before .before .before .before .before .before .before .before .before .before .before .pre .small, whole (c .before .before .before .before .before .before .before .before .before .before .before .before .before .before .before .before .before .before .before .before .before .before .before .pre) (bytes (c .before .before .before .before .before .before .before .before .before .before .before .before .before .before .before .before .before .before .before .before .before)) (rebuilt (bytes (c .before .before .before .before .before .before .before .before .before .before .before .before .before .before .before .before .before .before .before .before .before)) (c .before .before .before .before .before .before .before .before .before .before .before .before .before .before .before .before .before .head-put .ensures) (c .before .before .before .before .before .before .before .before .before .before .before .before .skeleton-put .ensures) (c .before .before .before .before .before .before .before .lists-put .ensures) (c .before .before .copy .ensures)) .0)
 
 same-length : tie.Need-same-length
 same-length c =
-    whole (c .before .before .before .before .before .before .before .before .before .before .before .before .before .before .before .before .before .before .before .before .before .before .pre) (bytes (c .before .before .before .before .before .before .before .before .before .before .before .before .before .before .before .before .before .before .before .before)) (rebuilt (bytes (c .before .before .before .before .before .before .before .before .before .before .before .before .before .before .before .before .before .before .before .before)) (c .before .before .before .before .before .before .before .before .before .before .before .before .before .before .before .before .before .head-put .ensures) (c .before .before .before .before .before .before .before .before .before .before .before .before .skeleton-put .ensures) (c .before .before .before .before .before .before .before .lists-put .ensures) (c .before .before .copy .ensures)) .1
+    whole (c .before .before .before .before .before .before .before .before .before .before .before .before .before .before .before .before .before .before .before .before .before .before .before .pre) (bytes (c .before .before .before .before .before .before .before .before .before .before .before .before .before .before .before .before .before .before .before .before .before)) (rebuilt (bytes (c .before .before .before .before .before .before .before .before .before .before .before .before .before .before .before .before .before .before .before .before .before)) (c .before .before .before .before .before .before .before .before .before .before .before .before .before .before .before .before .before .head-put .ensures) (c .before .before .before .before .before .before .before .before .before .before .before .before .skeleton-put .ensures) (c .before .before .before .before .before .before .before .lists-put .ensures) (c .before .before .copy .ensures)) .1
 
 returns : tie.Need-returns
 returns c =
-    rebuilt (bytes (c .before .before .before .before .before .before .before .before .before .before .before .before .before .before .before .before .before .before .before .before)) (c .before .before .before .before .before .before .before .before .before .before .before .before .before .before .before .before .before .head-put .ensures) (c .before .before .before .before .before .before .before .before .before .before .before .before .skeleton-put .ensures) (c .before .before .before .before .before .before .before .lists-put .ensures) (c .before .before .copy .ensures)
+    rebuilt (bytes (c .before .before .before .before .before .before .before .before .before .before .before .before .before .before .before .before .before .before .before .before .before)) (c .before .before .before .before .before .before .before .before .before .before .before .before .before .before .before .before .before .head-put .ensures) (c .before .before .before .before .before .before .before .before .before .before .before .before .skeleton-put .ensures) (c .before .before .before .before .before .before .before .lists-put .ensures) (c .before .before .copy .ensures)
 
 pub put-spec : {M : Type 1} → statement M
 put-spec =

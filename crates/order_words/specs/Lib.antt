@@ -1,0 +1,2 @@
+pub mod After
+pub mod Looked
