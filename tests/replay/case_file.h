@@ -4,7 +4,8 @@
  *
  *     file   8 bytes "FSKCASES", 4 bytes number of cases, then the cases
  *     case   1 byte   call: 1 read, 2 write, 3 trail, 4 segment, 5 remove,
- *                     6 join, 7 part, 8 holds, 9 quality, 10 set_quality
+ *                     6 join, 7 part, 8 holds, 9 quality, 10 set_quality,
+ *                     11 pairs
  *            1 byte   number of numbers passed, then 8 bytes for each,
  *                     in the order of the call's declaration
  *            1 byte   number of input slices, then for each
@@ -16,7 +17,7 @@
  *            8 bytes  expected length
  *            4 bytes  number of bytes written, then these bytes
  *
- * Only replay.c includes this file, so its functions stand here whole.
+ * replay.c is the only program with this file, so its functions stand here whole.
  */
 #ifndef CASE_FILE_H
 #define CASE_FILE_H
@@ -26,7 +27,10 @@
 #include <stdlib.h>
 #include <string.h>
 
-enum { READ = 1, WRITE, TRAIL, SEGMENT, REMOVE, JOIN, PART, HOLDS, QUALITY, SET_QUALITY, CALLS };
+enum {
+    READ = 1, WRITE, TRAIL, SEGMENT, REMOVE, JOIN, PART, HOLDS, QUALITY, SET_QUALITY, PAIRS,
+    CALLS
+};
 enum { MOST_NUMBERS = 4, MOST_INPUTS = 2 };
 
 typedef struct { const uint8_t *bytes; size_t length; } slice;
@@ -46,7 +50,7 @@ typedef struct {
 static const struct { const char *name; unsigned numbers, inputs; } calls[CALLS] = {
     {"", 0, 0},        {"read", 0, 1},   {"write", 0, 1},       {"trail", 2, 1},
     {"segment", 2, 1}, {"remove", 2, 2}, {"join", 4, 1},        {"part", 4, 1},
-    {"holds", 2, 2},   {"quality", 2, 1}, {"set_quality", 2, 2},
+    {"holds", 2, 2},   {"quality", 2, 1}, {"set_quality", 2, 2}, {"pairs", 2, 2},
 };
 
 static _Noreturn void stop(const char *why)

@@ -1,103 +1,29 @@
 /* Replays a file of cases on the library and compares every answer.
  *
- * Each lent slice is placed so that its end touches a page that may not be
- * touched, and in a second run so that its start does; input slices can only
- * be read during a call. So a stray read or write is caught as a fault, and
+ * Each case runs with every lent slice ending at a guard page, and again with every
+ * slice starting at one (guard.h). So a stray read or write is caught as a fault, and
  * every byte of an output is compared with what was written or with its fill.
  *
  *     cc -std=c11 -Wall -Wextra -Werror -I host tests/replay/replay.c \
  *        libhost.a -o replay && ./replay FILE
  *
  * An accepted reading or writing is run back too: of a record by its sheet, and
- * of local quality by its values.
+ * of local quality by its values. The orders of a list of pairs are given singly too.
  */
 #define _DEFAULT_SOURCE
 #include <inttypes.h>
-#include <setjmp.h>
-#include <signal.h>
 #include <stdarg.h>
 #include <stdint.h>
 #include <stdio.h>
 #include <string.h>
-#include <sys/mman.h>
 
 #include "case_file.h"
 #include "fsk.h"
+#include "guard.h"
 
-enum { MOST_SHOWN = 20 };
-enum { PAGES = 1 << 16, GUARD = 1 << 20 }; /* whole pages of any usual size */
-typedef enum { AT_END, AT_START, EMPTY_AS_NULL } placing;
+enum { MOST_SHOWN = 20, LONGEST_RECORD = 32768, ORDER_BYTES = 6 };
 
-/* Pages that may be touched, between two guards that may not. */
-typedef struct { uint8_t *start; size_t size; } room;
-
-static const char *const placings[] = {"ends at a guard", "starts at a guard",
-                                       "empty slices are null"};
-
-static room input_rooms[MOST_INPUTS], output_room;
-static const uint8_t *inputs_at[MOST_INPUTS];
-static uint8_t *output_at;
-static sigjmp_buf after_fault;
-static volatile sig_atomic_t in_call;
-static const uint8_t *volatile fault_address;
-static volatile sig_atomic_t fault_signal;
 static uint32_t shown;
-
-/* ---- the lent slices ---- */
-
-static room make_room(size_t longest)
-{
-    size_t size = (longest / PAGES + 1) * PAGES;
-    uint8_t *all = mmap(NULL, size + 2 * GUARD, PROT_NONE,
-                        MAP_PRIVATE | MAP_ANONYMOUS, -1, 0);
-    if (all == MAP_FAILED || mprotect(all + GUARD, size, PROT_READ | PROT_WRITE))
-        stop("no memory between guards");
-    return (room){all + GUARD, size};
-}
-
-static void make_rooms(slice rest, uint32_t cases)
-{
-    size_t longest = 0;
-    for (uint32_t i = 0; i < cases; i++) {
-        test_case c = take_case(&rest);
-        for (unsigned k = 0; k < c.inputs_lent; k++)
-            longest = c.inputs[k].length > longest ? c.inputs[k].length : longest;
-        longest = c.out_size > longest ? c.out_size : longest;
-    }
-    if (rest.length != 0)
-        stop("the case file has bytes after its last case");
-    for (unsigned k = 0; k < MOST_INPUTS; k++)
-        input_rooms[k] = make_room(longest);
-    output_room = make_room(longest);
-}
-
-static uint8_t *placed(room r, size_t length, placing run)
-{
-    if (run == EMPTY_AS_NULL && length == 0)
-        return NULL;
-    return run == AT_START ? r.start : r.start + r.size - length;
-}
-
-static void allow(room r, int what)
-{
-    if (mprotect(r.start, r.size, what))
-        stop("a room's protection cannot be changed");
-}
-
-static void lend(const test_case *c, placing run)
-{
-    for (unsigned k = 0; k < c->inputs_lent; k++) {
-        uint8_t *at = placed(input_rooms[k], c->inputs[k].length, run);
-        allow(input_rooms[k], PROT_READ | PROT_WRITE);
-        if (c->inputs[k].length > 0)
-            memcpy(at, c->inputs[k].bytes, c->inputs[k].length);
-        allow(input_rooms[k], PROT_READ);
-        inputs_at[k] = at;
-    }
-    output_at = placed(output_room, c->out_size, run);
-    if (c->out_size > 0)
-        memset(output_at, c->fill, c->out_size);
-}
 
 /* ---- the call ---- */
 
@@ -134,37 +60,10 @@ static fsk_answer library(const test_case *c)
         return fsk_quality(in, in_len, n[0], n[1], out, out_len);
     case SET_QUALITY:
         return fsk_set_quality(in, in_len, n[0], n[1], also, also_len, out, out_len);
+    case PAIRS:
+        return fsk_pairs(in, in_len, n[0], n[1], also, also_len, out, out_len);
     }
     stop("a case has an unknown call");
-}
-
-static void on_fault(int signal_number, siginfo_t *info, void *context)
-{
-    (void)context;
-    if (!in_call) {
-        signal(signal_number, SIG_DFL);
-        raise(signal_number);
-        return;
-    }
-    in_call = 0;
-    fault_signal = signal_number;
-    fault_address = info->si_addr;
-    siglongjmp(after_fault, 1);
-}
-
-static void catch_faults(void)
-{
-    static const int faults[] = {SIGSEGV, SIGBUS, SIGILL, SIGFPE, SIGABRT};
-    static uint8_t stack[1 << 16];
-    stack_t other = {.ss_sp = stack, .ss_size = sizeof stack};
-    struct sigaction action = {0};
-    action.sa_sigaction = on_fault;
-    action.sa_flags = SA_SIGINFO | SA_NODEFER | SA_ONSTACK;
-    if (sigaltstack(&other, NULL))
-        stop("faults cannot be caught");
-    for (size_t i = 0; i < sizeof faults / sizeof faults[0]; i++)
-        if (sigaction(faults[i], &action, NULL))
-            stop("faults cannot be caught");
 }
 
 /* Makes the case's call; 0 if it ended with a fault. */
@@ -264,6 +163,53 @@ static test_case way_back(const test_case *c)
     return back;
 }
 
+/* Whether a list of pairs comes to its orders: they are all obeyed, or one is refused. */
+static int has_orders(const test_case *c)
+{
+    return c->call == PAIRS && (c->number == 0 || c->number == 15
+                                || (c->number >= 18 && c->number <= 20));
+}
+
+/* One order of a list of pairs, given singly to the record that now holds. */
+static test_case single_order(const test_case *c, size_t place, slice record)
+{
+    const uint8_t *order = c->inputs[1].bytes + ORDER_BYTES * place;
+    test_case single = *c;
+    single.call = order[1] == 0 ? JOIN : PART;
+    single.numbers_passed = calls[single.call].numbers;
+    single.inputs_lent = calls[single.call].inputs;
+    single.numbers[2] = (uint64_t)order[2] << 8 | order[3];
+    single.numbers[3] = (uint64_t)order[4] << 8 | order[5];
+    single.inputs[0] = record;
+    return single;
+}
+
+/* The orders of a list given singly, each in the same room to the record that the one
+ * before left, must come to the list's bytes, or to its number at its place. */
+static int singly_is_wrong(uint32_t index, const test_case *c)
+{
+    static uint8_t held[LONGEST_RECORD];
+    slice record = c->inputs[0];
+    for (size_t place = 0; place < c->inputs[1].length / ORDER_BYTES; place++) {
+        test_case single = single_order(c, place, record);
+        fsk_answer found = {0, 0, 0};
+        lend(&single, AT_END);
+        if (!guarded_call(&single, &found))
+            return fault_is_wrong(index, &single, AT_END);
+        if (found.number != 0 && found.number == c->number && place == c->place)
+            return 0;
+        if (found.number != 0 || found.length > c->out_size || found.length > sizeof held)
+            return wrong(index, c, AT_END, "its order %zu given singly: number %" PRIu32,
+                         place, found.number);
+        memcpy(held, output_at, found.length);
+        record = (slice){held, found.length};
+    }
+    if (c->number != 0 || record.length != c->written.length
+        || memcmp(record.bytes, c->written.bytes, record.length) != 0)
+        return wrong(index, c, AT_END, "its orders given singly leave another record");
+    return 0;
+}
+
 static int case_is_wrong(uint32_t index, const test_case *c)
 {
     int has_empty = c->out_size == 0;
@@ -275,7 +221,7 @@ static int case_is_wrong(uint32_t index, const test_case *c)
 
 int main(int argc, char **argv)
 {
-    uint32_t cases, ways_back = 0, wrong_cases = 0;
+    uint32_t cases, ways_back = 0, singly = 0, wrong_cases = 0;
     slice rest;
     if (argc != 2)
         stop("one argument is needed, the case file");
@@ -290,9 +236,13 @@ int main(int argc, char **argv)
             is_wrong |= case_is_wrong(index, &back);
             ways_back++;
         }
+        if (has_orders(&c)) {
+            is_wrong |= singly_is_wrong(index, &c);
+            singly++;
+        }
         wrong_cases += is_wrong;
     }
-    printf("replay: %" PRIu32 " cases, %" PRIu32 " of them there and back, %" PRIu32 " wrong\n",
-           cases, ways_back, wrong_cases);
+    printf("replay: %" PRIu32 " cases, %" PRIu32 " of them there and back, %" PRIu32
+           " singly too, %" PRIu32 " wrong\n", cases, ways_back, singly, wrong_cases);
     return cases > 0 && wrong_cases == 0 ? 0 : 1;
 }

@@ -1,31 +1,34 @@
 """What each host call must answer: number, place, length and written bytes.
 
 The outcome of a call is worked out once with all the room it wants; then the
-lent output decides between acceptance and 20.
+lent output decides between acceptance and 20. Of a list of pairs every record in
+between has to fit, so that 20 can also come before another refusal.
 """
 
-from dataclasses import dataclass
+from dataclasses import dataclass, replace
 from functools import lru_cache
 
 import orders
+import pairs
 import quality
 from build import build
 from judge import judge
-from model import Refusal
+from model import LARGEST_RECORD, Refusal
 from sheet import from_sheet, to_sheet
 from trail import rounding, trail
 
 CALLS = {"read": 1, "write": 2, "trail": 3, "segment": 4,
          "remove": 5, "join": 6, "part": 7, "holds": 8,
-         "quality": 9, "set_quality": 10}
+         "quality": 9, "set_quality": 10, "pairs": 11}
 
 
 @dataclass
 class Outcome:
     """A refusal, or what is written; `length` counts elements of `size` bytes.
 
-    The fault (model.FAULTS, QUALITY_FAULTS) and the way (cases.WAYS) in which a
-    call was accepted are only counted.
+    The fault (tables.faults_of) and the ways (tables.WAYS) in which a call was
+    accepted are only counted. The walk is that of a list of pairs that has come to
+    its orders.
     """
 
     number: int
@@ -34,7 +37,8 @@ class Outcome:
     written: bytes = b""
     size: int = 1
     fault: str = ""
-    way: str = ""
+    ways: tuple = ()
+    walk: pairs.Walk = None
 
 
 @lru_cache(maxsize=128)
@@ -54,9 +58,9 @@ def record_of(data):
     return result
 
 
-def written(data, size=1, way=""):
+def written(data, size=1, ways=()):
     """Acceptance with the bytes written."""
-    return Outcome(0, 0, len(data) // size, data, size, way=way)
+    return Outcome(0, 0, len(data) // size, data, size, ways=ways)
 
 
 def answer_read(record):
@@ -79,11 +83,11 @@ def answer_trail(view, line, record):
     if line >= len(lines):
         raise Refusal(15)
     elements = trail(lines[line], whole)
-    way = ""
+    ways = ()
     if elements:
-        way = rounding(lines[line].start_direction, whole.half_turn, whole.b)
+        ways = (rounding(lines[line].start_direction, whole.half_turn, whole.b),)
     return written(b"".join(element.to_bytes(2, "big") for element in elements),
-                   2, way)
+                   2, ways)
 
 
 def view_with_segment(record, view, segment):
@@ -104,7 +108,7 @@ def answer_segment(view, segment, record):
 def answer_remove(view, count, record, lines):
     whole = record_of(record)
     edited = orders.remove(whole, view, count, lines)
-    return written(build(edited), way=quality.carried(whole.views[view]))
+    return written(build(edited), ways=(quality.carried(whole.views[view]),))
 
 
 def answer_join(view, count, first, second, record):
@@ -115,6 +119,20 @@ def answer_join(view, count, first, second, record):
 def answer_part(view, count, first, second, record):
     return written(build(orders.part(record_of(record), view, count,
                                      first, second)))
+
+
+def answer_pairs(view, count, record, listed):
+    """Record, then 13, 14, 17, 25; then the orders in turn, each 15, 18, 19."""
+    whole = record_of(record)
+    found = pairs.judge_list(whole, len(record), view, count, listed)
+    number, place, fault = pairs.refusal(found, LARGEST_RECORD)
+    if number != 0:
+        return Outcome(number, place, fault=fault, walk=found)
+    new = build(found.record)
+    assert len(new) == found.lengths[-1]
+    old_width = whole.views[view].index.w
+    return replace(written(new, 1, tuple(pairs.ways(found, record, old_width, new))),
+                   walk=found)
 
 
 def answer_holds(number, length, old, second):
@@ -129,7 +147,7 @@ def answer_quality(view, segment, record):
     """Record, then 13, 23, 24; the payload's values."""
     whole = view_with_segment(record_of(record), view, segment)
     found = quality.read(whole, whole.segments[segment])
-    return written(quality.to_values(found), way=quality.reading(found))
+    return written(quality.to_values(found), ways=(quality.reading(found),))
 
 
 def answer_set_quality(view, segment, record, values):
@@ -138,13 +156,14 @@ def answer_set_quality(view, segment, record, values):
     old = view_with_segment(whole, view, segment)
     new = quality.rewrite(old, segment, values)
     return written(build(orders.with_view(whole, view, new)),
-                   way=quality.rewriting(old, segment, new))
+                   ways=(quality.rewriting(old, segment, new),))
 
 
 ANSWERS = {"read": answer_read, "write": answer_write, "trail": answer_trail,
            "segment": answer_segment, "remove": answer_remove,
-           "join": answer_join, "part": answer_part, "holds": answer_holds,
-           "quality": answer_quality, "set_quality": answer_set_quality}
+           "join": answer_join, "part": answer_part, "pairs": answer_pairs,
+           "holds": answer_holds, "quality": answer_quality,
+           "set_quality": answer_set_quality}
 
 
 def outcome(call, numbers, slices):
@@ -155,9 +174,37 @@ def outcome(call, numbers, slices):
         return Outcome(refusal.number, refusal.place, fault=refusal.fault)
 
 
+def lent_to_list(result, out_size):
+    """The outcome of a list of pairs in a lent output: each order, also one before
+    another refusal, has to find room for the record that it leaves."""
+    number, place, fault = pairs.refusal(result.walk, out_size)
+    if number != 0:
+        return Outcome(number, place, fault=fault)
+    if out_size == max(result.walk.lengths):
+        return replace(result, ways=result.ways + ("in just enough room",))
+    return result
+
+
 def lent(result, out_size):
     """The outcome where the lent output has `out_size` bytes: 20 comes last."""
+    if result.walk is not None:
+        return lent_to_list(result, out_size)
     elements = len(result.written) // result.size
     if elements > out_size // result.size:
         return Outcome(20)
     return result
+
+
+def given_singly(view, count, record, listed, out_size):
+    """A list's orders by the calls themselves: number, place and the bytes written.
+
+    Each has the same room, and is lent the bytes that the one before wrote.
+    """
+    for place, (kind, first, second) in enumerate(pairs.orders_of(listed)):
+        call = "join" if kind == pairs.JOIN else "part"
+        result = outcome(call, [view, count, first, second], [record])
+        result = lent(result, out_size)
+        if result.number != 0:
+            return result.number, place, b""
+        record = result.written
+    return 0, 0, record

@@ -87,6 +87,14 @@ def index_bytes(index):
     return bits.to_bytes()
 
 
+def index_size(index):
+    """The bytes that index_bytes gives, counted and not made."""
+    if index is None:
+        return 0
+    numbers = sum(1 + len(neighbours) for neighbours in index.neighbours)
+    return 1 + (numbers * index.w + 7) // 8
+
+
 def extended_bytes(segments):
     """The extended block; 19 if a segment's length passes 16 bits."""
     block = bytearray()

@@ -9,6 +9,7 @@ from dataclasses import dataclass
 from answers import Outcome, lent, outcome
 
 WITHOUT_OUTPUT = ("segment", "holds")
+PLENTY = (65535, 65536, 65537, 131072)
 
 
 @dataclass
@@ -23,10 +24,25 @@ class Case:
     expected: Outcome
 
 
+def room_for_list(rng, lengths):
+    """Enough for every record that the orders of a list leave, mostly; else a byte
+    too few for one of them, or room for the last one alone."""
+    if not lengths:
+        return rng.choice((0, 1, rng.randint(0, 400), rng.choice(PLENTY)))
+    longest, last, one = max(lengths), lengths[-1], rng.choice(lengths)
+    sizes = [longest, longest + rng.randint(1, 300)]
+    if rng.random() < 0.4:
+        sizes = [longest - 1, lengths[0] - 1, last, last - 1, one, one - 1,
+                 rng.randint(0, longest)]
+    return rng.choice(sizes if rng.random() < 0.99 else PLENTY + (0,))
+
+
 def out_size_for(rng, call, result):
     """Exactly enough, one element too few, zero, more than needed, odd."""
     if call in WITHOUT_OUTPUT:
         return 0
+    if result.walk is not None:
+        return room_for_list(rng, result.walk.lengths)
     if result.number != 0:
         return rng.choice((0, 1, 2, 3, rng.randint(0, 100), rng.randint(0, 400)))
     wanted = len(result.written)
@@ -37,7 +53,7 @@ def out_size_for(rng, call, result):
     if rng.random() < 0.5:
         sizes = sizes[:5]
     if rng.random() < 0.01:
-        sizes = [65535, 65536, 65537, 131072 + wanted]
+        sizes = PLENTY[:3] + (PLENTY[3] + wanted,)
     return max(0, rng.choice(sizes))
 
 

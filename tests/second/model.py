@@ -41,13 +41,20 @@ QUALITY_FAULTS = ("type", "under 3 bytes", "cell width 0", "cell height 0",
                   "bits 0", "bits above 8", "too few bytes", "too many bytes",
                   "1 in padding", "value above its bits")
 
+# What can be at fault in a list of pairs as a whole, where request [4] gives 25; it
+# has no place. The order's first number is above 1, or the last order is cut; also
+# where an order before would be refused with 15 or 18.
+LIST_FAULTS = ("empty list", "cut order", "cut order after 15 or 18",
+               "above 1, only order", "above 1, first order", "above 1, middle order",
+               "above 1, last order", "above 1 after 15 or 18")
+
 
 class Refusal(Exception):
-    """A refusal: its number, for 2 to 12 its place, for these and 24 the fault."""
+    """A refusal: its number, for 2 to 12 its place, for these, 24 and 25 the fault."""
 
     def __init__(self, number, place=0, fault=""):
         super().__init__(number, place, fault)
-        known = QUALITY_FAULTS if number == 24 else FAULTS.get(number, ("",))
+        known = {24: QUALITY_FAULTS, 25: LIST_FAULTS, **FAULTS}.get(number, ("",))
         if fault not in known:
             raise ValueError("%d has no fault %r" % (number, fault))
         if number not in FAULTS and place != 0:

@@ -66,11 +66,17 @@ def remove(record, place, count, list_bytes):
     return with_view(record, place, edited)
 
 
-def pair_view(record, place, count, first, second):
-    """A pair order's view, the higher and the lower line: 13, 14, 17, 15."""
+def indexed_view(record, place, count):
+    """The view of pair orders: 13, 14, 17."""
     view = named_view(record, place, count)
     if view.index is None:
         raise Refusal(17)
+    return view
+
+
+def pair_view(record, place, count, first, second):
+    """A pair order's view, the higher and the lower line: 13, 14, 17, 15."""
+    view = indexed_view(record, place, count)
     if first >= count or second >= count:
         raise Refusal(15)
     return view, max(first, second), min(first, second)

@@ -1,14 +1,15 @@
-"""Plans the cases of the three orders: single orders and whole sequences.
+"""Plans the cases of the orders: single ones and whole sequences.
 
 In a sequence each accepted result is lent to the next order, as document 01
-means it; a refused order leaves the record that now holds. Where rewritings of
-local quality are chosen too, they stand among the orders.
+means it; a refused order leaves the record that now holds. Where lists of pairs or
+rewritings of local quality are chosen too, they stand among the orders.
 """
 
 from answers import judged, outcome
 from build import build
 from lend import lend, line_count, place_in
 from make import fill, growing, random_record
+from make_pairs import random_list
 from model import LARGEST_RECORD, QUALITY_TYPE, Record
 from quality_plan import set_quality_case
 
@@ -95,7 +96,8 @@ def chosen_view(rng, call, record):
 
 
 def order_case(rng, call, data):
-    """One order, or a rewriting of local quality, on a record's bytes."""
+    """One order, a list of pairs, or a rewriting of local quality, on a record's
+    bytes."""
     if call == "set_quality":
         return set_quality_case(rng, data)
     record = judged(data)
@@ -109,6 +111,8 @@ def order_case(rng, call, data):
     numbers = [view, line_count(rng, count)]
     if call == "remove":
         return lend(rng, call, numbers, [data, list_bytes(rng, count)])
+    if call == "pairs":
+        return lend(rng, call, numbers, [data, random_list(rng, index, count)])
     numbers += pair_for(rng, call, index, count)
     return lend(rng, call, numbers, [data])
 

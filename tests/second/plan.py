@@ -18,6 +18,7 @@ from lend import lend, place_in
 from make import long_records, random_record
 from model import Record
 from orders_plan import order_case, order_stream
+from pairs_plan import list_edge_cases, pairs_stream
 from quality_plan import quality_stream, removal_edges, set_quality_stream
 from sheet import to_sheet
 
@@ -160,7 +161,7 @@ def holds_stream(rng, stock, _budget):
         old = right_bytes(rng, stock, 0.4)
         if rng.random() < 0.2:
             old = rng.randbytes(rng.randint(0, 60))
-        call = rng.choice(("remove", "join", "part", "set_quality"))
+        call = rng.choice(("remove", "join", "part", "pairs", "set_quality"))
         case = order_case(rng, call, old)
         expected = case.expected
         second = expected.written + bytes([case.fill]) * (
@@ -184,6 +185,15 @@ def order_call_stream(call, sequenced, rng, stock, budget):
     yield from order_stream(rng, call, sequenced, source)
 
 
+def pairs_call_stream(sequenced, rng, stock, budget):
+    """Lists at the edges, records at the edges, then lists at random."""
+    yield from list_edge_cases(rng, budget // 5)
+    for data in some_edges(rng, stock, budget // 4):
+        yield order_case(rng, "pairs", data)
+    source = records(rng, stock, 0, 0.85)
+    yield from pairs_stream(rng, sequenced, source, stock.long)
+
+
 def quality_call_stream(stream, rng, stock, budget):
     """The cases of a call on local quality; mostly there is such a segment."""
     source = records(rng, stock, budget // 3, 0.8, 0.97)
@@ -197,8 +207,8 @@ def streams(calls):
               "holds": holds_stream,
               "quality": partial(quality_call_stream, quality_stream),
               "set_quality": partial(quality_call_stream, set_quality_stream)}
-    orders = [call for call in calls if call not in makers]
-    sequenced = orders + [call for call in calls if call == "set_quality"]
-    for call in orders:
+    sequenced = [call for call in calls if call == "set_quality" or call not in makers]
+    for call in ("remove", "join", "part"):
         makers[call] = partial(order_call_stream, call, sequenced)
+    makers["pairs"] = partial(pairs_call_stream, sequenced)
     return makers

@@ -1,9 +1,10 @@
-"""Document 01's samples P1 to P11, its run-only samples, places, headings, quality.
+"""Document 01's samples P1 to P11, its run-only samples, and those of the requests.
 
 All are assertions. Run it alone; it prints one line when all hold. It shows
 that the second program reads document 01 as its own samples do, and that every
 fault has the place worked out by hand, every direction the nearest heading, and
-local quality the bytes worked out by hand, before it judges anything.
+local quality and lists of pairs the bytes worked out by hand, before it judges
+anything.
 """
 
 from dataclasses import replace
@@ -14,6 +15,7 @@ from build import build, index_bytes, parts_of, put_together
 from faults import all_faults, base_bytes
 from judge import judge
 from model import FAULTS, Index, Line, Record, Refusal, Segment, View, least_width
+from samples_pairs import lists_of_pairs
 from samples_quality import local_quality
 from sheet import to_sheet
 from trail import first_heading, rounding, trail
@@ -143,7 +145,8 @@ def places():
     arguments = {"read": ([], []), "trail": ([0, 0], []), "segment": ([0, 0], []),
                  "remove": ([0, 1], [bytes([0, 0])]), "join": ([1, 2, 0, 0], []),
                  "part": ([1, 2, 1, 1], []), "quality": ([1, 0], []),
-                 "set_quality": ([1, 0], [bytes([255, 255, 1])])}
+                 "set_quality": ([1, 0], [bytes([255, 255, 1])]),
+                 "pairs": ([1, 2], [bytes(6)])}
     met = set()
     for number, place, fault, data in all_faults():
         met.add((number, fault))
@@ -208,5 +211,6 @@ if __name__ == "__main__":
     places()
     headings()
     local_quality(SAMPLE_A)
-    print("samples: P1 to P11, the run-only samples, %d places, the headings and"
-          " local quality hold" % len(all_faults()))
+    lists_of_pairs(SAMPLE_A)
+    print("samples: P1 to P11, the run-only samples, %d places, the headings, local"
+          " quality and lists of pairs hold" % len(all_faults()))
