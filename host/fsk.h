@@ -28,7 +28,8 @@ extern "C" {
  *   number  0: accepted. Anything else: refused, for the reason that the number names (below).
  *   place   number 2 to 12: the first bit of what is at fault, counted from the record's first bit. It is in byte place / 8, and
  *           there it is bit place % 8, counted from the high end. It lies in the record or, at most, right behind its last bit.
- *           An accepted fsk_segment: the payload's first bit, counted likewise. Else 0.
+ *           An accepted fsk_segment: the payload's first bit, counted likewise.
+ *           fsk_pairs, number 15, 18, 19 or 20: the order that is refused, counted from 0 as the list has them. Else 0.
  *   length  accepted: how many elements were written to the output (what an element is, each call says). Refused: 0.
  * A refused call leaves the output as it was, to the byte. An accepted one leaves what lies beyond the written elements.
  */
@@ -92,12 +93,14 @@ enum {
     FSK_NO_SEGMENT = 23,    /* The view has no segment with that place. */
     FSK_BAD_QUALITY = 24,   /* The segment is not one of local quality (0x0003), or the payload to be read or the values to be written
                                break its rules. */
+    FSK_BAD_PAIRS = 25,     /* The list of orders about pairs is empty, its length is no multiple of 6, or an order's first number is
+                               neither 0 nor 1. */
     FSK_NUMBERS             /* how many numbers there are: each is below it */
 };
 
 /*
  * What a number means, and what to do about it: a sentence that is always there and never null, also for a number that no call
- * answers. And what the place of an answer with this number is: empty, but never null, for a number that has no place.
+ * answers. And what the place of an answer with this number is: empty, but never null, for a number that has no place in the record.
  */
 const char *fsk_text(uint32_t number);
 const char *fsk_advice(uint32_t number);
@@ -178,7 +181,7 @@ fsk_answer fsk_set_quality(const uint8_t *record, size_t record_length, uint32_t
  * that it was made for: where the view has another number of lines by now, it is refused with 14. So a removal that comes again after
  * it was accepted is refused, and nothing is lost. All that is not ordered stays; but in a view with an index, the index is written at
  * the least width that holds it, so that a record may become longer. 32,768 bytes always suffice. fsk_holds tells which record holds
- * after an order; it is what the next order is for.
+ * after an order, or after a list of them; it is what the next order is for.
  */
 
 /*
@@ -204,6 +207,18 @@ fsk_answer fsk_join(const uint8_t *record, size_t record_length, uint32_t view, 
  */
 fsk_answer fsk_part(const uint8_t *record, size_t record_length, uint32_t view, uint32_t count, uint32_t line, uint32_t other,
                     uint8_t *second, size_t second_length);
+
+/*
+ * Joins and parts lines of a view, many pairs in one call. What comes of it is what comes of giving the orders singly, by fsk_join and
+ * fsk_part, each to the record that the one before left and with as much room; but the new record is written once. Where one of them
+ * would be refused that way, 19 and 20 included, the call is refused with that number, place is that order's in the list, counted from
+ * 0, and none of the others is carried out either.
+ * pairs: the orders, six bytes each, which are three 16-bit numbers, high byte first: 0 for join or 1 for part, then the two lines.
+ * There is at least one order (and there are at most 4,294,967,296, so that a place has 32 bits), or else it is 25.
+ * Writes bytes. Refuses: 1 to 12, 13, 14, 17, 25 over the whole list; then order by order 15, 18, 19, 20.
+ */
+fsk_answer fsk_pairs(const uint8_t *record, size_t record_length, uint32_t view, uint32_t count, const uint8_t *pairs,
+                     size_t pairs_length, uint8_t *second, size_t second_length);
 
 /*
  * The record that now holds after an order.

@@ -55,18 +55,6 @@ static int same(const uint8_t *one, size_t one_length, const uint8_t *other, siz
     return one_length == other_length && memcmp(one, other, one_length) == 0;
 }
 
-/* The field of a view, in a sheet that has the view. */
-static field find_view(fields left, uint32_t view)
-{
-    take(&left);
-    for (; view > 0; view--) {
-        do
-            take(&left);
-        while (!comes(&left, VIEW));
-    }
-    return take(&left);
-}
-
 /* How the old values lie in the view's image, in words too. */
 static grid lay_out(field view)
 {
@@ -143,8 +131,9 @@ int main(int count, char **arguments)
     const fsk_answer read = fsk_read(record, (size_t)length, sheet, sizeof sheet);
     if (refused(read))
         return 1;
-    /* fsk_quality found the view, so the sheet has it. */
-    const grid cells = lay_out(find_view((fields){sheet, sheet + read.length}, wanted.view));
+    fields left = {sheet, sheet + read.length};
+    find_view(&left, wanted.view); /* fsk_quality found the view, so the sheet has it */
+    const grid cells = lay_out(take(&left));
     print_cells(old_values, quality.length, cells);
     const size_t new_length = set_cell(&wanted, (size_t)length, quality.length, cells);
     if (new_length == 0 || !comes_back(&wanted, new_length, (size_t)length, quality.length, cells))

@@ -45,6 +45,18 @@ static inline field take(fields *left)
     return taken;
 }
 
+/* Passes what stands before a view, in a sheet from its first field on. Gives whether the view is there. */
+static inline int find_view(fields *left, uint32_t view)
+{
+    take(left);
+    for (; view > 0 && comes(left, VIEW); view--) {
+        do
+            take(left);
+        while (left->at < left->end && !comes(left, VIEW));
+    }
+    return comes(left, VIEW);
+}
+
 /* How many codes a line has: they stand behind its two ends of 6 bytes each. */
 static inline size_t codes_of(field line)
 {
