@@ -3,7 +3,7 @@
  * prints a table. First both are run once on every record: where they do not accept it with the
  * same answer and the same bytes, there is nothing to compare, and the program ends with 1.
  *
- * A further call is one BOTH and one row.
+ * A further call is one BOTH and one row; one of several lengths has a BOTH_IN and a row for each.
  */
 #include <inttypes.h>
 #include <stdio.h>
@@ -21,7 +21,7 @@ static const double MEASURED_SECONDS = 0.2;
 typedef fsk_answer (*call)(const sample *on, uint8_t *out, size_t room);
 
 /* What a record must have for a call. */
-typedef enum { NOTHING, A_SEGMENT, QUALITY } need;
+typedef enum { NOTHING, A_SEGMENT, QUALITY, A_PAIR_LIST } need;
 
 typedef struct {
     const char *name;
@@ -32,18 +32,20 @@ typedef struct {
 static uint8_t library_out[ROOM], plain_out[ROOM];
 static volatile size_t kept; /* so that no call can be left out */
 
-/* Both sides of one call, with the arguments that it takes from a sample. */
-#define BOTH(name, ...)                                                                           \
-    static fsk_answer library_##name(const sample *on, uint8_t *out, size_t room)                 \
+/* Both sides of one call, with the arguments that it takes from a sample; `row` is the call's name,
+ * or one of several for a call that has several rows. */
+#define BOTH_IN(row, name, ...)                                                                   \
+    static fsk_answer library_##row(const sample *on, uint8_t *out, size_t room)                  \
     {                                                                                             \
         (void)out, (void)room;                                                                    \
         return fsk_##name(__VA_ARGS__);                                                           \
     }                                                                                             \
-    static fsk_answer by_hand_##name(const sample *on, uint8_t *out, size_t room)                 \
+    static fsk_answer by_hand_##row(const sample *on, uint8_t *out, size_t room)                  \
     {                                                                                             \
         (void)out, (void)room;                                                                    \
         return plain_##name(__VA_ARGS__);                                                         \
     }
+#define BOTH(name, ...) BOTH_IN(name, name, __VA_ARGS__)
 
 BOTH(read, on->record, on->length, out, room)
 BOTH(write, on->sheet, on->sheet_length, out, room)
@@ -59,6 +61,15 @@ BOTH(join, on->record, on->length, on->ordered, on->ordered_lines, on->strangers
 BOTH(part, on->record, on->length, on->ordered, on->ordered_lines, on->neighbours[0],
      on->neighbours[1], out, room)
 
+/* The first so many orders of the sample's list. */
+#define PAIRS(orders)                                                                             \
+    BOTH_IN(pairs_##orders, pairs, on->record, on->length, on->ordered, on->ordered_lines,        \
+            on->pairs, PAIR_ORDER * (orders), out, room)
+
+PAIRS(1)
+PAIRS(40)
+PAIRS(400)
+
 static const row rows[] = {
     {"read", library_read, by_hand_read, NOTHING},
     {"write", library_write, by_hand_write, NOTHING},
@@ -69,14 +80,24 @@ static const row rows[] = {
     {"remove", library_remove, by_hand_remove, NOTHING},
     {"join", library_join, by_hand_join, NOTHING},
     {"part", library_part, by_hand_part, NOTHING},
+    {"pairs 1", library_pairs_1, by_hand_pairs_1, A_PAIR_LIST},
+    {"pairs 40", library_pairs_40, by_hand_pairs_40, A_PAIR_LIST},
+    {"pairs 400", library_pairs_400, by_hand_pairs_400, A_PAIR_LIST},
     {NULL, NULL, NULL, NOTHING},
 };
 
 static int applies(const row *r, const sample *on)
 {
-    if (r->needs == QUALITY)
+    switch (r->needs) {
+    case A_SEGMENT:
+        return on->segments > 0;
+    case QUALITY:
         return on->values_length > 0;
-    return r->needs == NOTHING || on->segments > 0;
+    case A_PAIR_LIST:
+        return on->pairs != NULL;
+    default:
+        return 1;
+    }
 }
 
 /* ---- the same answer ---- */

@@ -31,6 +31,8 @@ fsk_answer plain_join(const uint8_t *record, size_t record_length, uint32_t view
                       uint32_t first, uint32_t second, uint8_t *out, size_t out_length);
 fsk_answer plain_part(const uint8_t *record, size_t record_length, uint32_t view, uint32_t count,
                       uint32_t first, uint32_t second, uint8_t *out, size_t out_length);
+fsk_answer plain_pairs(const uint8_t *record, size_t record_length, uint32_t view, uint32_t count,
+                       const uint8_t *pairs, size_t pairs_length, uint8_t *out, size_t out_length);
 fsk_held plain_holds(const uint8_t *old, size_t old_length, const uint8_t *second,
                      size_t second_length, uint32_t number, size_t length);
 
@@ -59,7 +61,8 @@ enum {
     BAD_SHEET = 21,
     BAD_VALUE = 22,
     NO_SEGMENT = 23,
-    BAD_QUALITY = 24
+    BAD_QUALITY = 24,
+    BAD_PAIRS = 25
 };
 
 enum { LARGEST_RECORD = 32768, MOST_LINES = 1024, POSITIONS = 11 };
@@ -85,6 +88,7 @@ enum {
     VIEW_VALUES = 4,
     SEGMENT_HEADER = 4,
     QUALITY_HEADER = 3,
+    PAIR_ORDER = 6,
     COUNT_OF_CODES = 8
 };
 
@@ -94,7 +98,7 @@ static inline fsk_answer plain_accepted(size_t length)
     return (fsk_answer){0, 0, length};
 }
 
-/* A refusal that has no place: 1, or above 12. */
+/* A refusal that has no place in the record: 1, or above 12. */
 static inline fsk_answer plain_refused(uint32_t number)
 {
     return (fsk_answer){number, 0, 0};

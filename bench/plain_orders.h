@@ -1,6 +1,6 @@
 /*
- * What the orders on one view share: the refusals up to 14, the numbers of a new index, and bits
- * that are put as they stand.
+ * What the orders on one view share: the refusals up to 14, and 17; the numbers of a new index; and
+ * what is put once more, bits as they stand or numbers in another width.
  */
 #ifndef PLAIN_ORDERS_H
 #define PLAIN_ORDERS_H
@@ -16,6 +16,19 @@ static inline fsk_answer plain_judge_order(const uint8_t *bytes, size_t length, 
         return plain_refused(OTHER_COUNT);
     return refusal;
 }
+
+/* The same, and 17 where the view has no index. */
+static inline fsk_answer plain_judge_pair_order(const uint8_t *bytes, size_t length, uint32_t view,
+                                                uint32_t count, plain_record *record)
+{
+    const fsk_answer refusal = plain_judge_order(bytes, length, view, count, record);
+    if (refusal.number == 0 && record->view.index.length == 0)
+        return plain_refused(NO_INDEX);
+    return refusal;
+}
+
+/* What is ordered about two lines, by its number in a list of orders. */
+typedef enum { JOIN = 0, PART = 1 } plain_act;
 
 /* The numbers of an index, counts and differences alike: how many there are, and every bit that one
  * of them has. So `bits` is as wide as the widest of them. */
@@ -63,6 +76,22 @@ static inline void plain_put_bits(plain_writer *to, plain_reader *from, size_t b
         plain_put(&writer, width, plain_take(&reader, width));
         bits -= width;
     }
+    *to = writer;
+    *from = reader;
+}
+
+/* Puts the next numbers of `from`, which have w bits each, in their new width. */
+static inline void plain_put_numbers(plain_writer *to, unsigned new_w, plain_reader *from,
+                                     unsigned w, size_t numbers)
+{
+    plain_writer writer = *to; /* copies that no byte written can change: they stay in registers */
+    plain_reader reader = *from;
+    if (w == new_w) {
+        plain_put_bits(to, from, numbers * w);
+        return;
+    }
+    for (; numbers > 0; numbers--)
+        plain_put(&writer, new_w, plain_take(&reader, w));
     *to = writer;
     *from = reader;
 }

@@ -5,8 +5,6 @@
  */
 #include "plain_orders.h"
 
-typedef enum { JOIN, PART } pair_order;
-
 /* What a pair order changes among the numbers of an index: one list's count, and the differences
  * beside the neighbour that comes or goes. All numbers before, between and behind are kept. */
 typedef struct {
@@ -36,7 +34,7 @@ static void tally_lists(plain_tally *all, plain_reader *reader, unsigned w, uint
 
 /* Changes the list of the line `higher`, which is the next one, by the neighbour `lower`, and
  * tallies its numbers; 0 if the order does not fit it. */
-static int change_list(plain_tally *all, plain_reader *reader, unsigned w, pair_order order,
+static int change_list(plain_tally *all, plain_reader *reader, unsigned w, plain_act act,
                        uint32_t higher, uint32_t lower, change *to)
 {
     const uint32_t count = plain_take(reader, w);
@@ -50,11 +48,11 @@ static int change_list(plain_tally *all, plain_reader *reader, unsigned w, pair_
         plain_tally_number(all, difference);
         above = neighbour;
     }
-    if ((left > 0 && neighbour == lower) != (order == PART))
+    if ((left > 0 && neighbour == lower) != (act == PART))
         return 0;
     to->between = count - left;
     to->differences[0] = above - lower;
-    if (order == JOIN) {
+    if (act == JOIN) {
         to->count = count + 1;
         to->dropped = left > 0 ? 1 : 0;
         to->differences[1] = lower - neighbour; /* if one is dropped: from lower to what follows */
@@ -73,34 +71,18 @@ static int change_list(plain_tally *all, plain_reader *reader, unsigned w, pair_
 }
 
 /* The same for the whole index of a view. */
-static int change_index(plain_tally *all, const plain_view *view, pair_order order, uint32_t higher,
+static int change_index(plain_tally *all, const plain_view *view, plain_act act, uint32_t higher,
                         uint32_t lower, change *to)
 {
     const unsigned w = view->index.bytes[0];
     plain_reader reader = plain_reader_at(view->index.bytes, 8);
     tally_lists(all, &reader, w, higher);
     to->before = all->numbers;
-    if (!change_list(all, &reader, w, order, higher, lower, to))
+    if (!change_list(all, &reader, w, act, higher, lower, to))
         return 0;
     tally_lists(all, &reader, w, view->lines - higher - 1);
     to->behind = all->numbers - to->before - 1 - to->between - to->added;
     return 1;
-}
-
-/* Puts the next numbers of `from` once more, in their new width. */
-static void put_again(plain_writer *to, unsigned new_w, plain_reader *from, unsigned w,
-                      size_t numbers)
-{
-    plain_writer writer = *to; /* copies that no byte written can change: they stay in registers */
-    plain_reader reader = *from;
-    if (w == new_w) {
-        plain_put_bits(to, from, numbers * w);
-        return;
-    }
-    for (; numbers > 0; numbers--)
-        plain_put(&writer, new_w, plain_take(&reader, w));
-    *to = writer;
-    *from = reader;
 }
 
 static uint8_t *put_changed_index(uint8_t *out, plain_block index, const change *by, unsigned new_w)
@@ -109,18 +91,18 @@ static uint8_t *put_changed_index(uint8_t *out, plain_block index, const change 
     plain_reader from = plain_reader_at(index.bytes, 8);
     plain_writer to = {out, 0, 0};
     plain_put(&to, 8, new_w);
-    put_again(&to, new_w, &from, w, by->before);
+    plain_put_numbers(&to, new_w, &from, w, by->before);
     plain_pass(&from, w);
     plain_put(&to, new_w, by->count);
-    put_again(&to, new_w, &from, w, by->between);
+    plain_put_numbers(&to, new_w, &from, w, by->between);
     plain_pass(&from, (size_t)by->dropped * w);
     for (uint32_t i = 0; i < by->added; i++)
         plain_put(&to, new_w, by->differences[i]);
-    put_again(&to, new_w, &from, w, by->behind);
+    plain_put_numbers(&to, new_w, &from, w, by->behind);
     return plain_put_rest(to);
 }
 
-static fsk_answer change_pair(pair_order order, const uint8_t *record, size_t record_length,
+static fsk_answer change_pair(plain_act act, const uint8_t *record, size_t record_length,
                               uint32_t view, uint32_t count, uint32_t first, uint32_t second,
                               uint8_t *out, size_t out_length)
 {
@@ -131,14 +113,12 @@ static fsk_answer change_pair(pair_order order, const uint8_t *record, size_t re
     change by;
     plain_tally all = {0, 0};
     size_t index, length;
-    fsk_answer refusal = plain_judge_order(record, record_length, view, count, &judged);
+    fsk_answer refusal = plain_judge_pair_order(record, record_length, view, count, &judged);
     if (refusal.number != 0)
         return refusal;
-    if (old->length == 0)
-        return plain_refused(NO_INDEX);
     if (higher >= count)
         return plain_refused(NO_LINE);
-    if (!change_index(&all, &judged.view, order, higher, lower, &by))
+    if (!change_index(&all, &judged.view, act, higher, lower, &by))
         return plain_refused(WRONG_PAIR);
     index = plain_index_length(all);
     length = record_length - old->length + index;

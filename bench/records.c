@@ -20,6 +20,7 @@ static maker long_lines, many_lines, many_cells;
 static uint8_t sheets[SAMPLES][ROOM];
 static uint8_t values[SAMPLES][ROOM];
 static uint8_t removals[SAMPLES][2 * MOST_LINES];
+static uint8_t orders[ORDERS * PAIR_ORDER];
 
 /* Ends a record and describes it; what is lent beside it comes last, in make_samples. */
 static sample made(maker *m, const char *name, uint32_t views, uint32_t lines, uint32_t segments)
@@ -107,6 +108,55 @@ static void add_pairs(sample *to, plain_block index)
     }
 }
 
+/* Whether a line's list, the first number's, has a line. */
+static uint8_t has[MOST_LINES][MOST_LINES];
+
+static void find_neighbours(plain_block index, uint32_t lines)
+{
+    const unsigned w = index.bytes[0];
+    plain_reader reader = plain_reader_at(index.bytes, 8);
+    for (uint32_t line = 0; line < lines; line++) {
+        uint32_t neighbour = line;
+        for (uint32_t count = plain_take(&reader, w); count > 0; count--) {
+            neighbour -= plain_take(&reader, w);
+            has[line][neighbour] = 1;
+        }
+    }
+}
+
+/* The highest neighbour in a line's list, or `other` if it has none. */
+static uint32_t highest(uint32_t line, uint32_t other)
+{
+    for (uint32_t lower = line + 1; lower-- > 0;)
+        if (has[line][lower])
+            return lower;
+    return other;
+}
+
+/* Orders that are all accepted, spread over the lines. Each turns over what the index says of two:
+ * a line and one that is at most 63 below it; for every second order, where there is one, the line
+ * and its highest neighbour; for every eighth, the two of the fifth order before it. */
+static void add_pair_list(sample *to, plain_block index, uint8_t *list)
+{
+    find_neighbours(index, to->ordered_lines);
+    to->pairs = list;
+    for (uint32_t i = 0; i < ORDERS; i++) {
+        const uint32_t distance = (29 * i + 11) % 64;
+        uint32_t higher = to->ordered_lines - 1 - 389 * i % to->ordered_lines;
+        uint32_t lower = distance < higher ? higher - distance : 0;
+        if (i % 2 == 1)
+            lower = highest(higher, lower);
+        if (i % 8 == 7) {
+            higher = plain_two_bytes(list - 5 * PAIR_ORDER + 2);
+            lower = plain_two_bytes(list - 5 * PAIR_ORDER + 4);
+        }
+        list = plain_put_two_bytes(list, has[higher][lower]); /* 0 joins, 1 parts */
+        list = plain_put_two_bytes(list, higher);
+        list = plain_put_two_bytes(list, lower);
+        has[higher][lower] ^= 1;
+    }
+}
+
 /* Each record has a view that lines can be removed from. */
 static void add_orders(sample *to, uint8_t *list)
 {
@@ -119,6 +169,8 @@ static void add_orders(sample *to, uint8_t *list)
     to->ordered_lines = judged.view.lines;
     add_removal(to, list);
     add_pairs(to, judged.view.index);
+    if (to->ordered_lines == MOST_LINES)
+        add_pair_list(to, judged.view.index, orders);
 }
 
 void make_samples(sample samples[SAMPLES])

@@ -10,6 +10,9 @@
 
 enum { SAMPLES = 4 };
 
+/* The orders of a list of pairs. */
+enum { ORDERS = 400 };
+
 typedef struct {
     const char *name;
     const uint8_t *record;
@@ -27,6 +30,7 @@ typedef struct {
     size_t removed_length;         /* in bytes */
     uint32_t strangers[2];         /* two of them that are no neighbours, to be joined */
     uint32_t neighbours[2];        /* two that are, to be parted */
+    const uint8_t *pairs;          /* a list of joins and parts of them; null for most samples */
 } sample;
 
 /* Fills in all samples; their bytes stay where they are. */
