@@ -2,8 +2,6 @@
  * Times each call of the library and the same call written by hand in C, on the same records, and
  * prints a table. First both are run once on every record: where they do not accept it with the
  * same answer and the same bytes, there is nothing to compare, and the program ends with 1.
- *
- * A further call is one BOTH and one row; one of several lengths has a BOTH_IN and a row for each.
  */
 #include <inttypes.h>
 #include <stdio.h>
@@ -11,94 +9,13 @@
 #include <string.h>
 #include <time.h>
 
-#include "fsk.h"
-#include "plain.h"
-#include "records.h"
+#include "calls.h"
 
-enum { ROOM = 1 << 17, ROUNDS = 5, FILL = 0xA5 };
+enum { ROUNDS = 5, FILL = 0xA5 };
 static const double MEASURED_SECONDS = 0.2;
-
-typedef fsk_answer (*call)(const sample *on, uint8_t *out, size_t room);
-
-/* What a record must have for a call. */
-typedef enum { NOTHING, A_SEGMENT, QUALITY, A_PAIR_LIST } need;
-
-typedef struct {
-    const char *name;
-    call library, plain;
-    need needs;
-} row;
 
 static uint8_t library_out[ROOM], plain_out[ROOM];
 static volatile size_t kept; /* so that no call can be left out */
-
-/* Both sides of one call, with the arguments that it takes from a sample; `row` is the call's name,
- * or one of several for a call that has several rows. */
-#define BOTH_IN(row, name, ...)                                                                   \
-    static fsk_answer library_##row(const sample *on, uint8_t *out, size_t room)                  \
-    {                                                                                             \
-        (void)out, (void)room;                                                                    \
-        return fsk_##name(__VA_ARGS__);                                                           \
-    }                                                                                             \
-    static fsk_answer by_hand_##row(const sample *on, uint8_t *out, size_t room)                  \
-    {                                                                                             \
-        (void)out, (void)room;                                                                    \
-        return plain_##name(__VA_ARGS__);                                                         \
-    }
-#define BOTH(name, ...) BOTH_IN(name, name, __VA_ARGS__)
-
-BOTH(read, on->record, on->length, out, room)
-BOTH(write, on->sheet, on->sheet_length, out, room)
-BOTH(trail, on->record, on->length, on->view, on->lines - 1, out, room)
-BOTH(segment, on->record, on->length, on->with_segments, on->segments - 1)
-BOTH(quality, on->record, on->length, on->with_segments, on->segments - 1, out, room)
-BOTH(set_quality, on->record, on->length, on->with_segments, on->segments - 1, on->values,
-     on->values_length, out, room)
-BOTH(remove, on->record, on->length, on->ordered, on->ordered_lines, on->removed,
-     on->removed_length, out, room)
-BOTH(join, on->record, on->length, on->ordered, on->ordered_lines, on->strangers[0],
-     on->strangers[1], out, room)
-BOTH(part, on->record, on->length, on->ordered, on->ordered_lines, on->neighbours[0],
-     on->neighbours[1], out, room)
-
-/* The first so many orders of the sample's list. */
-#define PAIRS(orders)                                                                             \
-    BOTH_IN(pairs_##orders, pairs, on->record, on->length, on->ordered, on->ordered_lines,        \
-            on->pairs, PAIR_ORDER * (orders), out, room)
-
-PAIRS(1)
-PAIRS(40)
-PAIRS(400)
-
-static const row rows[] = {
-    {"read", library_read, by_hand_read, NOTHING},
-    {"write", library_write, by_hand_write, NOTHING},
-    {"trail", library_trail, by_hand_trail, NOTHING},
-    {"segment", library_segment, by_hand_segment, A_SEGMENT},
-    {"quality", library_quality, by_hand_quality, QUALITY},
-    {"set_quality", library_set_quality, by_hand_set_quality, QUALITY},
-    {"remove", library_remove, by_hand_remove, NOTHING},
-    {"join", library_join, by_hand_join, NOTHING},
-    {"part", library_part, by_hand_part, NOTHING},
-    {"pairs 1", library_pairs_1, by_hand_pairs_1, A_PAIR_LIST},
-    {"pairs 40", library_pairs_40, by_hand_pairs_40, A_PAIR_LIST},
-    {"pairs 400", library_pairs_400, by_hand_pairs_400, A_PAIR_LIST},
-    {NULL, NULL, NULL, NOTHING},
-};
-
-static int applies(const row *r, const sample *on)
-{
-    switch (r->needs) {
-    case A_SEGMENT:
-        return on->segments > 0;
-    case QUALITY:
-        return on->values_length > 0;
-    case A_PAIR_LIST:
-        return on->pairs != NULL;
-    default:
-        return 1;
-    }
-}
 
 /* ---- the same answer ---- */
 
@@ -187,7 +104,7 @@ int main(void)
            "ns/byte", "ns/call", "ns/byte", "/ plain");
     for (const row *r = rows; r->name != NULL; r++)
         for (int i = 0; i < SAMPLES; i++)
-            if (applies(r, &samples[i]))
+            if (!r->too_short && applies(r, &samples[i]))
                 measure(r, &samples[i]);
     return 0;
 }

@@ -69,15 +69,15 @@ pub fn header_at(bytes: &[u8]) -> HeaderAt
     requires { ⌜ (24 ≤ length (now bytes)) × (length (now bytes) ≤ 32768) ⌝ }
     ensures { λ r. ⌜ Reads (headerDec (length (now (bytes .entry)))) (now (bytes .entry)) 0 (headerAt r) ⌝ }
 {
-    let id = Cursor::start().sure(bytes, 32);
+    let id = Cursor::start().halves(bytes);
     if id.value != 0x46534B00 {
         return HeaderAt::Refused(Refusal::BAD_IDENTIFIER, 0);
     }
-    let version = id.next.sure(bytes, 32);
+    let version = id.next.halves(bytes);
     if version.value != 0x30313000 {
         return HeaderAt::Refused(Refusal::BAD_VERSION, 32);
     }
-    let len = version.next.sure(bytes, 32);
+    let len = version.next.halves(bytes);
     if len.value != bytes.len() {
         return HeaderAt::Refused(Refusal::BAD_LENGTH, 64);
     }

@@ -1,30 +1,21 @@
 -- Bits one behind the other, as a number and as bytes. The laws of Bits and Bytes read a list from its front; these take it apart
 -- where a writer stands.
-use mathlib.Core.Path.{_≡_, refl, sym, ap, ap₂, _∙_}
-use Prim.Native.Nat.{ℕ, zero, suc, _+_, _-_, _*_, _/_, _%_, _^_, _≤_, _<_}
+use mathlib.Core.Path.{_≡_, refl, ap, ap₂, _∙_}
+use Prim.Native.Nat.{ℕ, zero, suc, _+_, _-_, _*_, _/_, _%_, _^_, _≤_}
 use native.Mathlib.Omega.{arith}
-use native.Mathlib.Nat.{add-mul, mul-assoc, add-assoc, div-eq-of-lt}
+use native.Mathlib.Nat.{div-eq-of-lt}
 use mathlib.Core.Bool.{false}
 use mathlib.Core.List.{List, [], _∷_, _++_, append-assoc, append-nil}
-use lib.ListN.{length, take, drop, length-append, length-drop, length-replicate, take-append-drop}
-use lib.Pow.{pow-pos, pow-add, high, low}
+use lib.ListN.{length, take, drop, length-append, length-drop, length-replicate}
+use lib.Pow.{pow-pos}
 use lib.Seq.{take-append-le, drop-append-le, take-all}
-use Rattle.bits.specs.Bits.{Bits, val, bit, numberOfBits, bitsOfNumber, zeros, pad, filled}
-use Rattle.bits.specs.BitsLaws.{number-lt, filled-long}
+use Rattle.bits.specs.Bits.{Bits, bit, numberOfBits, bitsOfNumber, zeros, pad, filled}
+use Rattle.bits.specs.BitsLaws.{filled-long}
 use Rattle.bits.specs.Bytes.{bytesOf, inBytes}
 use Rattle.bits.specs.BytesLaws.{length-in}
+use Rattle.bits.proofs.Laws.Place.{number-append}
 
--- ---- numberOf
-
-spread : (v p n q m : ℕ) → v * (p * q) + (n * q + m) ≡ (v * p + n) * q + m
-spread v p n q m = simp (add-mul, mul-assoc, add-assoc)
-
-pub number-append : (xs ys : Bits) → numberOfBits (xs ++ ys) ≡ numberOfBits xs * 2 ^ length ys + numberOfBits ys
-unfolding numberOfBits
-number-append [] ys = omega arith
-number-append (b ∷ xs) ys =
-    ap₂ (λ (n m : ℕ). val b * n + m) (ap (λ (k : ℕ). 2 ^ k) (length-append xs ys) ∙ pow-add 2 (length xs) (length ys)) (number-append xs ys)
-    ∙ spread (val b) (2 ^ length xs) (numberOfBits xs) (2 ^ length ys) (numberOfBits ys)
+-- ---- numberOfBits
 
 pub number-zeros : (n : ℕ) → numberOfBits (zeros n) ≡ 0
 unfolding numberOfBits
@@ -45,24 +36,6 @@ pub number-none : (xs : Bits) → length xs ≡ 0 → numberOfBits xs ≡ 0
 unfolding numberOfBits
 number-none [] e = refl
 number-none (b ∷ xs) e = absurd (omega arith)
-
-module _ (a b : ℕ) (xs : Bits) (l : length xs ≡ a + b) where
-  length-rest : length (drop a xs) ≡ b
-  length-rest = length-drop a xs ∙ omega arith
-
-  number-split : numberOfBits xs ≡ numberOfBits (take a xs) * 2 ^ b + numberOfBits (drop a xs)
-  number-split =
-      ap numberOfBits (sym (take-append-drop a xs)) ∙ number-append (take a xs) (drop a xs)
-      ∙ ap (λ (n : ℕ). numberOfBits (take a xs) * 2 ^ n + numberOfBits (drop a xs)) length-rest
-
-  rest-lt : numberOfBits (drop a xs) < 2 ^ b
-  rest-lt = rw length-rest at (number-lt (drop a xs))
-
-  pub number-take : numberOfBits (take a xs) ≡ numberOfBits xs / 2 ^ b
-  number-take = sym (ap (λ (n : ℕ). n / 2 ^ b) number-split ∙ high (numberOfBits (take a xs)) b rest-lt)
-
-  pub number-drop : numberOfBits (drop a xs) ≡ numberOfBits xs % 2 ^ b
-  number-drop = sym (ap (λ (n : ℕ). n % 2 ^ b) number-split ∙ low (numberOfBits (take a xs)) b rest-lt)
 
 -- ---- bytesOf
 

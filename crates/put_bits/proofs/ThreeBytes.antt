@@ -12,7 +12,8 @@ use lib.Seq.{take-all}
 use Rattle.bits.specs.Bits.{Bits, numberOfBits, bitsOfNumber, zeros, filled}
 use Rattle.bits.specs.BitsLaws.{length-bits, number-bits, number-lt}
 use Rattle.bits.specs.Bytes.{bytesOf, inBytes}
-use Rattle.put_bits.proofs.Bytes.{number-append, number-filled, number-take, number-drop, bytes-first, filled-to}
+use Rattle.bits.proofs.Laws.Place.{number-append, number-take, number-drop}
+use Rattle.put_bits.proofs.Bytes.{number-filled, bytes-first, filled-to}
 
 -- ---- what the code computes
 

@@ -1,12 +1,14 @@
 -- The laws of loops that read: the answer from here on is the whole answer, for values that are counted, that follow each other
 -- along, that fill a block, and for zero bits.
-use mathlib.Core.Path.{_≡_, refl, ap, _∙_}
-use Prim.Native.Nat.{ℕ, zero, suc, _+_, _-_, _*_, _≤_, _<_}
+use mathlib.Core.Path.{_≡_, refl, sym, ap, _∙_}
+use Prim.Native.Nat.{ℕ, zero, suc, _+_, _-_, _*_, _/_, _%_, _^_, _≤_, _<_}
 use native.Mathlib.Omega.{arith}
-use native.Mathlib.Nat.{add-mul}
+use native.Mathlib.Nat.{add-mul, div-eq-of-lt, mod-eq-of-lt}
 use mathlib.Core.Bool.{Bool, true, false}
 use mathlib.Core.List.{List, [], _∷_, _++_}
 use lib.ListN.{length, take, drop, length-drop}
+use lib.Pow.{pow-pos}
+use lib.Seq.{take-add, take-take, drop-at, length-take-le}
 use lib.Dec.{leb}
 use Rattle.bits.specs.ChoiceLaws.{pick-yes, pick-no}
 use Rattle.bits.specs.Bits.{Bits, numberOfBits}
@@ -17,6 +19,7 @@ use Rattle.bits.specs.BlockLaws.{few-yes, few-no, many-over, fill-more}
 use Rattle.bits.specs.Lists.{total}
 use Rattle.bits.specs.Reads.{keeping, summed, tallied}
 use Rattle.bits.proofs.Laws.Reads.{first-field}
+use Rattle.bits.proofs.Laws.Place.{number-take, number-drop, number-small}
 
 -- ---- what is kept of values, of which the first is read
 
@@ -133,16 +136,43 @@ numbers-fill e w (suc k) (suc n) s o h l =
     let f = first-field e w s (omega arith) in
     (numberOfBits (take w s) ∷ xs, ap suc z, fill-more (field e w) e n s (omega arith) ∙ rw (f, d))
 
--- ---- zero bits, one by one
+-- ---- zero bits, a field of them at a time
 
-pub bit-zero : (e : ℕ) (s : Bits) {v : ℕ} {r : Bits} → fieldDec e 1 s ≡ got v r → v ≡ 0 → zerosDec e s ≡ zerosDec e r
+-- n that are zero are passed
+zeros-pass : (e n : ℕ) (s : Bits) → numberOfBits (take n s) ≡ 0 → zerosDec e s ≡ zerosDec e (drop n s)
 unfolding numberOfBits
-bit-zero e [] h z = let y : _≡_ {A = ℕ} 0 1 = cc in absurd (omega arith)
-bit-zero e (false ∷ s) h z = ap (zerosDec e) (pick-got (leb 1 (length (false ∷ s))) _ _ e _ h .2)
-bit-zero e (true ∷ s) h z = absurd (omega (arith, pick-got (leb 1 (length (true ∷ s))) _ _ e _ h .1))
+zeros-pass e zero s h = refl
+zeros-pass e (suc n) [] h = refl
+zeros-pass e (suc n) (false ∷ s) h = zeros-pass e n s (omega (arith, h))
+zeros-pass e (suc n) (true ∷ s) h = absurd (omega (arith, h, pow-pos (length (take n s))))
 
-pub bit-one : (e : ℕ) (s : Bits) {v : ℕ} {r : Bits} → fieldDec e 1 s ≡ got v r → (v ≡ 0 → ⊥) → zerosDec e s ≡ refused e (length s)
+-- n bits whose number is half of what they can write, or more, start with a 1
+zeros-stop : (e n : ℕ) (s : Bits) → 2 ^ n ≤ numberOfBits (take (suc n) s) → zerosDec e s ≡ refused e (length s)
 unfolding numberOfBits
-bit-one e [] h z = let y : _≡_ {A = ℕ} 0 1 = cc in absurd (omega arith)
-bit-one e (false ∷ s) h z = absurd (z (omega (arith, pick-got (leb 1 (length (false ∷ s))) _ _ e _ h .1)))
-bit-one e (true ∷ s) h z = refl
+zeros-stop e n [] h = absurd (omega (arith, h, pow-pos n))
+zeros-stop e n (true ∷ s) h = refl
+zeros-stop e n (false ∷ s) h = absurd (omega (arith, h, number-small s n))
+
+module _ (e n : ℕ) (s : Bits) {v : ℕ} {r : Bits} (h : fieldDec e n s ≡ got v r) where
+  value-is : numberOfBits (take n s) ≡ v
+  value-is = pick-got (leb n (length s)) _ _ e _ h .1
+
+  pub field-zero : v ≡ 0 → zerosDec e s ≡ zerosDec e r
+  field-zero z = zeros-pass e n s (value-is ∙ z) ∙ ap (zerosDec e) (pick-got (leb n (length s)) _ _ e _ h .2)
+
+  -- bit k is the first that is 1
+  pub field-one : (k : ℕ) → n ≤ length s → k < n → v < 2 ^ (n - k) → 2 ^ (n - k - 1) ≤ v → zerosDec e s ≡ refused e (length s - k)
+  field-one k i j below above =
+      let m = n - k - 1 in
+      let xs : Bits = take n s in
+      let l : length xs ≡ k + (n - k) = length-take-le n s i ∙ omega arith in
+      let a : k + (n - k) ≡ n = omega arith in
+      let b : suc m ≡ n - k = omega arith in
+      let front : numberOfBits (take k s) ≡ 0 =
+      ap numberOfBits (sym (take-take k n s (omega arith))) ∙ number-take k (n - k) xs l ∙ ap (λ (x : ℕ). x / 2 ^ (n - k)) value-is ∙ div-eq-of-lt below in
+      let rest : take (suc m) (drop k s) ≡ drop k xs =
+      ap (λ (x : ℕ). take x (drop k s)) b ∙ sym (drop-at (take k s) (take (n - k) (drop k s)) k (length-take-le k s (omega arith)))
+      ∙ ap (drop k) (sym (take-add k (n - k) s) ∙ ap (λ (x : ℕ). take x s) a) in
+      let back : numberOfBits (take (suc m) (drop k s)) ≡ v =
+      ap numberOfBits rest ∙ number-drop k (n - k) xs l ∙ ap (λ (x : ℕ). x % 2 ^ (n - k)) value-is ∙ mod-eq-of-lt below in
+      zeros-pass e k s front ∙ zeros-stop e m (drop k s) (rw back above) ∙ ap (refused e) (length-drop k s)

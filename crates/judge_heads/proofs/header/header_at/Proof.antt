@@ -15,35 +15,41 @@ use Rattle.judge_heads.proofs.Laws.Header.{FieldAt, field-from, scale-b
 use borrow.Author.Needs.{needs}
 use Rattle.judge_heads.proofs.header.header_at.Statement.{statement}
 use Rattle.judge_heads.proofs.header.header_at.Tie as tie
+use Rattle.judge_heads.proofs.header.header_at.Reads as reads
+use Rattle.judge_heads.proofs.header.header_at.Lts as lts
+use Rattle.bits.proofs.Cursor.halves.Reads as halves-reads
+use Rattle.bits.proofs.Cursor.start.Reads as start-reads
+use Rattle.bits.proofs.Cursor.sure.Reads as sure-reads
+use Rattle.judge_heads.proofs.header.scale_at.Reads as scale-at-reads
 
 abbrev lent : tie.Start → List ℕ
 lent c = c .args .bytes .now
 
-identifier : (c : tie.After-sure) → FieldAt (lent (c .before .before .before)) 0 32 (c .sure .result .value) (c .sure .result .next .at)
-identifier c = field-from (c .before .start .ensures) (c .sure .ensures)
+identifier : (c : tie.After-halves) → FieldAt (lent (c .before .before .before)) 0 32 (c .halves .result .value) (c .halves .result .next .at)
+identifier c = field-from (c .before .start .ensures) (c .halves .ensures)
 
 right-identifier : (c : tie.Else1) → Reads (fixed 2 32 0x46534B00 .dec) (lent (c .before .before .before .before .before)) 0 (found tt 32)
 right-identifier c = fixed-ok 2 32 (identifier (c .before .before) .read 2) 0x46534B00 (c .if1 .left)
 
-version : (c : tie.After-sure2) → FieldAt (lent (c .before .before .before .before .before .before)) 32 32 (c .sure2 .result .value) (c .sure2 .result .next .at)
-version c = field-from (identifier (c .before .before .before) .behind) (c .sure2 .ensures)
+version : (c : tie.After-halves2) → FieldAt (lent (c .before .before .before .before .before .before)) 32 32 (c .halves2 .result .value) (c .halves2 .result .next .at)
+version c = field-from (identifier (c .before .before .before) .behind) (c .halves2 .ensures)
 
 right-version : (c : tie.Else2) → Reads (fixed 3 32 0x30313000 .dec) (lent (c .before .before .before .before .before .before .before .before)) 32 (found tt 64)
 right-version c = fixed-ok 3 32 (version (c .before .before) .read 3) 0x30313000 (c .if2 .left)
 
-record-length : (c : tie.After-sure3) → FieldAt (lent (c .before .before .before .before .before .before .before .before .before)) 64 32 (c .sure3 .result .value) (c .sure3 .result .next .at)
-record-length c = field-from (version (c .before .before .before) .behind) (c .sure3 .ensures)
+record-length : (c : tie.After-halves3) → FieldAt (lent (c .before .before .before .before .before .before .before .before .before)) 64 32 (c .halves3 .result .value) (c .halves3 .result .next .at)
+record-length c = field-from (version (c .before .before .before) .behind) (c .halves3 .ensures)
 
 right-length : (c : tie.Else3) → Reads (fixed 4 32 (length (lent (c .before .before .before .before .before .before .before .before .before .before .before))) .dec) (lent (c .before .before .before .before .before .before .before .before .before .before .before)) 64 (found tt 96)
 right-length c = fixed-ok 4 32 (record-length (c .before .before) .read 4) (length (lent (c .before .before .before .before .before .before .before .before .before .before .before))) (c .if3 .left)
 
-device : (c : tie.After-sure4) → FieldAt (lent (c .before .before .before .before .before .before .before .before .before .before .before .before)) 96 16 (c .sure4 .result .value) (c .sure4 .result .next .at)
-device c = field-from (record-length (c .before .before .before) .behind) (c .sure4 .ensures)
+device : (c : tie.After-sure) → FieldAt (lent (c .before .before .before .before .before .before .before .before .before .before .before .before)) 96 16 (c .sure .result .value) (c .sure .result .next .at)
+device c = field-from (record-length (c .before .before .before) .behind) (c .sure .ensures)
 
-views : (c : tie.After-sure5) → FieldAt (lent (c .before .before .before .before .before .before .before .before .before .before .before .before .before)) 112 8 (c .sure5 .result .value) (c .sure5 .result .next .at)
-views c = field-from (device (c .before) .behind) (c .sure5 .ensures)
+views : (c : tie.After-sure2) → FieldAt (lent (c .before .before .before .before .before .before .before .before .before .before .before .before .before)) 112 8 (c .sure2 .result .value) (c .sure2 .result .next .at)
+views c = field-from (device (c .before) .behind) (c .sure2 .ensures)
 
-right-views : (c : tie.Else4) → Reads (ranged 5 8 1 255 .dec) (lent (c .before .before .before .before .before .before .before .before .before .before .before .before .before .before .before)) 112 (found (c .before .before .sure5 .result .value) 120)
+right-views : (c : tie.Else4) → Reads (ranged 5 8 1 255 .dec) (lent (c .before .before .before .before .before .before .before .before .before .before .before .before .before .before .before)) 112 (found (c .before .before .sure2 .result .value) 120)
 right-views c =
     let h = views (c .before .before) .read 5 in
     ranged-ok 5 8 h 1 255 (omega (arith, c .if4 .left)) (omega (arith, below 5 8 h))
@@ -54,22 +60,22 @@ read-scale c = at-place (views (c .before .before .before .before .before) .behi
 behind-scale : (c : tie.After-scale) → c .scale .given .0 .1 .0 .at ≡ 176
 behind-scale c = scale-behind 5 (omega (arith, c .before .before .before .before .before .before .before .before .before .before .before .before .before .before .before .before .before .before .pre)) (read-scale c)
 
-reserved : (c : tie.After-sure6) → FieldAt (lent (c .before .before .before .before .before .before .before .before .before .before .before .before .before .before .before .before .before .before .before .before)) 176 16 (c .sure6 .result .value) (c .sure6 .result .next .at)
-reserved c = field-from (behind-scale (c .before .before)) (c .sure6 .ensures)
+reserved : (c : tie.After-sure3) → FieldAt (lent (c .before .before .before .before .before .before .before .before .before .before .before .before .before .before .before .before .before .before .before .before)) 176 16 (c .sure3 .result .value) (c .sure3 .result .next .at)
+reserved c = field-from (behind-scale (c .before .before)) (c .sure3 .ensures)
 
 start-requires : tie.Need-start-requires
 start-requires c κs = search needs
 
-sure-requires : tie.Need-sure-requires
-sure-requires c κs = search needs
+halves-requires : tie.Need-halves-requires
+halves-requires c κs = search needs
 
 returns : tie.Need-returns
 unfolding headerDec header
 returns c =
     made _ _ (stop _ _ (fixed-bad 2 32 (identifier (c .before .before) .read 2) 0x46534B00 (omega arith) (c .if1 .taken)))
 
-sure-requires-2 : tie.Need-sure-requires-2
-sure-requires-2 c κs = search needs
+halves-requires-2 : tie.Need-halves-requires-2
+halves-requires-2 c κs = search needs
 
 returns-2 : tie.Need-returns-2
 unfolding headerDec header
@@ -77,8 +83,8 @@ returns-2 c =
     made _ _ (go-on _ _ (right-identifier (c .before .before .before))
     (stop _ _ (fixed-bad 3 32 (version (c .before .before) .read 3) 0x30313000 (omega (arith, c .before .before .before .before .before .before .before .before .pre)) (c .if2 .taken))))
 
-sure-requires-3 : tie.Need-sure-requires-3
-sure-requires-3 c κs = search needs
+halves-requires-3 : tie.Need-halves-requires-3
+halves-requires-3 c κs = search needs
 
 returns-3 : tie.Need-returns-3
 unfolding headerDec header
@@ -86,11 +92,11 @@ returns-3 c =
     made _ _ (go-on _ _ (right-identifier (c .before .before .before .before .before .before)) (go-on _ _ (right-version (c .before .before .before))
     (stop _ _ (fixed-bad 4 32 (record-length (c .before .before) .read 4) (length (lent (c .before .before .before .before .before .before .before .before .before .before .before))) (omega (arith, c .before .before .before .before .before .before .before .before .before .before .before .pre)) (c .if3 .taken)))))
 
-sure-requires-4 : tie.Need-sure-requires-4
-sure-requires-4 c κs = search needs
+sure-requires : tie.Need-sure-requires
+sure-requires c κs = search needs
 
-sure-requires-5 : tie.Need-sure-requires-5
-sure-requires-5 c κs = search needs
+sure-requires-2 : tie.Need-sure-requires-2
+sure-requires-2 c κs = search needs
 
 returns-4 : tie.Need-returns-4
 unfolding headerDec header
@@ -108,8 +114,8 @@ enum-known-p c = search needs
 enum-known-scale : tie.Need-enum-known-scale
 enum-known-scale c = search needs
 
-sure-requires-6 : tie.Need-sure-requires-6
-sure-requires-6 c κs =
+sure-requires-3 : tie.Need-sure-requires-3
+sure-requires-3 c κs =
     omega (arith, behind-scale (c .before), c .before .before .before .before .before .before .before .before .before .before .before .before .before .before .before .before .before .before .before .pre)
 
 returns-5 : tie.Need-returns-5
@@ -138,19 +144,19 @@ header-at-spec =
     tie.close
     (tie.spec
     start-requires
-    sure-requires
+    halves-requires
     returns
-    sure-requires-2
+    halves-requires-2
     returns-2
-    sure-requires-3
+    halves-requires-3
     returns-3
-    sure-requires-4
-    sure-requires-5
+    sure-requires
+    sure-requires-2
     returns-4
     scale-at-requires
     enum-known-p
     enum-known-scale
-    sure-requires-6
+    sure-requires-3
     returns-5
     returns-6
     returns-7)
