@@ -1,10 +1,11 @@
 // The lines that a removal leaves, from an accepted record's skeleton block: the block with them alone, measured or put. A line's
 // bits are copied as they stand.
 ghost use mathlib.Core.Path.{_≡_};
-ghost use Prim.Native.Nat.{min};
+ghost use Prim.Native.Nat.{_+_, _*_, _≤_, min};
 ghost use Rattle.order_lines.specs.Copy.{CopyThere, Copied};
 ghost use Rattle.order_lines.specs.Lines.{LinesToKeep, LinesSized, LinesPutThere, LinesPut};
 use bits::Cursor;
+use bits::wide;
 use find_parts::line::line_end;
 use format::Widths;
 use order_removal::rank_of;
@@ -16,20 +17,52 @@ fn smaller(a: usize, b: usize) -> usize
     if a < b { a } else { b }
 }
 
-// The bits of `block` from place p up to place `end`, put at place `at` of `out`; the answer is the place behind them.
+// The n bits of `block` from place p on, put at place `at` of `out`; the answer is the place behind them.
+fn copy_few(out: &mut [u8], at: usize, block: &[u8], p: usize, n: usize) -> usize
+    requires { ⌜ CopyThere (now block) p (p + n) (now out) at × (n ≤ 16) ⌝ }
+    ensures { λ r. ⌜ Copied (now (block .entry)) p (p + n) (now (out .entry)) at (now (out .exit)) r ⌝ }
+{
+    let some = Cursor { at: p }.sure(block, n);
+    put_bits(out, at, some.value, n)
+}
+
+// As many bits as `count` bytes have, from place p of `block` on, stored from byte a of `out` on. A byte stored has the bits of one byte
+// of the block or of two that follow each other; if of one, it stands for both, and what is too much is shifted out.
+fn copy_bytes(out: &mut [u8], a: usize, block: &[u8], p: usize, count: usize)
+    requires { ⌜ CopyThere (now block) p (p + 8 * count) (now out) (8 * a) ⌝ }
+    ensures { λ _. ⌜ Copied (now (block .entry)) p (p + 8 * count) (now (out .entry)) (8 * a) (now (out .exit)) (8 * (a + count)) ⌝ }
+{
+    let first = p / 8;
+    let last = (p + 7) / 8;
+    let mut i: usize = 0;
+    while i < count {
+        let two = wide(block[first + i]) * 256 + wide(block[last + i]);
+        out[a + i] = (two << (p % 8 + 48) >> 56) as u8;
+        i += 1;
+    }
+}
+
+// The bits of `block` from place p up to place `end`, put at place `at` of `out`: those that fill up its byte under way, then whole
+// bytes, then the rest. The answer is the place behind them.
 fn copy_bits(out: &mut [u8], at: usize, block: &[u8], p: usize, end: usize) -> usize
     requires { ⌜ CopyThere (now block) p end (now out) at ⌝ }
     ensures { λ r. ⌜ Copied (now (block .entry)) p end (now (out .entry)) at (now (out .exit)) r ⌝ }
 {
-    let mut q = at;
-    let mut from = p;
-    while from < end {
-        let width = smaller(end - from, 16);
-        let some = Cursor { at: from }.sure(block, width);
-        q = put_bits(out, q, some.value, width);
-        from += width;
+    let some = smaller((8 - at % 8) % 8, end - p);
+    let q = copy_few(out, at, block, p, some);
+    let from = p + some;
+    if from == end {
+        return q;
     }
-    q
+    let count = (end - from) / 8;
+    copy_bytes(out, q / 8, block, from, count);
+    copy_few(
+        out,
+        q + 8 * count,
+        block,
+        from + 8 * count,
+        end - from - 8 * count,
+    )
 }
 
 // How many bytes the new skeleton block has. The old one is `block`, of `count` lines; the removal leaves some of them.

@@ -5,7 +5,7 @@ use Prim.Native.Nat.{ℕ, _+_, _-_, _*_, _/_, _%_, _^_, _≤_, _<_}
 use native.Mathlib.Omega.{arith}
 use native.Mathlib.Nat.{div-eq-of-lt}
 use mathlib.Core.List.{List, [], _++_, append-assoc, append-nil}
-use lib.ListN.{length, getD, take, drop, length-append, length-drop, take-append-drop}
+use lib.ListN.{length, getD, set, take, drop, length-append, length-drop, take-append-drop}
 use lib.Pow.{shl-shr}
 use lib.Seq.{sets, sets-eq, length-sets, take-at, length-take-le, drop-append-add, drop-drop, getD-at}
 use Rattle.bits.specs.ChoiceLaws.{eq-split}
@@ -80,10 +80,10 @@ module _ {xs : Bits} {before now : List ℕ} {at : ℕ} (p : Put xs before now a
 
 -- ---- a number behind them
 
--- m bytes of the window are stored from the byte under way on; byte is what was there, word the window
-module _ (now : List ℕ) (at value width byte word m : ℕ) (fits : value < 2 ^ width) (room : at + width ≤ 8 * length now)
-    (is-byte : byte ≡ getD now (at / 8) 0) (is-small : byte < 256)
-    (is-word : word ≡ byte / 2 ^ (8 - at % 8) * 2 ^ (8 - at % 8 + 16) + value * 2 ^ (8 - at % 8 + 16 - width))
+-- m bytes of the window are stored from the byte under way on; kept is the number of its bits, word the window
+module _ (now : List ℕ) (at value width kept word m : ℕ) (fits : value < 2 ^ width) (room : at + width ≤ 8 * length now)
+    (is-kept : (xs : Bits) (before : List ℕ) → Put xs before now at → kept ≡ numberOfBits (last at xs))
+    (is-word : word ≡ kept * 2 ^ (8 - at % 8 + 16) + value * 2 ^ (8 - at % 8 + 16 - width))
     (begins : (at % 8 + width + 7) / 8 ≡ m) (some : 1 ≤ m) (few : m ≤ 3) where
   stored : {xs : Bits} {before : List ℕ} → Put xs before now at → Put (xs ++ bitsOfNumber width value) before (sets now (at / 8) (take m (three word))) (at + width)
   stored {xs} {before} p =
@@ -93,7 +93,7 @@ module _ (now : List ℕ) (at value width byte word m : ℕ) (fits : value < 2 ^
       let k : length ys + width ≤ 24 = omega arith in
       let w : Bits = windowOf ys value width in
       let n : word ≡ numberOfBits w =
-      is-word ∙ ap (λ (v : ℕ). v * 2 ^ (8 - at % 8 + 16) + value * 2 ^ (8 - at % 8 + 16 - width)) (begun p byte is-byte is-small)
+      is-word ∙ ap (λ (v : ℕ). v * 2 ^ (8 - at % 8 + 16) + value * 2 ^ (8 - at % 8 + 16 - width)) (is-kept xs before p)
       ∙ sym (number-window ys value width k (8 - at % 8) (omega arith) fits) in
       let vs : take m (three word) ≡ bytesOf m w =
       ap (λ (v : ℕ). take m (three v)) n ∙ ap (take m) (sym (three-bytes w (length-window ys value width k))) ∙ bytes-take m 3 w few in
@@ -110,8 +110,24 @@ module _ (now : List ℕ) (at value width byte word m : ℕ) (fits : value < 2 ^
             ∙ sym (ap₂ (λ (x : List ℕ) (j : ℕ). x ++ drop j before) f lf);
       }
 
-  pub put-more : PutMore now at value width (sets now (at / 8) (take m (three word))) (at + width)
-  put-more = record { is = λ xs before p. stored p; same = length-sets now (at / 8) (take m (three word)); place = refl }
+  put-stored : PutMore now at value width (sets now (at / 8) (take m (three word))) (at + width)
+  put-stored = record { is = λ xs before p. stored p; same = length-sets now (at / 8) (take m (three word)); place = refl }
+
+-- byte is what was there
+pub put-more : (now : List ℕ) (at value width byte word m : ℕ) → value < 2 ^ width → at + width ≤ 8 * length now → byte ≡ getD now (at / 8) 0 → byte < 256
+    → word ≡ byte / 2 ^ (8 - at % 8) * 2 ^ (8 - at % 8 + 16) + value * 2 ^ (8 - at % 8 + 16 - width) → (at % 8 + width + 7) / 8 ≡ m → 1 ≤ m → m ≤ 3
+    → PutMore now at value width (sets now (at / 8) (take m (three word))) (at + width)
+put-more now at value width byte word m fits room is-byte is-small =
+    put-stored now at value width (byte / 2 ^ (8 - at % 8)) word m fits room (λ xs before p. begun p byte is-byte is-small)
+
+-- a byte, where none is under way
+pub put-byte : (now : List ℕ) (j value : ℕ) → value < 256 → j < length now → PutMore now (8 * j) value 8 (set now j value) (8 * j + 8)
+put-byte now j value fits there =
+    let d : 8 * j / 8 ≡ j = omega arith in
+    let z : 8 * j % 8 ≡ 0 = omega arith in
+    let first : value * 65536 / 65536 % 256 ≡ value = omega arith in
+    rw (d, first) at
+    (put-stored now (8 * j) value 8 0 (value * 65536) 1 fits (omega arith) (λ xs before p. sym (number-none (last (8 * j) xs) (length-last p ∙ z))) (rw z (omega arith)) (omega arith) (omega arith) (omega arith))
 
 -- a number of no bits
 pub put-nothing : (now : List ℕ) (at value width : ℕ) → width ≡ 0 → PutMore now at value width now at
