@@ -11,8 +11,8 @@
 
 #include "calls.h"
 
-enum { ROUNDS = 5, FILL = 0xA5 };
-static const double MEASURED_SECONDS = 0.2;
+enum { ROUNDS = 40, FILL = 0xA5 };
+static const double MEASURED_SECONDS = 0.025;
 
 static uint8_t library_out[ROOM], plain_out[ROOM];
 static volatile size_t kept; /* so that no call can be left out */

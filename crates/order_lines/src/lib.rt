@@ -22,12 +22,12 @@ fn copy_few(out: &mut [u8], at: usize, block: &[u8], p: usize, n: usize) -> usiz
     requires { ⌜ CopyThere (now block) p (p + n) (now out) at × (n ≤ 16) ⌝ }
     ensures { λ r. ⌜ Copied (now (block .entry)) p (p + n) (now (out .entry)) at (now (out .exit)) r ⌝ }
 {
-    let some = Cursor { at: p }.sure(block, n);
-    put_bits(out, at, some.value, n)
+    let bits = Cursor { at: p }.sure(block, n);
+    put_bits(out, at, bits.value, n)
 }
 
-// As many bits as `count` bytes have, from place p of `block` on, stored from byte a of `out` on. A byte stored has the bits of one byte
-// of the block or of two that follow each other; if of one, it stands for both, and what is too much is shifted out.
+// The bits of `block` from place p on, as many as `count` bytes have, stored from byte a of `out` on. What one byte takes lies in one byte
+// of the block or in two; a single one stands for both, and what is too much is shifted out.
 fn copy_bytes(out: &mut [u8], a: usize, block: &[u8], p: usize, count: usize)
     requires { ⌜ CopyThere (now block) p (p + 8 * count) (now out) (8 * a) ⌝ }
     ensures { λ _. ⌜ Copied (now (block .entry)) p (p + 8 * count) (now (out .entry)) (8 * a) (now (out .exit)) (8 * (a + count)) ⌝ }
@@ -48,9 +48,9 @@ fn copy_bits(out: &mut [u8], at: usize, block: &[u8], p: usize, end: usize) -> u
     requires { ⌜ CopyThere (now block) p end (now out) at ⌝ }
     ensures { λ r. ⌜ Copied (now (block .entry)) p end (now (out .entry)) at (now (out .exit)) r ⌝ }
 {
-    let some = smaller((8 - at % 8) % 8, end - p);
-    let q = copy_few(out, at, block, p, some);
-    let from = p + some;
+    let few = smaller((8 - at % 8) % 8, end - p);
+    let q = copy_few(out, at, block, p, few);
+    let from = p + few;
     if from == end {
         return q;
     }

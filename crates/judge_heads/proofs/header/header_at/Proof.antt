@@ -15,12 +15,6 @@ use Rattle.judge_heads.proofs.Laws.Header.{FieldAt, field-from, scale-b
 use borrow.Author.Needs.{needs}
 use Rattle.judge_heads.proofs.header.header_at.Statement.{statement}
 use Rattle.judge_heads.proofs.header.header_at.Tie as tie
-use Rattle.judge_heads.proofs.header.header_at.Reads as reads
-use Rattle.judge_heads.proofs.header.header_at.Lts as lts
-use Rattle.bits.proofs.Cursor.halves.Reads as halves-reads
-use Rattle.bits.proofs.Cursor.start.Reads as start-reads
-use Rattle.bits.proofs.Cursor.sure.Reads as sure-reads
-use Rattle.judge_heads.proofs.header.scale_at.Reads as scale-at-reads
 
 abbrev lent : tie.Start → List ℕ
 lent c = c .args .bytes .now
