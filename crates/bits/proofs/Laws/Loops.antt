@@ -9,16 +9,15 @@ use mathlib.Core.List.{List, [], _∷_, _++_}
 use lib.ListN.{length, take, drop, length-drop}
 use lib.Pow.{pow-pos}
 use lib.Seq.{take-add, take-take, drop-at, length-take-le}
-use lib.Dec.{leb}
 use Rattle.bits.specs.ChoiceLaws.{pick-yes, pick-no}
 use Rattle.bits.specs.Bits.{Bits, numberOfBits}
 use Rattle.bits.specs.Codec.{Read, got, refused, next, Codec, fieldDec, timesDec, alongDec}
-use Rattle.bits.specs.CodecLaws.{field, pick-got}
+use Rattle.bits.specs.CodecLaws.{field}
 use Rattle.bits.specs.Block.{few, zerosDec, manyDec, fillDec}
 use Rattle.bits.specs.BlockLaws.{few-yes, few-no, many-over, fill-more}
 use Rattle.bits.specs.Lists.{total}
 use Rattle.bits.specs.Reads.{keeping, summed, tallied}
-use Rattle.bits.proofs.Laws.Reads.{first-field}
+use Rattle.bits.proofs.Laws.Reads.{first-field, field-got}
 use Rattle.bits.proofs.Laws.Place.{number-take, number-drop, number-small}
 
 -- ---- what is kept of values, of which the first is read
@@ -154,15 +153,13 @@ zeros-stop e n (true ∷ s) h = refl
 zeros-stop e n (false ∷ s) h = absurd (omega (arith, h, number-small s n))
 
 module _ (e n : ℕ) (s : Bits) {v : ℕ} {r : Bits} (h : fieldDec e n s ≡ got v r) where
-  value-is : numberOfBits (take n s) ≡ v
-  value-is = pick-got (leb n (length s)) _ _ e _ h .1
-
   pub field-zero : v ≡ 0 → zerosDec e s ≡ zerosDec e r
-  field-zero z = zeros-pass e n s (value-is ∙ z) ∙ ap (zerosDec e) (pick-got (leb n (length s)) _ _ e _ h .2)
+  field-zero z = let (i, value-is, rest) = field-got e n s h in zeros-pass e n s (value-is ∙ z) ∙ ap (zerosDec e) rest
 
   -- bit k is the first that is 1
-  pub field-one : (k : ℕ) → n ≤ length s → k < n → v < 2 ^ (n - k) → 2 ^ (n - k - 1) ≤ v → zerosDec e s ≡ refused e (length s - k)
-  field-one k i j below above =
+  pub field-one : (k : ℕ) → k < n → v < 2 ^ (n - k) → 2 ^ (n - k - 1) ≤ v → zerosDec e s ≡ refused e (length s - k)
+  field-one k j below above =
+      let (i, value-is, _) = field-got e n s h in
       let m = n - k - 1 in
       let xs : Bits = take n s in
       let l : length xs ≡ k + (n - k) = length-take-le n s i ∙ omega arith in

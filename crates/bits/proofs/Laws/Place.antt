@@ -145,8 +145,9 @@ module _ (s : List ℕ) (at w : ℕ) (there : at + w ≤ 8 * length s) where
     two-bytes k l e f = omega (arith, e, f, number-more (getD s k 0) (getD s l 0 ∷ []) (small k), number-more (getD s l 0) [] (small l))
 
     -- the first byte and the last
-    pub out-of-two : 1 ≤ w → w ≤ 9 → {x y : ℕ} → x ≡ getD s (at / 8) 0 → y ≡ getD s z 0 → (x * 256 + y) * 2 ^ (at % 8 + 48) % 2 ^ 64 / 2 ^ (64 - w) ≡ field-there
-    out-of-two h k {x} {y} ex ey =
+    pub out-of-two : 1 ≤ w → w ≤ 9 → {x y up : ℕ} → x ≡ getD s (at / 8) 0 → y ≡ getD s z 0 → up ≡ at % 8 + 48
+        → (x * 256 + y) * 2 ^ up % 2 ^ 64 / 2 ^ (64 - w) ≡ field-there
+    out-of-two h k {x} {y} ex ey u =
         let a = at / 8 in
         let t : List ℕ = getD s a 0 ∷ getD s z 0 ∷ [] in
         let number : x * 256 + y ≡ numberOfBits (bitsOf t) = two-bytes a z ex ey in
@@ -156,13 +157,13 @@ module _ (s : List ℕ) (at w : ℕ) (there : at + w ≤ 8 * length s) where
         out-of t 2 (sym (two-more s a 0 (omega arith) ∙ ap (λ (k : ℕ). getD s a 0 ∷ getD s k 0 ∷ []) (sym f))) (omega arith) (omega arith) (omega arith) (omega arith) number (omega arith))
 
     -- the first two and the last
-    pub out-of-three : 10 ≤ w → w ≤ 16 → {x u : ℕ} → x ≡ getD s (at / 8) 0 * 256 + getD s (at / 8 + 1) 0 → u ≡ getD s z 0
-        → (x * 256 + u) * 2 ^ (at % 8 + 40) % 2 ^ 64 / 2 ^ (64 - w) ≡ field-there
-    out-of-three h k {x} {u} ex eu =
+    pub out-of-three : 10 ≤ w → w ≤ 16 → {x y up : ℕ} → x ≡ getD s (at / 8) 0 * 256 + getD s (at / 8 + 1) 0 → y ≡ getD s z 0 → up ≡ at % 8 + 40
+        → (x * 256 + y) * 2 ^ up % 2 ^ 64 / 2 ^ (64 - w) ≡ field-there
+    out-of-three h k {x} {y} ex ey u =
         let a = at / 8 in
         let t : List ℕ = getD s a 0 ∷ getD s (a + 1) 0 ∷ getD s z 0 ∷ [] in
-        let number : x * 256 + u ≡ numberOfBits (bitsOf t) =
-        omega (arith, ex, eu, number-more (getD s a 0) (getD s (a + 1) 0 ∷ getD s z 0 ∷ []) (small a), two-bytes (a + 1) z refl refl) in
+        let number : x * 256 + y ≡ numberOfBits (bitsOf t) =
+        omega (arith, ex, ey, number-more (getD s a 0) (getD s (a + 1) 0 ∷ getD s z 0 ∷ []) (small a), two-bytes (a + 1) z refl refl) in
         eq-split z (a + 1)
         (λ e. out-of t 2 (sym (two-more s a 0 (omega arith))) (omega arith) (omega arith) (omega arith) (omega arith) number (omega arith))
         (λ e. let f : z ≡ a + 1 + 1 = omega arith in

@@ -8,7 +8,7 @@ use mathlib.Core.Option.{Option, none, some}
 use mathlib.Core.List.{List}
 use lib.ListN.{length, take, drop, length-drop}
 use lib.Seq.{drop-drop}
-use lib.Dec.{T, leb, eqb, le→leb}
+use lib.Dec.{T, leb, eqb, le→leb, leb→le}
 use mir.Facts.{no-leb}
 use borrow.Author.Tests.{eq-eqb, ne-eqb}
 use Rattle.bits.specs.Choice.{within}
@@ -17,7 +17,7 @@ use Rattle.bits.specs.Bits.{Bits, numberOfBits}
 use Rattle.bits.specs.Bytes.{bitsOf}
 use Rattle.bits.specs.BytesLaws.{length-bitsOf}
 use Rattle.bits.specs.Codec.{Read, got, refused, next, Codec, fieldDec, thenDec, viaDec, onlyDec, wholeDec, judgedDec, roomDec}
-use Rattle.bits.specs.CodecLaws.{field, field-back, fixed, ranged}
+use Rattle.bits.specs.CodecLaws.{field, field-back, fixed, ranged, pick-got}
 use Rattle.bits.specs.Reads.{Found, found, fault, placed, placeFound, Reads, keeping}
 use Rattle.bits.proofs.Laws.Refuses.{Refusal, accepted, by, refused-by, next-refusal, pick-refusal}
 
@@ -27,6 +27,10 @@ length-rest s p = simp (length-drop, length-bitsOf)
 -- the first n bits as a number
 pub first-field : (e n : ℕ) (s : Bits) → n ≤ length s → fieldDec e n s ≡ got (numberOfBits (take n s)) (drop n s)
 first-field e n s l = pick-yes (leb n (length s)) _ _ (le→leb n (length s) l)
+
+-- where a field was read, its bits were there, and it is their number
+pub field-got : (e n : ℕ) (s : Bits) {v : ℕ} {r : Bits} → fieldDec e n s ≡ got v r → (n ≤ length s) × (numberOfBits (take n s) ≡ v) × (drop n s ≡ r)
+field-got e n s h = let (t, a, b) = pick-got (leb n (length s)) _ _ e _ h in (leb→le n (length s) t, a, b)
 
 -- the field of n bits at place p, where it fits, and where it passes the end
 pub field-at : (e : ℕ) (s : List ℕ) (p n v : ℕ) → p ≤ 8 * length s → n ≤ 8 * length s - p → v ≡ numberOfBits (take n (drop p (bitsOf s)))

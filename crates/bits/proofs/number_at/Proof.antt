@@ -65,7 +65,7 @@ shr-result c = search needs
 returns-2 : tie.Need-returns-2
 returns-2 c =
     let a = c .before .before .before .before .before .before .before .args in
-    out-of-two (a .bytes .now) (a .at) (a .w) (omega (arith, c .before .before .before .before .before .before .before .pre)) (small (c .before .before .before .before .before .before)) (omega arith) (omega (arith, c .before .before .before .before .before .if1 .left)) (omega (arith, c .before .before .before .before .if2 .taken)) (c .before .before .wide .ensures) (c .wide2 .ensures)
+    out-of-two (a .bytes .now) (a .at) (a .w) (omega (arith, c .before .before .before .before .before .before .before .pre)) (small (c .before .before .before .before .before .before)) (omega arith) (omega (arith, c .before .before .before .before .before .if1 .left)) (omega (arith, c .before .before .before .before .if2 .taken)) (c .before .before .wide .ensures) (c .wide2 .ensures) (omega arith)
 
 two-at-requires : tie.Need-two-at-requires
 two-at-requires c κs = search needs
@@ -101,7 +101,7 @@ shr-result-2 c = search needs
 returns-3 : tie.Need-returns-3
 returns-3 c =
     let a = c .before .before .before .before .before .before .args in
-    out-of-three (a .bytes .now) (a .at) (a .w) (omega (arith, c .before .before .before .before .before .before .pre)) (small (c .before .before .before .before .before)) (omega arith) (omega (arith, c .before .before .before .if2 .left)) (omega (arith, c .before .before .before .before .before .before .pre)) (c .before .before .two-at .ensures) (c .wide3 .ensures)
+    out-of-three (a .bytes .now) (a .at) (a .w) (omega (arith, c .before .before .before .before .before .before .pre)) (small (c .before .before .before .before .before)) (omega arith) (omega (arith, c .before .before .before .if2 .left)) (omega (arith, c .before .before .before .before .before .before .pre)) (c .before .before .two-at .ensures) (c .wide3 .ensures) (omega arith)
 
 pub number-at-spec : {M : Type 1} → statement M
 number-at-spec =

@@ -50,7 +50,7 @@ returns c =
     let f = c .before .first-one in
     let n = 8 - m .q .at % 8 in
     λ e. record {
-      is = sym (m .inv .1 e) ∙ field-one e n (drop (m .q .at) (bitsOf s)) (c .before .before .before .before .sure .ensures .0 e .is) (f .result) (omega (arith, length-rest s (m .q .at))) (f .ensures .0) (f .ensures .1) (f .ensures .2)
+      is = sym (m .inv .1 e) ∙ field-one e n (drop (m .q .at) (bitsOf s)) (c .before .before .before .before .sure .ensures .0 e .is) (f .result) (f .ensures .0) (f .ensures .1) (f .ensures .2)
           ∙ ap (refused e) (omega (arith, length-rest s (m .q .at)));
       within = omega (arith, f .ensures .0);
     }

@@ -4,16 +4,14 @@ use Prim.Native.Nat.{ℕ, _+_, _-_, _*_, _/_, _%_, _^_, _≤_, _<_}
 use native.Mathlib.Omega.{arith}
 use mathlib.Core.List.{List, _++_}
 use lib.ListN.{length, getD, set, take, drop, length-take}
-use lib.Dec.{leb}
 use lib.Seq.{drop-drop, length-take-le, take-add}
 use Rattle.bits.specs.Bits.{Bits, numberOfBits, bitsOfNumber}
 use Rattle.bits.specs.BitsLaws.{bits-number}
 use Rattle.bits.specs.Bytes.{bitsOf}
 use Rattle.bits.specs.Codec.{fieldDec}
-use Rattle.bits.specs.CodecLaws.{pick-got}
 use Rattle.bits.specs.Reads.{found, Reads}
 use Rattle.bits.proofs.Laws.Place.{number-small, out-of-two}
-use Rattle.bits.proofs.Laws.Reads.{length-rest}
+use Rattle.bits.proofs.Laws.Reads.{length-rest, field-got}
 use Rattle.put_bits.specs.Put.{PutMore}
 use Rattle.put_bits.proofs.Laws.{put-byte}
 use Rattle.put_bits.proofs.Chain.{puts-one, puts-none, _then_, puts-as}
@@ -22,8 +20,7 @@ use Rattle.order_lines.specs.Copy.{CopyThere, Copied}
 -- ---- a number that is put
 
 pub field-number : (e n : ℕ) {s : List ℕ} {p v q : ℕ} → Reads (fieldDec e n) s p (found v q) → v ≡ numberOfBits (take n (drop p (bitsOf s)))
-field-number e n {s} {p} h =
-    sym (pick-got (leb n (length (drop p (bitsOf s)))) (numberOfBits (take n (drop p (bitsOf s)))) (drop n (drop p (bitsOf s))) e _ (h .is) .1)
+field-number e n {s} {p} h = sym (field-got e n (drop p (bitsOf s)) (h .is) .1)
 
 -- v is the number of the n bits at place p
 module _ (s : List ℕ) (p n : ℕ) {v : ℕ} (is : v ≡ numberOfBits (take n (drop p (bitsOf s)))) (l : p + n ≤ 8 * length s) where
@@ -32,9 +29,6 @@ module _ (s : List ℕ) (p n : ℕ) {v : ℕ} (is : v ≡ numberOfBits (take n (
 
   bits-are : bitsOfNumber n v ≡ take n (drop p (bitsOf s))
   bits-are = ap₂ bitsOfNumber (sym long) is ∙ bits-number (take n (drop p (bitsOf s)))
-
-  pub number-below : v < 2 ^ n
-  number-below = omega (arith, is, number-small (drop p (bitsOf s)) n)
 
   pub copied-number : {now next : List ℕ} {q r : ℕ} → PutMore now q v n next r → Copied s p (p + n) now q next r
   copied-number h =
@@ -91,13 +85,12 @@ module _ (s : List ℕ) (p a i : ℕ) (small : (j : ℕ) → getD s j 0 < 2 ^ 8)
   next-is : next-byte ≡ numberOfBits (take 8 (drop (p + 8 * i) (bitsOf s)))
   next-is =
       let at = p + 8 * i in
-      let r : at % 8 ≡ p % 8 = omega arith in
       let d : at / 8 ≡ p / 8 + i = omega arith in
       let e : (at + 8 - 1) / 8 ≡ (p + 7) / 8 + i = omega arith in
-      rw r at (out-of-two s at 8 (omega arith) small (sym e) (omega arith) (omega arith) (first ∙ ap (λ (j : ℕ). getD s j 0) (sym d)) last)
+      out-of-two s at 8 (omega arith) small (sym e) (omega arith) (omega arith) (first ∙ ap (λ (j : ℕ). getD s j 0) (sym d)) last (omega arith)
 
-  pub next-small : next-byte < 256
-  next-small = number-below s (p + 8 * i) 8 next-is (omega arith)
+  next-small : next-byte < 256
+  next-small = omega (arith, next-is, number-small (drop (p + 8 * i) (bitsOf s)) 8)
 
   pub bytes-more : {old now : List ℕ} → BytesCopied s p a i old now → a + i < length now
       → BytesCopied s p a (i + 1) old (set now (a + i) next-byte)

@@ -68,7 +68,6 @@ sub-count c =
 copy-bytes-requires : tie.Need-copy-bytes-requires
 copy-bytes-requires c κs =
     let a = c .before .before .before .before .before .before .before .before .before .args in
-    let n = bytes (c .before .before .before .before .before .before) in
     rw (whole (c .before)) (room-behind (a .block .now) (a .p) (from (c .before .before .before .before .before .before)) (omega arith) (c .before .before .before .before .copy-few .ensures) (c .before .before .before .before .before .before .before .before .before .pre) (omega arith) (omega (arith, few (c .before .before .before .before .before .before) .0)))
 
 mul-copy-few : tie.Need-mul-copy-few

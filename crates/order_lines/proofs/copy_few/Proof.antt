@@ -6,7 +6,8 @@ use Prim.Native.Nat.{_+_, _*_, _≤_}
 use lib.ListN.{length, take, drop}
 use Rattle.bits.specs.Bits.{numberOfBits}
 use Rattle.bits.specs.Bytes.{bitsOf}
-use Rattle.order_lines.proofs.Laws.Copy.{field-number, number-below, copied-number}
+use Rattle.bits.proofs.Laws.Reads.{below}
+use Rattle.order_lines.proofs.Laws.Copy.{field-number, copied-number}
 use borrow.Author.Needs.{needs}
 use Rattle.order_lines.proofs.copy_few.Statement.{statement}
 use Rattle.order_lines.proofs.copy_few.Tie as tie
@@ -26,7 +27,7 @@ put-bits-requires c κs =
     let a = c .before .before .before .before .args in
     let h = c .before .before .before .before .pre .0 in
     record {
-      below = number-below (a .block .now) (a .p) (a .n) (is-number (c .before)) (there (c .before .before .before .before));
+      below = below 0 (a .n) (c .before .sure .ensures .0 0);
       narrow = c .before .before .before .before .pre .1;
       room = omega (arith, h .room .room);
       near = omega (arith, h .room .near);
