@@ -2,6 +2,9 @@
  * Times each call of the library and the same call written by hand in C, on the same records, and
  * prints a table. First both are run once on every record: where they do not accept it with the
  * same answer and the same bytes, there is nothing to compare, and the program ends with 1.
+ *
+ * A time is that of a shape: the call is made on its records in turn and on each equally often, in
+ * whole passes through them.
  */
 #include <inttypes.h>
 #include <stdio.h>
@@ -19,14 +22,15 @@ static volatile size_t kept; /* so that no call can be left out */
 
 /* ---- the same answer ---- */
 
-static void stop(const row *r, const sample *on, const char *why)
+static void stop(const row *r, const shape *of, int number, const char *why)
 {
-    fprintf(stderr, "bench: %s of %s: %s\n", r->name, on->name, why);
+    fprintf(stderr, "bench: %s of %s, record %d: %s\n", r->name, of->name, number, why);
     exit(1);
 }
 
-static void compare(const row *r, const sample *on)
+static void compare(const row *r, const shape *of, int number)
 {
+    const sample *const on = &of->samples[number];
     fsk_answer library, plain;
     memset(library_out, FILL, ROOM);
     memset(plain_out, FILL, ROOM);
@@ -39,32 +43,42 @@ static void compare(const row *r, const sample *on)
                 "plain: number %" PRIu32 " place %" PRIu32 " length %zu\n",
                 library.number, library.place, library.length,
                 plain.number, plain.place, plain.length);
-        stop(r, on, "the answers differ");
+        stop(r, of, number, "the answers differ");
     }
     if (memcmp(library_out, plain_out, ROOM) != 0)
-        stop(r, on, "the bytes written differ");
+        stop(r, of, number, "the bytes written differ");
     if (library.number != 0)
-        stop(r, on, "it is refused");
+        stop(r, of, number, "it is refused");
 }
 
 /* ---- the time ---- */
 
-static double seconds(call made, const sample *on, uint8_t *out, uint64_t times)
+/* A pass makes the call once on each record of a shape. */
+static double seconds(call made, const shape *of, uint8_t *out, uint64_t passes)
 {
     const clock_t start = clock();
-    for (uint64_t i = 0; i < times; i++)
-        kept += made(on, out, ROOM).length;
+    for (uint64_t pass = 0; pass < passes; pass++)
+        for (int number = 0; number < ALIKE; number++)
+            kept += made(&of->samples[number], out, ROOM).length;
     return (double)(clock() - start) / CLOCKS_PER_SEC;
 }
 
-/* How often a call is made in one measurement. */
-static uint64_t repeats(call made, const sample *on, uint8_t *out)
+/* How many passes one measurement has. */
+static uint64_t passes_needed(call made, const shape *of, uint8_t *out)
 {
-    uint64_t times = 1;
+    uint64_t passes = 1;
     double took;
-    while ((took = seconds(made, on, out, times)) < MEASURED_SECONDS / 10)
-        times *= 2;
-    return (uint64_t)((double)times * MEASURED_SECONDS / took) + 1;
+    while ((took = seconds(made, of, out, passes)) < MEASURED_SECONDS / 10)
+        passes *= 2;
+    return (uint64_t)((double)passes * MEASURED_SECONDS / took) + 1;
+}
+
+static double mean_length(const shape *of)
+{
+    size_t sum = 0;
+    for (int number = 0; number < ALIKE; number++)
+        sum += of->samples[number].length;
+    return (double)sum / ALIKE;
 }
 
 static double least(double a, double b)
@@ -73,38 +87,38 @@ static double least(double a, double b)
 }
 
 /* The rounds of both sides take turns, so that a busy machine is no one's advantage. */
-static void measure(const row *r, const sample *on)
+static void measure(const row *r, const shape *of)
 {
-    const uint64_t library_times = repeats(r->library, on, library_out);
-    const uint64_t plain_times = repeats(r->plain, on, plain_out);
-    const double bytes = (double)on->length;
+    const uint64_t library_passes = passes_needed(r->library, of, library_out);
+    const uint64_t plain_passes = passes_needed(r->plain, of, plain_out);
+    const double bytes = mean_length(of);
     double library = 1e9, plain = 1e9; /* seconds, more than any round takes */
     for (int round = 0; round < ROUNDS; round++) {
-        library = least(library, seconds(r->library, on, library_out, library_times));
-        plain = least(plain, seconds(r->plain, on, plain_out, plain_times));
+        library = least(library, seconds(r->library, of, library_out, library_passes));
+        plain = least(plain, seconds(r->plain, of, plain_out, plain_passes));
     }
-    library *= 1e9 / (double)library_times;
-    plain *= 1e9 / (double)plain_times;
-    printf("%-11s %-12s %6zu %12.1f %10.3f %12.1f %10.3f %8.2f\n", r->name, on->name, on->length,
+    library *= 1e9 / (double)(library_passes * ALIKE);
+    plain *= 1e9 / (double)(plain_passes * ALIKE);
+    printf("%-11s %-12s %6.0f %12.1f %10.3f %12.1f %10.3f %8.2f\n", r->name, of->name, bytes,
            library, library / bytes, plain, plain / bytes, library / plain);
     fflush(stdout);
 }
 
 int main(void)
 {
-    sample samples[SAMPLES];
-    make_samples(samples);
+    shape shapes[SHAPES];
+    make_shapes(shapes);
     for (const row *r = rows; r->name != NULL; r++)
-        for (int i = 0; i < SAMPLES; i++)
-            if (applies(r, &samples[i]))
-                compare(r, &samples[i]);
+        for (const shape *of = shapes; of < shapes + SHAPES; of++)
+            for (int number = 0; number < ALIKE && applies(r, of); number++)
+                compare(r, of, number);
     printf("%-11s %-12s %6s %12s %10s %12s %10s %8s\n", "", "", "", "library", "library", "plain",
            "plain", "library");
     printf("%-11s %-12s %6s %12s %10s %12s %10s %8s\n", "call", "record", "bytes", "ns/call",
            "ns/byte", "ns/call", "ns/byte", "/ plain");
     for (const row *r = rows; r->name != NULL; r++)
-        for (int i = 0; i < SAMPLES; i++)
-            if (!r->too_short && applies(r, &samples[i]))
-                measure(r, &samples[i]);
+        for (const shape *of = shapes; of < shapes + SHAPES; of++)
+            if (!r->too_short && applies(r, of))
+                measure(r, of);
     return 0;
 }

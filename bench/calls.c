@@ -78,8 +78,9 @@ const row rows[] = {
     {NULL, NULL, NULL, NULL, NOTHING, 0},
 };
 
-int applies(const row *r, const sample *on)
+int applies(const row *r, const shape *of)
 {
+    const sample *const on = &of->samples[0];
     switch (r->needs) {
     case A_SEGMENT:
         return on->segments > 0;

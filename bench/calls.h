@@ -28,7 +28,8 @@ typedef struct {
 /* Behind the last row stands one without a name. */
 extern const row rows[];
 
-/* Whether a sample has what a row needs. */
-int applies(const row *r, const sample *on);
+/* Whether the records of a shape have what a row needs. The first is looked at: the others are
+ * alike, and a call that one of them is not made for is refused, which ends the program. */
+int applies(const row *r, const shape *of);
 
 #endif

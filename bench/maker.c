@@ -5,7 +5,7 @@
 
 enum { SIXTEEN = 16, MOST_NEIGHBOURS = 3 };
 
-/* Of every view, in points. */
+/* Of every view that is made here, in points. */
 enum { WIDTH = 600, HEIGHT = 800 };
 
 /* A number below `limit`, the next of a fixed sequence. */
@@ -21,6 +21,12 @@ static void put(maker *m, unsigned width, uint32_t number)
         m->bytes[m->bit / 8] |= (uint8_t)((number >> width & 1) << (7 - m->bit % 8));
         m->bit++;
     }
+}
+
+void put_bytes(maker *m, const uint8_t *bytes, size_t length)
+{
+    for (size_t i = 0; i < length; i++)
+        put(m, 8, bytes[i]);
 }
 
 /* Puts a length field that end_block fills in, and gives the byte where it is. */
@@ -47,7 +53,7 @@ static void put_end(maker *m)
 }
 
 /* A line as ridges run: small changes of direction, and now and then a level turn. */
-static void put_line(maker *m, uint32_t codes)
+void put_line(maker *m, uint32_t codes)
 {
     const uint32_t level_turn = 1u << (m->k - 1);
     put_end(m);

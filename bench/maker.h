@@ -7,15 +7,21 @@
 
 #include "plain.h"
 
-/* A record in the making, its widths, and the numbers drawn for it so far. */
+/* A record in the making, all zero bits at first, and its widths. */
 typedef struct {
     uint8_t bytes[LARGEST_RECORD];
     size_t bit;
     unsigned c, b, k, w;
-    uint32_t drawn;
+    uint32_t drawn; /* the last number drawn; what it is at first decides all that are drawn */
 } maker;
 
+/* Bytes as they are. */
+void put_bytes(maker *m, const uint8_t *bytes, size_t length);
+
 void put_header(maker *m, uint32_t views, uint32_t points_per_cm, uint32_t step);
+
+/* A line with so many codes. */
+void put_line(maker *m, uint32_t codes);
 
 /* A view up to its extended block; its lines have `codes` codes each and up to `more` beyond. */
 void put_view(maker *m, uint32_t number, uint32_t position, uint32_t lines, uint32_t codes,

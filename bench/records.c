@@ -1,14 +1,50 @@
 /*
- * The benchmark's records: document 01's sample A, a record of about 30 KB with several views of
- * long lines, one view with as many lines as a view can have, and one view with local quality. The
- * sheets and the values are those that plain_read and plain_quality give; what orders are for is
- * looked up in the view that plain_judge finds.
+ * The benchmark's records, shape by shape: document 01's sample A and others like it, one of the
+ * size that a card takes, one of about 30 KB with several views of long lines, one view with as
+ * many lines as a view can have, and one view with local quality. The sheets and the values are
+ * those that plain_read and plain_quality give.
  */
 #include "records.h"
 
+#include <stdio.h>
+#include <stdlib.h>
+
+#include "asked.h"
 #include "maker.h"
 
-enum { SEGMENTS = 3, ROOM = 1 << 17 };
+/* ---- where bytes are made, and where they stay ---- */
+
+enum { ROOM = 1 << 17, ARENA = 1 << 22, GRAIN = 16 };
+
+static maker draft;
+static uint8_t scratch[ROOM];
+static _Alignas(GRAIN) uint8_t arena[ARENA];
+static size_t arena_used; /* a multiple of GRAIN */
+
+/* Copies bytes to where they stay, right behind the last ones: a power of two apart, the records of
+ * a shape would contend for the same few places of a cache. */
+static const uint8_t *keep(const uint8_t *bytes, size_t length)
+{
+    uint8_t *const kept = arena + arena_used;
+    if (length > ARENA - arena_used) {
+        fprintf(stderr, "records: they take more than %d bytes\n", ARENA);
+        exit(1);
+    }
+    memcpy(kept, bytes, length);
+    arena_used += (length + GRAIN - 1) / GRAIN * GRAIN;
+    return kept;
+}
+
+/* ---- the shapes: each makes the record of a number ---- */
+
+/* What a record's bits are drawn from: 0 for record 0. Seeds an equal step apart would give numbers
+ * an equal step apart, record after record; so they are mixed. */
+static uint32_t seed(uint32_t number)
+{
+    uint32_t mixed = number * 0x9E3779B9u;
+    mixed = (mixed ^ mixed >> 16) * 0x85EBCA6Bu;
+    return mixed ^ mixed >> 13;
+}
 
 static const uint8_t sample_a[] = {
     0x46, 0x53, 0x4B, 0x00, 0x30, 0x31, 0x30, 0x00, 0x00, 0x00, 0x00, 0x38, 0x00, 0x00,
@@ -16,173 +52,130 @@ static const uint8_t sample_a[] = {
     0x01, 0x00, 0x01, 0x00, 0x00, 0x10, 0x50, 0x02, 0x85, 0x00, 0x48, 0xC0, 0x0E, 0x14,
     0x50, 0x02, 0x85, 0x00, 0x48, 0xC0, 0x0E, 0x14, 0x00, 0x02, 0x01, 0x60, 0x00, 0x00,
 };
-static maker long_lines, many_lines, many_cells;
-static uint8_t sheets[SAMPLES][ROOM];
-static uint8_t values[SAMPLES][ROOM];
-static uint8_t removals[SAMPLES][2 * MOST_LINES];
-static uint8_t orders[ORDERS * PAIR_ORDER];
 
-/* Ends a record and describes it; what is lent beside it comes last, in make_samples. */
-static sample made(maker *m, const char *name, uint32_t views, uint32_t lines, uint32_t segments)
+/* Ends a record and describes it; what is lent beside it comes last, in make_shapes. */
+static sample made(maker *m, uint32_t views, uint32_t lines, uint32_t segments)
 {
-    return (sample){.name = name, .record = m->bytes, .length = put_length(m), .view = views - 1,
+    const size_t length = put_length(m);
+    return (sample){.record = keep(m->bytes, length), .length = length, .view = views - 1,
                     .lines = lines, .with_segments = views - 1, .segments = segments};
 }
 
-/* The standard's normal widths; two views are of the same finger, every second has segments. */
-static sample make_long_lines(maker *m)
+/* Record 0 is document 01's own; the others have other lines, as long as those. */
+static sample make_sample_a(maker *m, uint32_t number)
 {
-    enum { VIEWS = 6, LINES = 48, CODES = 100, MORE = 155 };
+    enum { LINES = 2, CODES = 1, SKELETON = 34, INDEX = 50 }; /* the last two: where they start */
+    *m = (maker){.c = 8, .b = 8, .k = 4, .drawn = seed(number)};
+    put_bytes(m, sample_a, SKELETON);
+    if (number == 0)
+        put_bytes(m, sample_a + SKELETON, INDEX - SKELETON);
+    else
+        for (int line = 0; line < LINES; line++)
+            put_line(m, CODES);
+    put_bytes(m, sample_a + INDEX, sizeof sample_a - INDEX);
+    return made(m, 1, LINES, 0);
+}
+
+/* The standard's compact widths; the index is small too, its numbers are at most 7. */
+static sample make_compact(maker *m, uint32_t number)
+{
+    enum { LINES = 58, CODES = 1, MORE = 2 };
+    *m = (maker){.c = 8, .b = 6, .k = 4, .w = 3, .drawn = seed(number)};
+    put_header(m, 1, 100, 16);
+    put_view(m, 0, 2, LINES, CODES, MORE);
+    put_segments(m, 0);
+    return made(m, 1, LINES, 0);
+}
+
+/* The standard's normal widths; two views are of the same finger, every second has segments. */
+static sample make_long_lines(maker *m, uint32_t number)
+{
+    enum { VIEWS = 6, LINES = 48, CODES = 100, MORE = 155, SEGMENTS = 3 };
     static const uint8_t positions[VIEWS] = {1, 2, 2, 3, 6, 7};
     static const uint8_t numbers[VIEWS] = {0, 0, 1, 0, 0, 0};
-    m->c = 11, m->b = 8, m->k = 4, m->w = 6;
+    *m = (maker){.c = 11, .b = 8, .k = 4, .w = 6, .drawn = seed(number)};
     put_header(m, VIEWS, 200, 24);
     for (uint32_t view = 0; view < VIEWS; view++) {
         put_view(m, numbers[view], positions[view], LINES, CODES, MORE);
         put_segments(m, view % 2 == 0 ? 0 : SEGMENTS);
     }
-    return made(m, "long lines", VIEWS, LINES, SEGMENTS);
+    return made(m, VIEWS, LINES, SEGMENTS);
 }
 
 /* The standard's compact widths. */
-static sample make_many_lines(maker *m)
+static sample make_many_lines(maker *m, uint32_t number)
 {
     enum { LINES = 1024, CODES = 8, MORE = 16 };
-    m->c = 8, m->b = 6, m->k = 4, m->w = 6;
+    *m = (maker){.c = 8, .b = 6, .k = 4, .w = 6, .drawn = seed(number)};
     put_header(m, 1, 100, 16);
     put_view(m, 0, 2, LINES, CODES, MORE);
     put_segments(m, 0);
-    return made(m, "1,024 lines", 1, LINES, 0);
+    return made(m, 1, LINES, 0);
 }
 
 /* The standard's normal widths, and a segment of local quality. */
-static sample make_many_cells(maker *m)
+static sample make_many_cells(maker *m, uint32_t number)
 {
     enum { LINES = 60, CODES = 20, MORE = 60 };
-    m->c = 11, m->b = 8, m->k = 4, m->w = 6;
+    *m = (maker){.c = 11, .b = 8, .k = 4, .w = 6, .drawn = seed(number)};
     put_header(m, 1, 200, 24);
     put_view(m, 0, 2, LINES, CODES, MORE);
     put_quality(m);
-    return made(m, "1,900 cells", 1, LINES, 1);
+    return made(m, 1, LINES, 1);
 }
 
-static void add_sheet(sample *to, uint8_t *sheet)
+static const struct {
+    const char *name;
+    sample (*make)(maker *m, uint32_t number);
+} makers[SHAPES] = {
+    {"sample A", make_sample_a},
+    {"compact", make_compact},
+    {"long lines", make_long_lines},
+    {"1,024 lines", make_many_lines},
+    {"1,900 cells", make_many_cells},
+};
+
+/* ---- what is lent beside a record ---- */
+
+static void add_sheet(sample *to)
 {
-    to->sheet = sheet;
-    to->sheet_length = plain_read(to->record, to->length, sheet, ROOM).length;
+    to->sheet_length = plain_read(to->record, to->length, scratch, ROOM).length;
+    to->sheet = keep(scratch, to->sheet_length);
 }
 
 /* Nothing is added where the last of the segments is not of local quality. */
-static void add_values(sample *to, uint8_t *read)
+static void add_values(sample *to)
 {
-    to->values = read;
     to->values_length = plain_quality(to->record, to->length, to->with_segments, to->segments - 1,
-                                      read, ROOM).length;
+                                      scratch, ROOM).length;
+    to->values = keep(scratch, to->values_length);
 }
 
-/* Lines 0, 3, 6 and so on. */
-static void add_removal(sample *to, uint8_t *list)
+static void add_orders(sample *to)
 {
-    to->removed = list;
-    for (uint32_t line = 0; line < to->ordered_lines; line += 3)
-        list = plain_put_two_bytes(list, line);
-    to->removed_length = (size_t)(list - to->removed);
-}
-
-/* The last pairs there are: a line and the highest of its neighbours; a line and the one below the
- * lowest of its neighbours. Without the latter it is line 0, which is not next to itself. */
-static void add_pairs(sample *to, plain_block index)
-{
-    const unsigned w = index.bytes[0];
-    plain_reader reader = plain_reader_at(index.bytes, 8);
-    for (uint32_t line = 0; line < to->ordered_lines; line++) {
-        const uint32_t count = plain_take(&reader, w);
-        uint32_t lowest = line;
-        for (uint32_t i = 0; i < count; i++) {
-            lowest -= plain_take(&reader, w);
-            if (i == 0)
-                to->neighbours[0] = line, to->neighbours[1] = lowest;
-        }
-        if (lowest > 0)
-            to->strangers[0] = line, to->strangers[1] = lowest - 1;
-    }
-}
-
-/* Whether a line's list, the first number's, has a line. */
-static uint8_t has[MOST_LINES][MOST_LINES];
-
-static void find_neighbours(plain_block index, uint32_t lines)
-{
-    const unsigned w = index.bytes[0];
-    plain_reader reader = plain_reader_at(index.bytes, 8);
-    for (uint32_t line = 0; line < lines; line++) {
-        uint32_t neighbour = line;
-        for (uint32_t count = plain_take(&reader, w); count > 0; count--) {
-            neighbour -= plain_take(&reader, w);
-            has[line][neighbour] = 1;
-        }
-    }
-}
-
-/* The highest neighbour in a line's list, or `other` if it has none. */
-static uint32_t highest(uint32_t line, uint32_t other)
-{
-    for (uint32_t lower = line + 1; lower-- > 0;)
-        if (has[line][lower])
-            return lower;
-    return other;
-}
-
-/* Orders that are all accepted, spread over the lines. Each turns over what the index says of two:
- * a line and one that is at most 63 below it; for every second order, where there is one, the line
- * and its highest neighbour; for every eighth, the two of the fifth order before it. */
-static void add_pair_list(sample *to, plain_block index, uint8_t *list)
-{
-    find_neighbours(index, to->ordered_lines);
-    to->pairs = list;
-    for (uint32_t i = 0; i < ORDERS; i++) {
-        const uint32_t distance = (29 * i + 11) % 64;
-        uint32_t higher = to->ordered_lines - 1 - 389 * i % to->ordered_lines;
-        uint32_t lower = distance < higher ? higher - distance : 0;
-        if (i % 2 == 1)
-            lower = highest(higher, lower);
-        if (i % 8 == 7) {
-            higher = plain_two_bytes(list - 5 * PAIR_ORDER + 2);
-            lower = plain_two_bytes(list - 5 * PAIR_ORDER + 4);
-        }
-        list = plain_put_two_bytes(list, has[higher][lower]); /* 0 joins, 1 parts */
-        list = plain_put_two_bytes(list, higher);
-        list = plain_put_two_bytes(list, lower);
-        has[higher][lower] ^= 1;
-    }
-}
-
-/* Each record has a view that lines can be removed from. */
-static void add_orders(sample *to, uint8_t *list)
-{
-    plain_record judged;
-    to->ordered = to->view + 1;
-    do {
-        to->ordered--;
-        plain_judge(to->record, to->length, to->ordered, &judged);
-    } while (!plain_only_quality(judged.view.extended));
-    to->ordered_lines = judged.view.lines;
-    add_removal(to, list);
-    add_pairs(to, judged.view.index);
+    const plain_block index = choose_view(to);
+    to->removed_length = list_removal(to, scratch);
+    to->removed = keep(scratch, to->removed_length);
     if (to->ordered_lines == MOST_LINES)
-        add_pair_list(to, judged.view.index, orders);
+        to->pairs = keep(scratch, list_pairs(to, index, scratch));
 }
 
-void make_samples(sample samples[SAMPLES])
+static void add_to_each(shape *to, void (*add)(sample *to))
 {
-    samples[0] = (sample){.name = "sample A", .record = sample_a, .length = sizeof sample_a,
-                          .lines = 2};
-    samples[1] = make_long_lines(&long_lines);
-    samples[2] = make_many_lines(&many_lines);
-    samples[3] = make_many_cells(&many_cells);
-    for (int i = 0; i < SAMPLES; i++) {
-        add_sheet(&samples[i], sheets[i]);
-        add_values(&samples[i], values[i]);
-        add_orders(&samples[i], removals[i]);
+    for (int number = 0; number < ALIKE; number++)
+        add(&to->samples[number]);
+}
+
+/* The records of a shape come first, then their sheets and so on, so that what a call reads of the
+ * sixteen lies together. */
+void make_shapes(shape shapes[SHAPES])
+{
+    for (int i = 0; i < SHAPES; i++) {
+        shapes[i].name = makers[i].name;
+        for (uint32_t number = 0; number < ALIKE; number++)
+            shapes[i].samples[number] = makers[i].make(&draft, number);
+        add_to_each(&shapes[i], add_sheet);
+        add_to_each(&shapes[i], add_values);
+        add_to_each(&shapes[i], add_orders);
     }
 }

@@ -8,13 +8,16 @@
 #include <stddef.h>
 #include <stdint.h>
 
-enum { SAMPLES = 4 };
+enum { SHAPES = 5 };
+
+/* The records of a shape. */
+enum { ALIKE = 16 };
 
 /* The orders of a list of pairs. */
 enum { ORDERS = 400 };
 
+/* A record, and what is asked of it. */
 typedef struct {
-    const char *name;
     const uint8_t *record;
     size_t length;
     const uint8_t *sheet;          /* the record as a sheet */
@@ -30,10 +33,18 @@ typedef struct {
     size_t removed_length;         /* in bytes */
     uint32_t strangers[2];         /* two of them that are no neighbours, to be joined */
     uint32_t neighbours[2];        /* two that are, to be parted */
-    const uint8_t *pairs;          /* a list of joins and parts of them; null for most samples */
+    const uint8_t *pairs;          /* a list of joins and parts of them; null for most shapes */
 } sample;
 
-/* Fills in all samples; their bytes stay where they are. */
-void make_samples(sample samples[SAMPLES]);
+/* Records that are alike in shape and unlike in bits: they have the same views, counts of lines,
+ * widths and bounds of how many codes a line has. They are called in turn, since a processor learns
+ * the branches of a single record by heart. */
+typedef struct {
+    const char *name;
+    sample samples[ALIKE];
+} shape;
+
+/* Fills in all shapes; their records' bytes stay where they are. To be called once. */
+void make_shapes(shape shapes[SHAPES]);
 
 #endif

@@ -1,7 +1,7 @@
 /*
  * Makes each call of the library, and the same call written by hand in C, on a stack of its own, on
- * the same records as bench.c, and prints how many bytes of stack it took. The figures are the same
- * in every run.
+ * the same records as bench.c, and prints how many bytes of stack it took: the most over the
+ * records of a shape. The figures are the same in every run.
  *
  * The stack is painted before the call, and the lowest byte that is another afterwards is how far
  * the call went down; it may lie below the lowest stack pointer, in the 128 bytes there that x86-64
@@ -40,9 +40,9 @@ static call made;
 static const sample *lent;
 static fsk_answer answer;
 
-static void stop(const char *name, const sample *on, const char *why)
+static void stop(const char *name, const shape *of, int number, const char *why)
 {
-    fprintf(stderr, "stack: %s of %s: %s\n", name, on->name, why);
+    fprintf(stderr, "stack: %s of %s, record %d: %s\n", name, of->name, number, why);
     exit(1);
 }
 
@@ -66,12 +66,13 @@ static void make_inside(void)
     swapcontext(&outside, &inside);
 }
 
-/* From the stack's top to the lowest byte written; name and sample are those of the row. */
-static size_t depth(const char *name, call side, const sample *on)
+/* From the stack's top to the lowest byte written by a call on one record of a shape; the name is
+ * that of the row. */
+static size_t depth(const char *name, call side, const shape *of, int number)
 {
     size_t deepest = 0;
     made = side;
-    lent = on;
+    lent = &of->samples[number];
     make_inside();
     for (int i = 0; i < PAINTS; i++) {
         size_t same = 0;
@@ -79,14 +80,14 @@ static size_t depth(const char *name, call side, const sample *on)
         answer.number = UINT32_MAX; /* so that a call that was not made is no accepted one */
         make_inside();
         if (answer.number != 0)
-            stop(name, on, "it is refused");
+            stop(name, of, number, "it is refused");
         while (same < STACK && stack[same] == paints[i])
             same++;
         if (STACK - same > deepest)
             deepest = STACK - same;
     }
     if (deepest > STACK - SPARE)
-        stop(name, on, "the stack does not suffice");
+        stop(name, of, number, "the stack does not suffice");
     return deepest;
 }
 
@@ -94,9 +95,21 @@ static size_t depth(const char *name, call side, const sample *on)
  * return address is counted; arguments that are handed over on the stack are not, since they are
  * part of the caller's frame. The empty side takes a return address and nothing else, and all above
  * it is the same (calls.c), so that the difference is exact. */
-static size_t taken(const char *name, call side, call empty, const sample *on)
+static size_t taken(const char *name, call side, call empty, const shape *of, int number)
 {
-    return depth(name, side, on) - depth(name, empty, on) + RETURN_ADDRESS;
+    return depth(name, side, of, number) - depth(name, empty, of, number) + RETURN_ADDRESS;
+}
+
+/* The same, the most over the records of a shape. */
+static size_t most_taken(const char *name, call side, call empty, const shape *of)
+{
+    size_t most = 0;
+    for (int number = 0; number < ALIKE; number++) {
+        const size_t bytes = taken(name, side, empty, of, number);
+        if (bytes > most)
+            most = bytes;
+    }
+    return most;
 }
 
 /* ---- the yardstick ---- */
@@ -119,12 +132,12 @@ static fsk_answer take_nothing(const sample *on, uint8_t *to, size_t room)
 }
 
 /* The byte that is to be found is that of each paint in turn. */
-static void check_yardstick(const sample *on)
+static void check_yardstick(const shape *of)
 {
     for (int i = 0; i < PAINTS; i++) {
         yard_byte = paints[i];
-        if (taken("yardstick", take_yard, take_nothing, on) != YARD)
-            stop("yardstick", on, "it comes out wrong");
+        if (taken("yardstick", take_yard, take_nothing, of, 0) != YARD)
+            stop("yardstick", of, 0, "it comes out wrong");
     }
 }
 
@@ -132,26 +145,26 @@ static void check_yardstick(const sample *on)
 
 int main(void)
 {
-    sample samples[SAMPLES];
+    shape shapes[SHAPES];
     const row *deepest = rows;
-    const sample *deepest_on = samples;
+    const shape *deepest_of = shapes;
     size_t most = 0;
-    make_samples(samples);
-    check_yardstick(samples);
+    make_shapes(shapes);
+    check_yardstick(shapes);
     printf("%-11s %-12s %8s %8s\n", "", "", "library", "plain");
     printf("%-11s %-12s %8s %8s\n", "call", "record", "stack", "stack");
     for (const row *r = rows; r->name != NULL; r++)
-        for (const sample *on = samples; on < samples + SAMPLES; on++) {
+        for (const shape *of = shapes; of < shapes + SHAPES; of++) {
             size_t library, plain;
-            if (!applies(r, on))
+            if (!applies(r, of))
                 continue;
-            library = taken(r->name, r->library, r->empty, on);
-            plain = taken(r->name, r->plain, r->empty, on);
-            printf("%-11s %-12s %8zu %8zu\n", r->name, on->name, library, plain);
+            library = most_taken(r->name, r->library, r->empty, of);
+            plain = most_taken(r->name, r->plain, r->empty, of);
+            printf("%-11s %-12s %8zu %8zu\n", r->name, of->name, library, plain);
             if (library > most)
-                most = library, deepest = r, deepest_on = on;
+                most = library, deepest = r, deepest_of = of;
         }
-    printf("deepest of the library: %s, record %s, %zu bytes\n", deepest->name, deepest_on->name,
+    printf("deepest of the library: %s, record %s, %zu bytes\n", deepest->name, deepest_of->name,
            most);
     return 0;
 }
