@@ -12,8 +12,8 @@ use bits::Cursor;
 use bits::Taken;
 use bits::ranged::RangedAt;
 use bits::ranged::ranged_at;
-use judge_ends::Cleared;
-use judge_ends::zeros_at;
+use judge_zeros::Cleared;
+use judge_zeros::zeros_at;
 use outcome::Refusal;
 
 // The index block of a view with `lines` lines: w, then for each line a count and that many differences, then zero bits.

@@ -1,4 +1,4 @@
-// The nest over views, lines and codes. A field that refuses leaves it by one label, from whatever depth.
+// The nest over views, lines and codes. What refuses leaves it by one label, from whatever depth.
 ghost use mathlib.Core.Path.{_≡_};
 ghost use Prim.Native.Nat.{_≤_};
 ghost use lib.ListN.{length};
@@ -6,19 +6,17 @@ ghost use Rattle.bits.specs.Reads.{Reads};
 ghost use Rattle.judge_blocks.specs.Answers.{reached};
 ghost use Rattle.judge_views.specs.Views.{viewsDec, sheetBytes};
 use bits::Cursor;
-use bits::Taken;
+use bits::smaller;
 use format::Header;
 use format::ViewHeader;
 use format::Widths;
 use judge_blocks::Reached;
 use judge_blocks::index::index_at;
 use judge_blocks::segments::segments_at;
-use judge_ends::Cleared;
-use judge_ends::EndAt;
-use judge_ends::end_at;
-use judge_ends::zeros_at;
 use judge_heads::view::Headed;
 use judge_heads::view::head_at;
+use judge_zeros::Cleared;
+use judge_zeros::zeros_at;
 use outcome::Refusal;
 
 // What the nest needs of a view's header: its position, and the length of the skeleton block.
@@ -27,11 +25,13 @@ struct Opened {
     len: usize,
 }
 
-// The views, from byte 24 on; seen counts those of each position, size the bytes in the sheet.
+// The views, from byte 24 on; seen counts those of each position, size the bytes in the sheet. An end and codes are right whatever
+// their bits are: an end is passed by one comparison with the bits left, and so are up to 32 codes.
 pub fn judge_views(bytes: &[u8], w: Widths, count: usize) -> Reached
     requires { ⌜ (24 ≤ length (now bytes)) × (length (now bytes) ≤ 32768) × (count ≤ 255) × (w .b ≤ 8) × (w .c ≤ 16) × (w .k ≤ 8) ⌝ }
     ensures { λ r. ⌜ Reads (viewsDec w count) (now (bytes .entry)) 192 (reached r) × (sheetBytes r ≤ 137438953472) ⌝ }
 {
+    let end_bits = 2 + w.b + 2 * w.c;
     let mut answer = Reached::At { next: 0, size: 0 };
     let mut seen = [0u8; 11];
     let mut a: usize = Header::BYTES;
@@ -66,29 +66,34 @@ pub fn judge_views(bytes: &[u8], w: Widths, count: usize) -> Reached
                 answer = Reached::Refused(Refusal::TOO_MANY_LINES, place);
                 break 'views;
             }
-            let EndAt::At(_, p1) = end_at(p, block, w) else {
+            if end - p.at < end_bits + 8 {
                 answer = Reached::Refused(Refusal::BAD_LINE, place);
                 break 'views;
-            };
-            let Taken::Bits(codes, p2) = p1.field(block, 8) else {
-                answer = Reached::Refused(Refusal::BAD_LINE, place);
-                break 'views;
-            };
-            p = p2;
+            }
+            let count = Cursor {
+                at: p.at + end_bits,
+            }.sure(block, 8);
+            let codes = count.value;
+            p = count.next;
             let mut i: usize = 0;
             while i < codes {
-                let Taken::Bits(_, p3) = p.field(block, w.k) else {
+                let some = smaller(codes - i, 32);
+                if end - p.at < some * w.k {
                     answer = Reached::Refused(Refusal::BAD_LINE, place);
                     break 'views;
+                }
+                p = Cursor {
+                    at: p.at + some * w.k,
                 };
-                p = p3;
-                i = i + 1;
+                i = i + some;
             }
-            let EndAt::At(_, p4) = end_at(p, block, w) else {
+            if end - p.at < end_bits {
                 answer = Reached::Refused(Refusal::BAD_LINE, place);
                 break 'views;
+            }
+            p = Cursor {
+                at: p.at + end_bits,
             };
-            p = p4;
             lines = lines + (15 + codes);
             n = n + 1;
         }

@@ -1,5 +1,5 @@
--- The laws of loops that read: the answer from here on is the whole answer, for values that are counted, that follow each other
--- along, that fill a block, and for zero bits.
+-- The laws of loops that read: the answer from here on is the whole answer, for values that follow each other along, that fill a
+-- block, and for zero bits.
 use mathlib.Core.Path.{_≡_, refl, sym, ap, _∙_}
 use Prim.Native.Nat.{ℕ, zero, suc, _+_, _-_, _*_, _/_, _%_, _^_, _≤_, _<_}
 use native.Mathlib.Omega.{arith}
@@ -11,7 +11,7 @@ use lib.Pow.{pow-pos}
 use lib.Seq.{take-add, take-take, drop-at, length-take-le}
 use Rattle.bits.specs.ChoiceLaws.{pick-yes, pick-no}
 use Rattle.bits.specs.Bits.{Bits, numberOfBits}
-use Rattle.bits.specs.Codec.{Read, got, refused, next, Codec, fieldDec, timesDec, alongDec}
+use Rattle.bits.specs.Codec.{Read, got, refused, next, Codec, fieldDec, alongDec}
 use Rattle.bits.specs.CodecLaws.{field}
 use Rattle.bits.specs.Block.{few, zerosDec, manyDec, fillDec}
 use Rattle.bits.specs.BlockLaws.{few-yes, few-no, many-over, fill-more}
@@ -53,18 +53,7 @@ sum-start f o = keeping-same _ _ o (λ xs. omega arith)
 less : {n i : ℕ} → i < n → n - i ≡ suc (n - (i + 1))
 less l = omega arith
 
--- ---- values that are counted
-
-module _ {S A : Type 0} (c : Codec S A) (n i : ℕ) (s : List S) where
-  pub times-turn : {B : Type 0} (g : List A → B) {x : A} {r : List S} → i < n → c .dec s ≡ got x r
-      → keeping g (timesDec c (n - i) s) ≡ keeping (λ xs. g (x ∷ xs)) (timesDec c (n - (i + 1)) r)
-  times-turn g {x} {r} l h = ap (λ (k : ℕ). keeping g (timesDec c k s)) (less l) ∙ rw h (keeping-cons g x (timesDec c (n - (i + 1)) r))
-
-  pub times-stop : {e l : ℕ} → i < n → c .dec s ≡ refused e l → timesDec c (n - i) s ≡ refused e l
-  times-stop k h = ap (λ (j : ℕ). timesDec c j s) (less k) ∙ rw h
-
-  pub times-done : n ≤ i → timesDec c (n - i) s ≡ got [] s
-  times-done h = let z : n - i ≡ 0 = omega arith in ap (λ (j : ℕ). timesDec c j s) z
+-- ---- values that follow each other along
 
 module _ {S A I : Type 0} (c : I → Codec S A) (m : I → A → I) (n j : ℕ) (i : I) (s : List S) where
   pub along-turn : {B : Type 0} (g : List A → B) {x : A} {r : List S} → j < n → c i .dec s ≡ got x r

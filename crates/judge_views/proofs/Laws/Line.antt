@@ -3,6 +3,7 @@
 use mathlib.Core.Path.{_≡_, sym, ap, _∙_, subst}
 use Prim.Native.Nat.{ℕ, _+_, _-_, _*_, _≤_, _<_}
 use native.Mathlib.Omega.{arith}
+use native.Mathlib.Nat.{add-mul, mul-le-mul-right}
 use mathlib.Core.Bool.{Bool}
 use mathlib.Core.List.{List, []}
 use lib.ListN.{length, drop}
@@ -12,55 +13,80 @@ use Rattle.bits.specs.Codec.{Read, got, refused, next, fieldDec, timesDec}
 use Rattle.bits.specs.CodecLaws.{field, times, times-back, counted}
 use Rattle.bits.specs.Block.{zerosDec, manyDec}
 use Rattle.bits.specs.Lists.{total}
-use Rattle.bits.specs.Reads.{found, fault, Reads, keeping, passing, tallied}
-use Rattle.bits.proofs.Laws.Reads.{length-rest, gives, refuses, go-on, stop, made, all-of, none-of, keeping-got, keeping-refused}
-use Rattle.bits.proofs.Laws.Loops.{keeping-same, tally-more, times-stop, times-done, many-turn, many-stop, many-full, many-last}
+use Rattle.bits.specs.ChoiceLaws.{split}
+use Rattle.bits.specs.Reads.{found, fault, Reads, keeping, tallied}
+use Rattle.bits.proofs.Laws.Reads.{length-rest, field-past, up-to, go-on, stop, made, all-of, none-of, keeping-got, keeping-refused}
+use Rattle.bits.proofs.Laws.Spans.{Spans, spans-field, spans-then, spans-via, spans-as, spans-times, span-at, span-past}
+use Rattle.bits.proofs.Laws.Loops.{keeping-same, tally-more, many-turn, many-stop, many-full, many-last}
 use Rattle.outcome.specs.Refusals.{badLine, tooManyLines}
 use Rattle.format.specs.Limits.{mostLines}
-use Rattle.format.specs.Line.{Line, line, skeleton}
+use Rattle.format.specs.Line.{Line, end, line, skeleton}
 use Rattle.format.specs.SheetSize.{lineSize}
 use Rattle.format.specs.declared.Widths.{Widths}
 use Rattle.format.specs.declared.End.{End}
-use Rattle.judge_ends.specs.Ends.{endDec}
+
+-- ---- what is passed by its bits
+
+abbrev pub endBits : Widths → ℕ
+endBits w = 2 + w .b + 2 * w .c
+
+end-spans : (w : Widths) → Spans (end w .dec) badLine (endBits w)
+unfolding end
+end-spans w =
+    let x = spans-field badLine (w .c) in
+    spans-via _
+    (spans-as (omega arith) (spans-then _ (spans-field badLine 2) _ λ _. spans-then _ (spans-field badLine (w .b)) _ λ _. spans-then _ x _ λ _. x)) _
+
+codes-span : (w : Widths) (n : ℕ) → Spans (timesDec (field badLine (w .k)) n) badLine (n * w .k)
+codes-span w n = spans-times (field badLine (w .k)) (spans-field badLine (w .k)) n
 
 -- ---- a line of the block s, at place p
 
 module _ (w : Widths) (s : List ℕ) (p : ℕ) (i : p ≤ 8 * length s) where
-  -- the start passes the end of the block
-  pub no-start : {e q : ℕ} → Reads (endDec w) s p (fault e q) → Reads (line w .dec) s p (fault e p)
-  unfolding line endDec
-  no-start h = none-of _ i (made _ _ (stop _ _ h))
+  -- its start or its count of codes passes the end of the block
+  pub no-start : 8 * length s - p < endBits w + 8 → Reads (line w .dec) s p (fault badLine p)
+  unfolding line
+  no-start h =
+      split (p + endBits w) (8 * length s)
+      (λ k. let (x, r) = span-at (end-spans w) s p k in
+      none-of _ i (made _ _ (go-on _ _ r (stop _ _ (made _ _ (stop _ _ (field-past badLine s (p + endBits w) 8 k (omega arith))))))))
+      (λ k. let (q, r) = span-past (end-spans w) s p i k in none-of _ i (made _ _ (stop _ _ r)))
 
-  module _ {x : End} {p1 : ℕ} (E : Reads (endDec w) s p (found x p1)) where
-    pub no-count : {e q : ℕ} → Reads (fieldDec badLine 8) s p1 (fault e q) → Reads (line w .dec) s p (fault e p)
-    unfolding line endDec
-    no-count h = none-of _ i (made _ _ (go-on _ _ E (stop _ _ (made _ _ (stop _ _ h)))))
+  -- k codes follow; j of them are passed, and the next is at place q
+  module _ {k p2 : ℕ} (K : Reads (fieldDec badLine 8) s (p + endBits w) (found k p2)) (room : p + endBits w ≤ 8 * length s) (j q : ℕ)
+      (at : q ≡ p2 + j * w .k) (some : j ≤ k) (b : q ≤ 8 * length s) where
+    start-is : (x : End) × Reads (end w .dec) s p (found x (p + endBits w))
+    start-is = span-at (end-spans w) s p room
 
-    -- k codes follow; j of them are read, and the next is at place q
-    module _ {k p2 : ℕ} (K : Reads (fieldDec badLine 8) s p1 (found k p2)) (j q : ℕ)
-        (inv : passing (timesDec (field badLine (w .k)) (k - j) (drop q (bitsOf s))) ≡ passing (timesDec (field badLine (w .k)) k (drop p2 (bitsOf s)))) where
-      pub no-code : {e y : ℕ} → j < k → Reads (fieldDec badLine (w .k)) s q (fault e y) → Reads (line w .dec) s p (fault e p)
-      unfolding line endDec
-      no-code {e} {y} l h =
-          let z : timesDec (field badLine (w .k)) k (drop p2 (bitsOf s)) ≡ refused e (8 * length s - y)
-          = keeping-refused _ _ (sym inv ∙ ap passing (times-stop (field badLine (w .k)) k j (drop q (bitsOf s)) l (h .is))) in
-          none-of _ i (made _ _ (go-on _ _ E (stop _ _ (made _ _ (go-on _ (times (field badLine (w .k))) K (refuses _ e y (h .within) z))))))
+    -- of the others, m do not fit
+    pub no-codes : (m : ℕ) → j + m ≤ k → 8 * length s - q < m * w .k → Reads (line w .dec) s p (fault badLine p)
+    unfolding line
+    no-codes m l h =
+        let (y, r) = span-past (codes-span w k) s p2 (K .within) (omega (arith, at, add-mul j m (w .k), mul-le-mul-right (w .k) l)) in
+        none-of _ i (made _ _ (go-on _ _ (start-is .1) (stop _ _ (made _ _ (go-on _ (times (field badLine (w .k))) K r)))))
 
-      codes-are : {P : Type 0} → q ≤ 8 * length s → k ≤ j
-          → ((cs : List ℕ) → length cs ≡ k → Reads (counted (field badLine 8) (field badLine (w .k)) .dec) s p1 (found cs q) → P) → P
-      codes-are b l f =
-          keeping-got _ _ (sym inv ∙ ap passing (times-done (field badLine (w .k)) k j (drop q (bitsOf s)) l)) λ cs z _.
-          f cs (times-back (field badLine (w .k)) k (drop p2 (bitsOf s)) cs (drop q (bitsOf s)) z .0 .0)
-          (made _ _ (go-on _ (times (field badLine (w .k))) K (gives _ cs q b z)))
+    codes-are : k ≤ j → (cs : List ℕ) × (length cs ≡ k) × Reads (counted (field badLine 8) (field badLine (w .k)) .dec) s (p + endBits w) (found cs q)
+    codes-are l =
+        let e : j ≡ k = omega arith in
+        let f : p2 + k * w .k ≡ q = ap (λ (n : ℕ). p2 + n * w .k) (sym e) ∙ sym at in
+        let (cs, r) = span-at (codes-span w k) s p2 (rw f b) in (
+          cs,
+          times-back (field badLine (w .k)) k (drop p2 (bitsOf s)) cs (drop (p2 + k * w .k) (bitsOf s)) (r .is) .0 .0,
+          made _ _ (go-on _ (times (field badLine (w .k))) K (up-to f r)),
+        )
 
-      pub no-finish : {e y : ℕ} → q ≤ 8 * length s → k ≤ j → Reads (endDec w) s q (fault e y) → Reads (line w .dec) s p (fault e p)
-      unfolding line endDec
-      no-finish b l h = codes-are b l λ cs _ C. none-of _ i (made _ _ (go-on _ _ E (go-on _ _ C h)))
+    pub no-finish : k ≤ j → 8 * length s - q < endBits w → Reads (line w .dec) s p (fault badLine p)
+    unfolding line
+    no-finish l h =
+        let (y, r) = span-past (end-spans w) s q b (omega arith) in
+        none-of _ i (made _ _ (go-on _ _ (start-is .1) (go-on _ _ (codes-are l .2) r)))
 
-      pub line-is : {P : Type 0} {y : End} {r : ℕ} → q ≤ 8 * length s → k ≤ j → Reads (endDec w) s q (found y r)
-          → ((l : Line) → lineSize l ≡ 15 + k → Reads (line w .dec) s p (found l r) → P) → P
-      unfolding line endDec
-      line-is b l h f = codes-are b l λ cs m C. f _ (ap (λ (n : ℕ). 15 + n) m) (all-of _ (made _ _ (go-on _ _ E (go-on _ _ C h))))
+    pub line-is : {P : Type 0} → k ≤ j → endBits w ≤ 8 * length s - q
+        → ((l : Line) → lineSize l ≡ 15 + k → Reads (line w .dec) s p (found l (q + endBits w)) → P) → P
+    unfolding line
+    line-is l h f =
+        let (y, r) = span-at (end-spans w) s q (omega arith) in
+        f _ (ap (λ (n : ℕ). 15 + n) (codes-are l .1)) (all-of _ (made _ _ (go-on _ _ (start-is .1) (go-on _ _ (codes-are l .2) r))))
 
 -- ---- the lines of the block s, where n are read with z bytes in the sheet, and the next starts at place p
 

@@ -17,7 +17,7 @@ use Rattle.format.specs.Differences.{diff}
 use Rattle.format.specs.Index.{Index, neighbours, index}
 use Rattle.format.specs.SheetSize.{listSize}
 use Rattle.bits.specs.Reads.{rangedAt}
-use Rattle.judge_ends.specs.Ends.{cleared}
+use Rattle.judge_zeros.specs.Zeros.{cleared}
 use Rattle.judge_blocks.specs.Answers.{indexDec}
 use Rattle.judge_blocks.proofs.Laws.Index.{listsFrom, diffsFrom, lists-start, diffs-start, count-small, width-most, index-none, width-bad, index-dirt, index-long, index-good, lists-stop, lists-turn, lists-done, diffs-stop, diffs-turn, diffs-done}
 use borrow.Author.Needs.{needs}

@@ -4,8 +4,8 @@ use native.Mathlib.Omega.{arith}
 use mathlib.Core.Path.{_≡_, ap}
 use Prim.Native.Nat.{ℕ, zero, suc, _+_, _-_, _^_, _≤_, _<_}
 use borrow.Author.Needs.{needs}
-use Rattle.judge_ends.proofs.first_one.Statement.{statement}
-use Rattle.judge_ends.proofs.first_one.Tie as tie
+use Rattle.judge_zeros.proofs.first_one.Statement.{statement}
+use Rattle.judge_zeros.proofs.first_one.Tie as tie
 
 abbrev Inv-loop : tie.InvT-loop
 Inv-loop value n i₀ i =

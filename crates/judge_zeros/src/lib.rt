@@ -1,52 +1,16 @@
-// The ends of a line, and the zero bits behind the last.
+// The zero bits that fill a block up to its end.
 ghost use Prim.Native.Nat.{ℕ, _-_, _*_, _^_, _≤_, _<_};
 ghost use lib.ListN.{length};
 ghost use Rattle.bits.specs.Block.{zerosDec};
 ghost use Rattle.bits.specs.Reads.{Reads};
-ghost use Rattle.judge_ends.specs.Ends.{ended, cleared, endDec};
+ghost use Rattle.judge_zeros.specs.Zeros.{cleared};
 use bits::Cursor;
-use bits::Taken;
 use bits::pow2;
-use format::End;
-use format::Widths;
-
-// An end and the cursor behind it, or the place of the field that passes the block's end.
-pub enum EndAt {
-    At(End, Cursor),
-    Short(usize),
-}
 
 // All bits are zero, or the place of the first that is not.
 pub enum Cleared {
     All,
     One(usize),
-}
-
-pub fn end_at(p: Cursor, block: &[u8], w: Widths) -> EndAt
-    requires { ⌜ (length (now block) ≤ 65535) × (p .at ≤ 8 * length (now block)) × (w .b ≤ 8) × (w .c ≤ 16) ⌝ }
-    ensures { λ r. ⌜ Reads (endDec w) (now (block .entry)) (p .at) (ended r) ⌝ }
-{
-    let Taken::Bits(kind, p1) = p.field(block, 2) else {
-        return EndAt::Short(p.at);
-    };
-    let Taken::Bits(direction, p2) = p1.field(block, w.b) else {
-        return EndAt::Short(p1.at);
-    };
-    let Taken::Bits(x, p3) = p2.field(block, w.c) else {
-        return EndAt::Short(p2.at);
-    };
-    let Taken::Bits(y, p4) = p3.field(block, w.c) else {
-        return EndAt::Short(p3.at);
-    };
-    EndAt::At(
-        End {
-            kind,
-            direction,
-            x,
-            y,
-        },
-        p4,
-    )
 }
 
 // The first 1 among the n bits that write the value, counted from 0.

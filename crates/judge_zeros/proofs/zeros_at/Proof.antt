@@ -12,8 +12,8 @@ use Rattle.bits.proofs.Laws.Reads.{length-rest, below}
 use Rattle.bits.proofs.Laws.Loops.{field-zero, field-one}
 use Rattle.bits.proofs.Laws.Parts.{drop-end}
 use borrow.Author.Needs.{needs}
-use Rattle.judge_ends.proofs.zeros_at.Statement.{statement}
-use Rattle.judge_ends.proofs.zeros_at.Tie as tie
+use Rattle.judge_zeros.proofs.zeros_at.Statement.{statement}
+use Rattle.judge_zeros.proofs.zeros_at.Tie as tie
 
 abbrev Inv-loop : tie.InvT-loop
 Inv-loop block q₀ q =
