@@ -26,7 +26,7 @@ struct Opened {
 }
 
 // The views, from byte 24 on; seen counts those of each position, size the bytes in the sheet. An end and codes are right whatever
-// their bits are: an end is passed by one comparison with the bits left, and so are up to 32 codes.
+// their bits are: an end is passed by one comparison with the bits left, and so are up to 128 codes.
 pub fn judge_views(bytes: &[u8], w: Widths, count: usize) -> Reached
     requires { ⌜ (24 ≤ length (now bytes)) × (length (now bytes) ≤ 32768) × (count ≤ 255) × (w .b ≤ 8) × (w .c ≤ 16) × (w .k ≤ 8) ⌝ }
     ensures { λ r. ⌜ Reads (viewsDec w count) (now (bytes .entry)) 192 (reached r) × (sheetBytes r ≤ 137438953472) ⌝ }
@@ -77,7 +77,7 @@ pub fn judge_views(bytes: &[u8], w: Widths, count: usize) -> Reached
             p = count.next;
             let mut i: usize = 0;
             while i < codes {
-                let some = smaller(codes - i, 32);
+                let some = smaller(codes - i, 128);
                 if end - p.at < some * w.k {
                     answer = Reached::Refused(Refusal::BAD_LINE, place);
                     break 'views;

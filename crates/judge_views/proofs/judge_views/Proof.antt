@@ -274,12 +274,12 @@ sub-if5 c =
 
 mul-if5 : tie.Need-mul-if5 Inv-loop2 μ-loop2 Inv-loop μ-loop Inv-views μ-views
 mul-if5 c =
-    let h : c .before .before .smaller .result ≤ 32 = omega (arith, c .before .before .smaller .ensures) in
+    let h : c .before .before .smaller .result ≤ 128 = omega (arith, c .before .before .smaller .ensures) in
     omega (arith, mul-le-mul-right (c .before .before .before .before .before .before .before .before .before .before .before .before .before .before .before .before .before .before .before .before .before .before .before .before .before .before .before .before .args .w .k) h, c .before .before .before .before .before .before .before .before .before .before .before .before .before .before .before .before .before .before .before .before .before .before .before .before .before .before .before .before .pre)
 
 mul-t54 : tie.Need-mul-t54 Inv-loop2 μ-loop2 Inv-loop μ-loop Inv-views μ-views
 mul-t54 c =
-    let h : c .before .before .before .before .smaller .result ≤ 32 = omega (arith, c .before .before .before .before .smaller .ensures) in
+    let h : c .before .before .before .before .smaller .result ≤ 128 = omega (arith, c .before .before .before .before .smaller .ensures) in
     omega (arith, mul-le-mul-right (c .before .before .before .before .before .before .before .before .before .before .before .before .before .before .before .before .before .before .before .before .before .before .before .before .before .before .before .before .before .before .args .w .k) h, c .before .before .before .before .before .before .before .before .before .before .before .before .before .before .before .before .before .before .before .before .before .before .before .before .before .before .before .before .before .before .pre)
 
 add-t55 : tie.Need-add-t55 Inv-loop2 μ-loop2 Inv-loop μ-loop Inv-views μ-views
