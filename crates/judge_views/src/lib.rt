@@ -6,7 +6,6 @@ ghost use Rattle.bits.specs.Reads.{Reads};
 ghost use Rattle.judge_blocks.specs.Answers.{reached};
 ghost use Rattle.judge_views.specs.Views.{viewsDec, sheetBytes};
 use bits::Cursor;
-use bits::smaller;
 use format::Header;
 use format::ViewHeader;
 use format::Widths;
@@ -25,8 +24,8 @@ struct Opened {
     len: usize,
 }
 
-// The views, from byte 24 on; seen counts those of each position, size the bytes in the sheet. An end and codes are right whatever
-// their bits are: an end is passed by one comparison with the bits left, and so are up to 128 codes.
+// The views, from byte 24 on; seen counts those of each position, size the bytes in the sheet. Ends and codes are right whatever their
+// bits are, so they are passed by one comparison with the bits left: 128 codes in a turn, and the last of them with the line's end.
 pub fn judge_views(bytes: &[u8], w: Widths, count: usize) -> Reached
     requires { ⌜ (24 ≤ length (now bytes)) × (length (now bytes) ≤ 32768) × (count ≤ 255) × (w .b ≤ 8) × (w .c ≤ 16) × (w .k ≤ 8) ⌝ }
     ensures { λ r. ⌜ Reads (viewsDec w count) (now (bytes .entry)) 192 (reached r) × (sheetBytes r ≤ 137438953472) ⌝ }
@@ -75,25 +74,23 @@ pub fn judge_views(bytes: &[u8], w: Widths, count: usize) -> Reached
             }.sure(block, 8);
             let codes = count.value;
             p = count.next;
-            let mut i: usize = 0;
-            while i < codes {
-                let some = smaller(codes - i, 128);
-                if end - p.at < some * w.k {
+            let mut left = codes;
+            while 128 < left {
+                if end - p.at < 128 * w.k {
                     answer = Reached::Refused(Refusal::BAD_LINE, place);
                     break 'views;
                 }
                 p = Cursor {
-                    at: p.at + some * w.k,
+                    at: p.at + 128 * w.k,
                 };
-                i = i + some;
+                left = left - 128;
             }
-            if end - p.at < end_bits {
+            let rest = left * w.k + end_bits;
+            if end - p.at < rest {
                 answer = Reached::Refused(Refusal::BAD_LINE, place);
                 break 'views;
             }
-            p = Cursor {
-                at: p.at + end_bits,
-            };
+            p = Cursor { at: p.at + rest };
             lines = lines + (15 + codes);
             n = n + 1;
         }

@@ -5,12 +5,17 @@ ghost use Prim.Native.Nat.{_+_, _*_, _≤_, min};
 ghost use Rattle.order_lines.specs.Copy.{CopyThere, Copied};
 ghost use Rattle.order_lines.specs.Lines.{LinesToKeep, LinesSized, LinesPutThere, LinesPut};
 use bits::Cursor;
-use bits::smaller;
 use bits::wide;
 use find_parts::line::line_end;
 use format::Widths;
 use order_removal::rank_of;
 use put_bits::put_bits;
+
+fn smaller(a: usize, b: usize) -> usize
+    ensures { λ r. ⌜ r ≡ min a b ⌝ }
+{
+    if a < b { a } else { b }
+}
 
 // The n bits of `block` from place p on, put at place `at` of `out`; the answer is the place behind them.
 fn copy_few(out: &mut [u8], at: usize, block: &[u8], p: usize, n: usize) -> usize

@@ -3,7 +3,7 @@
 use mathlib.Core.Path.{_≡_, sym, ap, _∙_, subst}
 use Prim.Native.Nat.{ℕ, _+_, _-_, _*_, _≤_, _<_}
 use native.Mathlib.Omega.{arith}
-use native.Mathlib.Nat.{add-mul, mul-le-mul-right}
+use native.Mathlib.Nat.{mul-le-mul-right}
 use mathlib.Core.Bool.{Bool}
 use mathlib.Core.List.{List, []}
 use lib.ListN.{length, drop}
@@ -52,41 +52,47 @@ module _ (w : Widths) (s : List ℕ) (p : ℕ) (i : p ≤ 8 * length s) where
       none-of _ i (made _ _ (go-on _ _ r (stop _ _ (made _ _ (stop _ _ (field-past badLine s (p + endBits w) 8 k (omega arith))))))))
       (λ k. let (q, r) = span-past (end-spans w) s p i k in none-of _ i (made _ _ (stop _ _ r)))
 
-  -- k codes follow; j of them are passed, and the next is at place q
-  module _ {k p2 : ℕ} (K : Reads (fieldDec badLine 8) s (p + endBits w) (found k p2)) (room : p + endBits w ≤ 8 * length s) (j q : ℕ)
-      (at : q ≡ p2 + j * w .k) (some : j ≤ k) (b : q ≤ 8 * length s) where
+  -- k codes follow; m of them are left, and the next is at place q
+  module _ {k p2 : ℕ} (K : Reads (fieldDec badLine 8) s (p + endBits w) (found k p2)) (room : p + endBits w ≤ 8 * length s) (m q : ℕ)
+      (at : q + m * w .k ≡ p2 + k * w .k) (b : q ≤ 8 * length s) where
     start-is : (x : End) × Reads (end w .dec) s p (found x (p + endBits w))
     start-is = span-at (end-spans w) s p room
 
-    -- of the others, m do not fit
-    pub no-codes : (m : ℕ) → j + m ≤ k → 8 * length s - q < m * w .k → Reads (line w .dec) s p (fault badLine p)
+    codes-past : 8 * length s < q + m * w .k → Reads (line w .dec) s p (fault badLine p)
     unfolding line
-    no-codes m l h =
-        let (y, r) = span-past (codes-span w k) s p2 (K .within) (omega (arith, at, add-mul j m (w .k), mul-le-mul-right (w .k) l)) in
+    codes-past h =
+        let (y, r) = span-past (codes-span w k) s p2 (K .within) (rw (sym at) h) in
         none-of _ i (made _ _ (go-on _ _ (start-is .1) (stop _ _ (made _ _ (go-on _ (times (field badLine (w .k))) K r)))))
 
-    codes-are : k ≤ j → (cs : List ℕ) × (length cs ≡ k) × Reads (counted (field badLine 8) (field badLine (w .k)) .dec) s (p + endBits w) (found cs q)
-    codes-are l =
-        let e : j ≡ k = omega arith in
-        let f : p2 + k * w .k ≡ q = ap (λ (n : ℕ). p2 + n * w .k) (sym e) ∙ sym at in
-        let (cs, r) = span-at (codes-span w k) s p2 (rw f b) in (
+    codes-are : q + m * w .k ≤ 8 * length s
+        → (cs : List ℕ) × (length cs ≡ k) × Reads (counted (field badLine 8) (field badLine (w .k)) .dec) s (p + endBits w) (found cs (q + m * w .k))
+    codes-are h =
+        let (cs, r) = span-at (codes-span w k) s p2 (rw (sym at) h) in (
           cs,
           times-back (field badLine (w .k)) k (drop p2 (bitsOf s)) cs (drop (p2 + k * w .k) (bitsOf s)) (r .is) .0 .0,
-          made _ _ (go-on _ (times (field badLine (w .k))) K (up-to f r)),
+          made _ _ (go-on _ (times (field badLine (w .k))) K (up-to (sym at) r)),
         )
 
-    pub no-finish : k ≤ j → 8 * length s - q < endBits w → Reads (line w .dec) s p (fault badLine p)
-    unfolding line
-    no-finish l h =
-        let (y, r) = span-past (end-spans w) s q b (omega arith) in
-        none-of _ i (made _ _ (go-on _ _ (start-is .1) (go-on _ _ (codes-are l .2) r)))
+    -- n of those that are left do not fit
+    pub no-codes : (n : ℕ) → n ≤ m → 8 * length s - q < n * w .k → Reads (line w .dec) s p (fault badLine p)
+    no-codes n l h = codes-past (omega (arith, mul-le-mul-right (w .k) l))
 
-    pub line-is : {P : Type 0} → k ≤ j → endBits w ≤ 8 * length s - q
-        → ((l : Line) → lineSize l ≡ 15 + k → Reads (line w .dec) s p (found l (q + endBits w)) → P) → P
+    -- they, or the end behind them, do not fit
+    pub no-rest : 8 * length s - q < m * w .k + endBits w → Reads (line w .dec) s p (fault badLine p)
     unfolding line
-    line-is l h f =
-        let (y, r) = span-at (end-spans w) s q (omega arith) in
-        f _ (ap (λ (n : ℕ). 15 + n) (codes-are l .1)) (all-of _ (made _ _ (go-on _ _ (start-is .1) (go-on _ _ (codes-are l .2) r))))
+    no-rest h =
+        split (q + m * w .k) (8 * length s)
+        (λ l. let (y, r) = span-past (end-spans w) s (q + m * w .k) l (omega arith) in
+        none-of _ i (made _ _ (go-on _ _ (start-is .1) (go-on _ _ (codes-are l .2) r))))
+        codes-past
+
+    pub line-is : {P : Type 0} → m * w .k + endBits w ≤ 8 * length s - q
+        → ((l : Line) → lineSize l ≡ 15 + k → Reads (line w .dec) s p (found l (q + (m * w .k + endBits w))) → P) → P
+    unfolding line
+    line-is h f =
+        let (y, r) = span-at (end-spans w) s (q + m * w .k) (omega arith) in
+        let c = codes-are (omega arith) in
+        f _ (ap (λ (n : ℕ). 15 + n) (c .1)) (all-of _ (made _ _ (go-on _ _ (start-is .1) (go-on _ _ (c .2) (up-to (omega arith) r)))))
 
 -- ---- the lines of the block s, where n are read with z bytes in the sheet, and the next starts at place p
 

@@ -26,7 +26,7 @@ use Rattle.judge_zeros.specs.Zeros.{cleared}
 use Rattle.judge_blocks.specs.Answers.{reached, indexAtDec, segmentsAtDec}
 use Rattle.judge_views.specs.Views.{viewsDec}
 use Rattle.judge_views.proofs.Laws.Bounds.{index-small, segments-small}
-use Rattle.judge_views.proofs.Laws.Line.{endBits, no-start, no-codes, no-finish, line-is, Lines, lines-start, lines-over, lines-stop, lines-turn, lines-dirt, lines-done}
+use Rattle.judge_views.proofs.Laws.Line.{endBits, no-start, no-codes, no-rest, line-is, Lines, lines-start, lines-over, lines-stop, lines-turn, lines-dirt, lines-done}
 use Rattle.judge_heads.proofs.Laws.Seen.{seen-start, seen-more, seen-le}
 use Rattle.judge_views.proofs.Laws.Head.{head-seen, position-le}
 use Rattle.judge_views.proofs.Laws.View.{no-head, skeleton-past, skeleton-bad, index-bad, segments-bad, view-is, Views, views-start, views-stop, views-turn, views-done, exit}
@@ -35,13 +35,12 @@ use Rattle.judge_views.proofs.judge_views.Statement.{statement}
 use Rattle.judge_views.proofs.judge_views.Tie as tie
 
 abbrev Inv-loop2 : tie.InvT-loop2
-Inv-loop2 bytes w count end-bits answer₀ seen a size v head len b e block end p₀ lines n place codes i₀ answer p i =
-    (i ≤ codes) × (p .at ≤ 8 * length block) × (answer ≡ answer₀)
-    × (p .at ≡ p₀ .at + i * w .k)
+Inv-loop2 bytes w count end-bits answer₀ seen a size v head len b e block end p₀ lines n place codes left₀ answer p left =
+    (left ≤ codes) × (p .at ≤ 8 * length block) × (answer ≡ answer₀) × (p .at + left * w .k ≡ p₀ .at + codes * w .k)
 
 abbrev μ-loop2 : tie.MeasureT-loop2
-μ-loop2 bytes w count end-bits answer₀ seen a size v head len b e block end p₀ lines n place codes i₀ answer p i =
-    codes - i
+μ-loop2 bytes w count end-bits answer₀ seen a size v head len b e block end p₀ lines n place codes left₀ answer p left =
+    left
 
 abbrev Inv-loop : tie.InvT-loop
 Inv-loop bytes w count end-bits answer₀ seen a size v head len b e block end p₀ lines₀ n₀ answer p lines n =
@@ -146,12 +145,12 @@ left c =
     known (ap (exit (k .before .before .before .before .before .before .before .before .before .before .before .before .before .before .before .before .views .a) (k .before .before .before .before .before .before .before .before .before .before .before .before .before .before .before .before .views .size)) (sym (x .16))) (bad-line (k .before .before) (no-start (k .before .before .before .before .before .before .before .before .before .before .before .before .before .before .before .before .before .before .before .before .args .w) (blk (k .before .before .before .before .before .before .before .before)) (k .before .before .before .before .before .before .loop .p .at) (k .before .before .before .before .before .before .loop .inv .1) (omega (arith, k .if4 .taken)))))
     (⊎-elim
     (λ x.
-    let k : tie.Then5 Inv-loop2 μ-loop2 Inv-loop μ-loop Inv-views μ-views = record { before = record { before = record { before = record { before = record { before = record { before = record { before = record { before = record { before = record { before = record { before = record { before = record { before = record { before = record { before = record { before = record { before = record { before = record { before = record { before = record { before = record { before = record { before = record { before = record { before = c .before; views-test = x .0 }; seen = x .1 }; head-at = x .2 }; match = x .3 }; h = x .4 }; known-told = x .5 }; if1 = x .6 }; block = x .7 }; start = x .8 }; loop = x .9 }; struct-known3 = x .10 }; if2 = x .11 }; struct-known4 = x .12 }; if3 = x .13 }; struct-known5 = x .14 }; if4 = x .15 }; struct-known6 = x .16 }; sure = x .17 }; p = x .18 }; loop2 = x .19 }; loop2-test = x .20 }; smaller = x .21 }; struct-known7 = x .22 }; struct-known8 = x .23 }; if5 = x .24 } in
-    known (ap (exit (k .before .before .before .before .before .before .before .before .before .before .before .before .before .before .before .before .before .before .before .before .before .before .before .before .before .views .a) (k .before .before .before .before .before .before .before .before .before .before .before .before .before .before .before .before .before .before .before .before .before .before .before .before .before .views .size)) (sym (x .25))) (bad-line (k .before .before .before .before .before .before .before .before .before .before .before) (no-codes (k .before .before .before .before .before .before .before .before .before .before .before .before .before .before .before .before .before .before .before .before .before .before .before .before .before .before .before .before .before .args .w) (blk (k .before .before .before .before .before .before .before .before .before .before .before .before .before .before .before .before .before)) (k .before .before .before .before .before .before .before .before .before .before .before .before .before .before .before .loop .p .at) (k .before .before .before .before .before .before .before .before .before .before .before .before .before .before .before .loop .inv .1) (count-of (k .before .before .before .before .before .before .before)) (started (k .before .before .before .before .before .before .before .before .before)) (k .before .before .before .before .before .loop2 .i) (k .before .before .before .before .before .loop2 .p .at) (k .before .before .before .before .before .loop2 .inv .3) (k .before .before .before .before .before .loop2 .inv .0) (k .before .before .before .before .before .loop2 .inv .1) (k .before .before .before .smaller .result) (omega (arith, k .before .before .before .smaller .ensures, k .before .before .before .before .loop2-test .taken)) (omega (arith, k .if5 .taken)))))
+    let k : tie.Then5 Inv-loop2 μ-loop2 Inv-loop μ-loop Inv-views μ-views = record { before = record { before = record { before = record { before = record { before = record { before = record { before = record { before = record { before = record { before = record { before = record { before = record { before = record { before = record { before = record { before = record { before = record { before = record { before = record { before = record { before = record { before = record { before = record { before = c .before; views-test = x .0 }; seen = x .1 }; head-at = x .2 }; match = x .3 }; h = x .4 }; known-told = x .5 }; if1 = x .6 }; block = x .7 }; start = x .8 }; loop = x .9 }; struct-known3 = x .10 }; if2 = x .11 }; struct-known4 = x .12 }; if3 = x .13 }; struct-known5 = x .14 }; if4 = x .15 }; struct-known6 = x .16 }; sure = x .17 }; p = x .18 }; loop2 = x .19 }; loop2-test = x .20 }; struct-known7 = x .21 }; struct-known8 = x .22 }; if5 = x .23 } in
+    known (ap (exit (k .before .before .before .before .before .before .before .before .before .before .before .before .before .before .before .before .before .before .before .before .before .before .before .before .views .a) (k .before .before .before .before .before .before .before .before .before .before .before .before .before .before .before .before .before .before .before .before .before .before .before .before .views .size)) (sym (x .24))) (bad-line (k .before .before .before .before .before .before .before .before .before .before) (no-codes (k .before .before .before .before .before .before .before .before .before .before .before .before .before .before .before .before .before .before .before .before .before .before .before .before .before .before .before .before .args .w) (blk (k .before .before .before .before .before .before .before .before .before .before .before .before .before .before .before .before)) (k .before .before .before .before .before .before .before .before .before .before .before .before .before .before .loop .p .at) (k .before .before .before .before .before .before .before .before .before .before .before .before .before .before .loop .inv .1) (count-of (k .before .before .before .before .before .before)) (started (k .before .before .before .before .before .before .before .before)) (k .before .before .before .before .loop2 .left) (k .before .before .before .before .loop2 .p .at) (k .before .before .before .before .loop2 .inv .3) (k .before .before .before .before .loop2 .inv .1) 128 (omega (arith, k .before .before .before .loop2-test .taken)) (omega (arith, k .if5 .taken)))))
     (⊎-elim
     (λ x.
-    let k : tie.Then6 Inv-loop2 μ-loop2 Inv-loop μ-loop Inv-views μ-views = record { before = record { before = record { before = record { before = record { before = record { before = record { before = record { before = record { before = record { before = record { before = record { before = record { before = record { before = record { before = record { before = record { before = record { before = record { before = record { before = record { before = record { before = record { before = c .before; views-test = x .0 }; seen = x .1 }; head-at = x .2 }; match = x .3 }; h = x .4 }; known-told = x .5 }; if1 = x .6 }; block = x .7 }; start = x .8 }; loop = x .9 }; struct-known3 = x .10 }; if2 = x .11 }; struct-known4 = x .12 }; if3 = x .13 }; struct-known5 = x .14 }; if4 = x .15 }; struct-known6 = x .16 }; sure = x .17 }; p = x .18 }; loop2 = x .19 }; loop2-test = x .20 }; struct-known11 = x .21 }; if6 = x .22 } in
-    known (ap (exit (k .before .before .before .before .before .before .before .before .before .before .before .before .before .before .before .before .before .before .before .before .before .before .before .views .a) (k .before .before .before .before .before .before .before .before .before .before .before .before .before .before .before .before .before .before .before .before .before .before .before .views .size)) (sym (x .23))) (bad-line (k .before .before .before .before .before .before .before .before .before) (no-finish (k .before .before .before .before .before .before .before .before .before .before .before .before .before .before .before .before .before .before .before .before .before .before .before .before .before .before .before .args .w) (blk (k .before .before .before .before .before .before .before .before .before .before .before .before .before .before .before)) (k .before .before .before .before .before .before .before .before .before .before .before .before .before .loop .p .at) (k .before .before .before .before .before .before .before .before .before .before .before .before .before .loop .inv .1) (count-of (k .before .before .before .before .before)) (started (k .before .before .before .before .before .before .before)) (k .before .before .before .loop2 .i) (k .before .before .before .loop2 .p .at) (k .before .before .before .loop2 .inv .3) (k .before .before .before .loop2 .inv .0) (k .before .before .before .loop2 .inv .1) (omega (arith, k .before .before .loop2-test .left)) (omega (arith, k .if6 .taken)))))
+    let k : tie.Then6 Inv-loop2 μ-loop2 Inv-loop μ-loop Inv-views μ-views = record { before = record { before = record { before = record { before = record { before = record { before = record { before = record { before = record { before = record { before = record { before = record { before = record { before = record { before = record { before = record { before = record { before = record { before = record { before = record { before = record { before = record { before = record { before = record { before = c .before; views-test = x .0 }; seen = x .1 }; head-at = x .2 }; match = x .3 }; h = x .4 }; known-told = x .5 }; if1 = x .6 }; block = x .7 }; start = x .8 }; loop = x .9 }; struct-known3 = x .10 }; if2 = x .11 }; struct-known4 = x .12 }; if3 = x .13 }; struct-known5 = x .14 }; if4 = x .15 }; struct-known6 = x .16 }; sure = x .17 }; p = x .18 }; loop2 = x .19 }; loop2-test = x .20 }; struct-known11 = x .21 }; struct-known12 = x .22 }; if6 = x .23 } in
+    known (ap (exit (k .before .before .before .before .before .before .before .before .before .before .before .before .before .before .before .before .before .before .before .before .before .before .before .before .views .a) (k .before .before .before .before .before .before .before .before .before .before .before .before .before .before .before .before .before .before .before .before .before .before .before .before .views .size)) (sym (x .24))) (bad-line (k .before .before .before .before .before .before .before .before .before .before) (no-rest (k .before .before .before .before .before .before .before .before .before .before .before .before .before .before .before .before .before .before .before .before .before .before .before .before .before .before .before .before .args .w) (blk (k .before .before .before .before .before .before .before .before .before .before .before .before .before .before .before .before)) (k .before .before .before .before .before .before .before .before .before .before .before .before .before .before .loop .p .at) (k .before .before .before .before .before .before .before .before .before .before .before .before .before .before .loop .inv .1) (count-of (k .before .before .before .before .before .before)) (started (k .before .before .before .before .before .before .before .before)) (k .before .before .before .before .loop2 .left) (k .before .before .before .before .loop2 .p .at) (k .before .before .before .before .loop2 .inv .3) (k .before .before .before .before .loop2 .inv .1) (omega (arith, k .if6 .taken)))))
     (⊎-elim
     (λ x.
     let k : tie.After-known-told3 Inv-loop2 μ-loop2 Inv-loop μ-loop Inv-views μ-views = record { before = record { before = record { before = record { before = record { before = record { before = record { before = record { before = record { before = record { before = record { before = record { before = record { before = record { before = record { before = record { before = c .before; views-test = x .0 }; seen = x .1 }; head-at = x .2 }; match = x .3 }; h = x .4 }; known-told = x .5 }; if1 = x .6 }; block = x .7 }; start = x .8 }; loop = x .9 }; struct-known3 = x .10 }; if2 = x .11 }; zeros-at = x .12 }; match2 = x .13 }; q = x .14 }; known-told3 = x .15 } in
@@ -249,8 +248,8 @@ sub-if4 c =
 add-if4 : tie.Need-add-if4 Inv-loop2 μ-loop2 Inv-loop μ-loop Inv-views μ-views
 add-if4 c = search needs
 
-add-t49 : tie.Need-add-t49 Inv-loop2 μ-loop2 Inv-loop μ-loop Inv-views μ-views
-add-t49 c =
+add-if6 : tie.Need-add-if6 Inv-loop2 μ-loop2 Inv-loop μ-loop Inv-views μ-views
+add-if6 c =
     omega (arith, c .before .before .before .before .before .before .before .loop .inv .1, c .before .before .before .before .before .before .before .before .before .before .before .before .before .before .before .before .before .before .before .before .before .pre, small (c .before .before .before .before .before .before .before .before .before))
 
 sure-requires : tie.Need-sure-requires Inv-loop2 μ-loop2 Inv-loop μ-loop Inv-views μ-views
@@ -259,76 +258,79 @@ sure-requires c κs =
 
 loop2-holds : tie.Need-loop2-holds Inv-loop2 μ-loop2 Inv-loop μ-loop Inv-views μ-views
 loop2-holds c =
-    (omega arith, count-of (c .before) .within, refl, omega arith)
-
-sub-smaller : tie.Need-sub-smaller Inv-loop2 μ-loop2 Inv-loop μ-loop Inv-views μ-views
-sub-smaller c =
-    omega (arith, c .loop2-test .taken)
-
-smaller-requires : tie.Need-smaller-requires Inv-loop2 μ-loop2 Inv-loop μ-loop Inv-views μ-views
-smaller-requires c κs = search needs
+    (omega arith, count-of (c .before) .within, refl, refl)
 
 sub-if5 : tie.Need-sub-if5 Inv-loop2 μ-loop2 Inv-loop μ-loop Inv-views μ-views
 sub-if5 c =
-    omega (arith, c .before .before .before .loop2 .inv .1)
+    omega (arith, c .before .before .loop2 .inv .1)
 
 mul-if5 : tie.Need-mul-if5 Inv-loop2 μ-loop2 Inv-loop μ-loop Inv-views μ-views
 mul-if5 c =
-    let h : c .before .before .smaller .result ≤ 128 = omega (arith, c .before .before .smaller .ensures) in
-    omega (arith, mul-le-mul-right (c .before .before .before .before .before .before .before .before .before .before .before .before .before .before .before .before .before .before .before .before .before .before .before .before .before .before .before .before .args .w .k) h, c .before .before .before .before .before .before .before .before .before .before .before .before .before .before .before .before .before .before .before .before .before .before .before .before .before .before .before .before .pre)
+    omega (arith, c .before .before .before .before .before .before .before .before .before .before .before .before .before .before .before .before .before .before .before .before .before .before .before .before .before .before .before .pre)
 
 mul-t54 : tie.Need-mul-t54 Inv-loop2 μ-loop2 Inv-loop μ-loop Inv-views μ-views
 mul-t54 c =
-    let h : c .before .before .before .before .smaller .result ≤ 128 = omega (arith, c .before .before .before .before .smaller .ensures) in
-    omega (arith, mul-le-mul-right (c .before .before .before .before .before .before .before .before .before .before .before .before .before .before .before .before .before .before .before .before .before .before .before .before .before .before .before .before .before .before .args .w .k) h, c .before .before .before .before .before .before .before .before .before .before .before .before .before .before .before .before .before .before .before .before .before .before .before .before .before .before .before .before .before .before .pre)
+    omega (arith, c .before .before .before .before .before .before .before .before .before .before .before .before .before .before .before .before .before .before .before .before .before .before .before .before .before .before .before .before .before .pre)
 
 add-t55 : tie.Need-add-t55 Inv-loop2 μ-loop2 Inv-loop μ-loop Inv-views μ-views
 add-t55 c =
-    omega (arith, c .before .before .before .before .before .before .before .loop2 .inv .1, c .before .before .if5 .left, small (c .before .before .before .before .before .before .before .before .before .before .before .before .before .before .before .before .before .before .before))
+    omega (arith, c .before .before .before .before .before .before .loop2 .inv .1, c .before .before .if5 .left, small (c .before .before .before .before .before .before .before .before .before .before .before .before .before .before .before .before .before .before))
 
-add-i : tie.Need-add-i Inv-loop2 μ-loop2 Inv-loop μ-loop Inv-views μ-views
-add-i c =
-    omega (arith, c .before .before .before .before .before .smaller .ensures, c .before .before .before .before .before .before .loop2-test .taken, below badLine 8 (count-of (c .before .before .before .before .before .before .before .before .before)))
+sub-left : tie.Need-sub-left Inv-loop2 μ-loop2 Inv-loop μ-loop Inv-views μ-views
+sub-left c =
+    omega (arith, c .before .before .before .before .before .loop2-test .taken)
 
 loop2-less : tie.Need-loop2-less Inv-loop2 μ-loop2 Inv-loop μ-loop Inv-views μ-views
 loop2-less c =
-    omega (arith, c .before .before .before .before .before .smaller .ensures, c .before .before .before .before .before .before .loop2-test .taken)
+    omega (arith, c .before .before .before .before .before .loop2-test .taken)
 
 loop2-again : tie.Need-loop2-again Inv-loop2 μ-loop2 Inv-loop μ-loop Inv-views μ-views
 loop2-again c =
-    let m = c .before .before .before .before .before .before .before .loop2 in
-    (omega (arith, c .before .before .before .before .before .smaller .ensures, c .before .before .before .before .before .before .loop2-test .taken), omega (arith, m .inv .1, c .before .before .if5 .left), m .inv .2, omega (arith, m .inv .3, add-mul (m .i) (c .before .before .before .before .before .smaller .result) (c .before .before .before .before .before .before .before .before .before .before .before .before .before .before .before .before .before .before .before .before .before .before .before .before .before .before .before .before .before .before .before .args .w .k)))
+    let m = c .before .before .before .before .before .before .loop2 in
+    let z : 128 + (m .left - 128) ≡ m .left = omega (arith, c .before .before .before .before .before .loop2-test .taken) in
+    let e = ap (λ (n : ℕ). n * c .before .before .before .before .before .before .before .before .before .before .before .before .before .before .before .before .before .before .before .before .before .before .before .before .before .before .before .before .before .before .args .w .k) z in
+    (omega (arith, m .inv .0), omega (arith, m .inv .1, c .before .before .if5 .left), m .inv .2, omega (arith, m .inv .3, e, add-mul 128 (m .left - 128) (c .before .before .before .before .before .before .before .before .before .before .before .before .before .before .before .before .before .before .before .before .before .before .before .before .before .before .before .before .before .before .args .w .k)))
+
+mul-rest : tie.Need-mul-rest Inv-loop2 μ-loop2 Inv-loop μ-loop Inv-views μ-views
+mul-rest c =
+    let h : c .before .before .loop2 .left ≤ 128 = omega (arith, c .before .loop2-test .left) in
+    omega (arith, mul-le-mul-right (c .before .before .before .before .before .before .before .before .before .before .before .before .before .before .before .before .before .before .before .before .before .before .before .before .before .before .args .w .k) h, c .before .before .before .before .before .before .before .before .before .before .before .before .before .before .before .before .before .before .before .before .before .before .before .before .before .before .pre)
+
+add-rest : tie.Need-add-rest Inv-loop2 μ-loop2 Inv-loop μ-loop Inv-views μ-views
+add-rest c =
+    let h : c .before .before .loop2 .left ≤ 128 = omega (arith, c .before .loop2-test .left) in
+    omega (arith, mul-le-mul-right (c .before .before .before .before .before .before .before .before .before .before .before .before .before .before .before .before .before .before .before .before .before .before .before .before .before .before .args .w .k) h, c .before .before .before .before .before .before .before .before .before .before .before .before .before .before .before .before .before .before .before .before .before .before .before .before .before .before .pre)
 
 sub-if6 : tie.Need-sub-if6 Inv-loop2 μ-loop2 Inv-loop μ-loop Inv-views μ-views
 sub-if6 c =
-    omega (arith, c .before .before .loop2 .inv .1)
+    omega (arith, c .before .before .before .loop2 .inv .1)
 
-add-t49-2 : tie.Need-add-t49-2 Inv-loop2 μ-loop2 Inv-loop μ-loop Inv-views μ-views
-add-t49-2 c =
-    omega (arith, c .before .before .before .before .loop2 .inv .1, c .before .if6 .left, small (c .before .before .before .before .before .before .before .before .before .before .before .before .before .before .before .before))
+add-t51 : tie.Need-add-t51 Inv-loop2 μ-loop2 Inv-loop μ-loop Inv-views μ-views
+add-t51 c =
+    omega (arith, c .before .before .before .before .before .loop2 .inv .1, c .before .if6 .left, small (c .before .before .before .before .before .before .before .before .before .before .before .before .before .before .before .before .before))
 
 add-lines : tie.Need-add-lines Inv-loop2 μ-loop2 Inv-loop μ-loop Inv-views μ-views
 add-lines c =
-    omega (arith, below badLine 8 (count-of (c .before .before .before .before .before .before)))
+    omega (arith, below badLine 8 (count-of (c .before .before .before .before .before .before .before)))
 
 add-lines-2 : tie.Need-add-lines-2 Inv-loop2 μ-loop2 Inv-loop μ-loop Inv-views μ-views
 add-lines-2 c =
-    omega (arith, c .before .before .before .before .before .before .before .before .before .before .before .before .before .before .loop .inv .0, c .before .before .before .before .before .before .before .before .before .before .before .before .before .before .loop .inv .3, below badLine 8 (count-of (c .before .before .before .before .before .before)))
+    omega (arith, c .before .before .before .before .before .before .before .before .before .before .before .before .before .before .before .loop .inv .0, c .before .before .before .before .before .before .before .before .before .before .before .before .before .before .before .loop .inv .3, below badLine 8 (count-of (c .before .before .before .before .before .before .before)))
 
 add-n : tie.Need-add-n Inv-loop2 μ-loop2 Inv-loop μ-loop Inv-views μ-views
 add-n c =
-    omega (arith, c .before .before .before .before .before .before .before .before .before .before .before .before .before .before .loop .inv .0)
+    omega (arith, c .before .before .before .before .before .before .before .before .before .before .before .before .before .before .before .loop .inv .0)
 
 loop-less : tie.Need-loop-less Inv-loop2 μ-loop2 Inv-loop μ-loop Inv-views μ-views
 loop-less c =
-    omega (arith, c .before .before .before .before .before .before .before .before .before .before .before .before .before .before .loop .inv .0, c .before .before .before .before .before .before .before .before .before .before .if3 .left)
+    omega (arith, c .before .before .before .before .before .before .before .before .before .before .before .before .before .before .before .loop .inv .0, c .before .before .before .before .before .before .before .before .before .before .before .if3 .left)
 
 loop-again : tie.Need-loop-again Inv-loop2 μ-loop2 Inv-loop μ-loop Inv-views μ-views
 loop-again c =
-    let m = c .before .before .before .before .loop2 in
-    let o = c .before .before .before .before .before .before .before .before .before .before .before .before .before .before .loop in
-    line-is (c .before .before .before .before .before .before .before .before .before .before .before .before .before .before .before .before .before .before .before .before .before .before .before .before .before .before .before .before .args .w) (blk (c .before .before .before .before .before .before .before .before .before .before .before .before .before .before .before .before)) (o .p .at) (o .inv .1) (count-of (c .before .before .before .before .before .before)) (started (c .before .before .before .before .before .before .before .before)) (m .i) (m .p .at) (m .inv .3) (m .inv .0) (m .inv .1) (omega (arith, c .before .before .before .loop2-test .left)) (omega (arith, c .before .if6 .left))
-    λ l e r. (omega (arith, o .inv .0, c .before .before .before .before .before .before .before .before .before .before .if3 .left), r .within, m .inv .2 ∙ o .inv .2, omega (arith, o .inv .3, below badLine 8 (count-of (c .before .before .before .before .before .before))), lines-turn (c .before .before .before .before .before .before .before .before .before .before .before .before .before .before .before .before .before .before .before .before .before .before .before .before .before .before .before .before .args .w) (blk (c .before .before .before .before .before .before .before .before .before .before .before .before .before .before .before .before)) (o .n) (o .lines) (o .p .at) (o .inv .4) (omega (arith, o .inv .0, c .before .before .before .before .before .before .before .before .before .before .if3 .left)) (omega (arith, c .before .before .before .before .before .before .before .before .before .before .before .before .if2 .taken)) e r)
+    let m = c .before .before .before .before .before .loop2 in
+    let o = c .before .before .before .before .before .before .before .before .before .before .before .before .before .before .before .loop in
+    line-is (c .before .before .before .before .before .before .before .before .before .before .before .before .before .before .before .before .before .before .before .before .before .before .before .before .before .before .before .before .before .args .w) (blk (c .before .before .before .before .before .before .before .before .before .before .before .before .before .before .before .before .before)) (o .p .at) (o .inv .1) (count-of (c .before .before .before .before .before .before .before)) (started (c .before .before .before .before .before .before .before .before .before)) (m .left) (m .p .at) (m .inv .3) (m .inv .1) (omega (arith, c .before .if6 .left))
+    λ l e r. (omega (arith, o .inv .0, c .before .before .before .before .before .before .before .before .before .before .before .if3 .left), r .within, m .inv .2 ∙ o .inv .2, omega (arith, o .inv .3, below badLine 8 (count-of (c .before .before .before .before .before .before .before))), lines-turn (c .before .before .before .before .before .before .before .before .before .before .before .before .before .before .before .before .before .before .before .before .before .before .before .before .before .before .before .before .before .args .w) (blk (c .before .before .before .before .before .before .before .before .before .before .before .before .before .before .before .before .before)) (o .n) (o .lines) (o .p .at) (o .inv .4) (omega (arith, o .inv .0, c .before .before .before .before .before .before .before .before .before .before .before .if3 .left)) (omega (arith, c .before .before .before .before .before .before .before .before .before .before .before .before .before .if2 .taken)) e r)
 
 zeros-at-requires : tie.Need-zeros-at-requires Inv-loop2 μ-loop2 Inv-loop μ-loop Inv-views μ-views
 zeros-at-requires c κs =
@@ -472,20 +474,20 @@ judge-views-spec =
     add-place
     sub-if4
     add-if4
-    add-t49
+    add-if6
     sure-requires
     loop2-holds
-    sub-smaller
-    smaller-requires
     sub-if5
     mul-if5
     mul-t54
     add-t55
-    add-i
+    sub-left
     loop2-less
     loop2-again
+    mul-rest
+    add-rest
     sub-if6
-    add-t49-2
+    add-t51
     add-lines
     add-lines-2
     add-n
