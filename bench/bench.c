@@ -114,7 +114,7 @@ int main(void)
                 compare(r, of, number);
     printf("%-11s %-12s %6s %12s %10s %12s %10s %8s\n", "", "", "", "library", "library", "plain",
            "plain", "library");
-    printf("%-11s %-12s %6s %12s %10s %12s %10s %8s\n", "call", "record", "bytes", "ns/call",
+    printf("%-11s %-12s %6s %12s %10s %12s %10s %8s\n", "call", "shape", "bytes", "ns/call",
            "ns/byte", "ns/call", "ns/byte", "/ plain");
     for (const row *r = rows; r->name != NULL; r++)
         for (const shape *of = shapes; of < shapes + SHAPES; of++)

@@ -152,7 +152,7 @@ int main(void)
     make_shapes(shapes);
     check_yardstick(shapes);
     printf("%-11s %-12s %8s %8s\n", "", "", "library", "plain");
-    printf("%-11s %-12s %8s %8s\n", "call", "record", "stack", "stack");
+    printf("%-11s %-12s %8s %8s\n", "call", "shape", "stack", "stack");
     for (const row *r = rows; r->name != NULL; r++)
         for (const shape *of = shapes; of < shapes + SHAPES; of++) {
             size_t library, plain;
@@ -164,7 +164,7 @@ int main(void)
             if (library > most)
                 most = library, deepest = r, deepest_of = of;
         }
-    printf("deepest of the library: %s, record %s, %zu bytes\n", deepest->name, deepest_of->name,
+    printf("deepest of the library: %s, shape %s, %zu bytes\n", deepest->name, deepest_of->name,
            most);
     return 0;
 }

@@ -69,11 +69,11 @@ pub fn judge_views(bytes: &[u8], w: Widths, count: usize) -> Reached
                 answer = Reached::Refused(Refusal::BAD_LINE, place);
                 break 'views;
             }
-            let count = Cursor {
+            let stated = Cursor {
                 at: p.at + end_bits,
             }.sure(block, 8);
-            let codes = count.value;
-            p = count.next;
+            let codes = stated.value;
+            p = stated.next;
             let mut left = codes;
             while 128 < left {
                 if end - p.at < 128 * w.k {
