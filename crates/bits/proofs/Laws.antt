@@ -2,7 +2,7 @@
 pub mod Refuses
 pub mod Place
 pub mod Reads
-pub mod Spans
+pub mod Full
 pub mod Loops
 pub mod Parts
 pub mod Apart

@@ -19,10 +19,6 @@ use Rattle.format.specs.Places.{viewAt, count, bitsBefore}
 use Rattle.format.specs.declared.Widths.{Widths}
 use Rattle.find_parts.specs.declared.view.Blocks.{Blocks}
 
--- bits of an end
-abbrev pub endBits : Widths → ℕ
-endBits w = 2 + (w .b + (w .c + w .c))
-
 -- ---- the block from byte a up to byte e; its length is in the two bytes before it
 
 pub record BlockAt {A : Type 0} (w : Block A) (s : List ℕ) (a e : ℕ) (v : A) : Type 0 where

@@ -1,7 +1,7 @@
 -- A line of a skeleton block, and the block. "Each line: start type (2 bits), direction (b), x (c), y (c), count of codes (8), the
 -- codes (k each), end type (2), direction (b), x (c), y (c). Lines follow without padding. While 8 or more bits are left, another
 -- line must be there; the last 0 to 7 bits are zero. At most 1,024 lines."
-use Prim.Native.Nat.{ℕ, _≤_}
+use Prim.Native.Nat.{ℕ, _+_, _≤_}
 use native.Mathlib.Omega.{arith}
 use mathlib.Core.Bool.{Bool}
 use mathlib.Core.List.{List}
@@ -27,6 +27,10 @@ endOf kind direction x =
 
 unfoldable pub end : Widths → Codec Bool End
 end w = endOf (field badLine 2) (field badLine (w .b)) (field badLine (w .c))
+
+-- the bits of an end
+abbrev pub endBits : Widths → ℕ
+endBits w = 2 + (w .b + (w .c + w .c))
 
 -- where a part of a line doesn't fit, the line doesn't: a refusal's place is the line's first bit
 unfoldable pub line : Widths → Codec Bool Line

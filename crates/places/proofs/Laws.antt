@@ -2,7 +2,7 @@
 pub mod Agree
 pub mod Settles
 pub mod Blocks
-pub mod Full
+pub mod Shaped
 pub mod Head
 pub mod Format
 pub mod Place

@@ -18,7 +18,7 @@ use Rattle.outcome.specs.Refusals.{badLine, badLines, noRoom}
 use Rattle.outcome.specs.Outcome.{Outcome, refused, given, AnswersAs}
 use Rattle.outcome.proofs.Laws.{answer-full, answer-given}
 use Rattle.put_bytes.specs.Laid.{Laid}
-use Rattle.format.specs.Line.{Line, line}
+use Rattle.format.specs.Line.{Line, endBits, line}
 use Rattle.format.specs.View.{View}
 use Rattle.format.specs.Record.{Narrow}
 use Rattle.format.specs.Places.{viewAt, count, lineAt}
@@ -28,7 +28,6 @@ use Rattle.trail.specs.Trail.{firstHeading, follow, trail, trailIn, trailing}
 use Rattle.trail.proofs.Laws.{first-small}
 use Rattle.trail_steps.specs.Walk.{CodesThere, OfCodes, drawn, CanDraw}
 use Rattle.trail_steps.proofs.Laws.{trail-length}
-use Rattle.find_parts.specs.Stands.{endBits}
 use Rattle.find_parts.specs.declared.view.Blocks.{Blocks}
 use Rattle.find_view.specs.Found.{Stands, Refuses}
 use Rattle.find_parts.proofs.Laws.Record.{record-apart}

@@ -10,12 +10,11 @@ use Rattle.bits.specs.CodecLaws.{encAll, field}
 use Rattle.outcome.specs.Refusals.{badLine}
 use Rattle.put_bytes.specs.Laid.{Laid}
 use Rattle.put_bits.specs.Put.{Puts, Room}
-use Rattle.format.specs.Line.{Line, FitsEnd, FitsLine, end, line}
+use Rattle.format.specs.Line.{Line, FitsEnd, FitsLine, end, endBits, line}
 use Rattle.format.specs.declared.End.{End}
 use Rattle.format.specs.declared.Widths.{Widths}
 use Rattle.sheet.specs.Code.{signExtended}
 use Rattle.format.specs.Record.{Narrow}
-use Rattle.find_parts.specs.Stands.{endBits}
 use Rattle.sheet_bytes.specs.Bytes.{endBytes}
 use Rattle.write_blocks.specs.Run.{RunAt}
 use Rattle.write_blocks.specs.declared.line.Lines.{Lines}

@@ -15,10 +15,9 @@ use Rattle.bits.specs.Reads.{found, Reads}
 use Rattle.bits.proofs.Laws.Reads.{length-rest, gives}
 use Rattle.bits.proofs.Laws.Apart.{then-got, via-got, whole-got, same, moved}
 use Rattle.outcome.specs.Refusals.{badLine}
-use Rattle.format.specs.Line.{Line, end, line, line-long}
+use Rattle.format.specs.Line.{Line, end, endBits, line, line-long}
 use Rattle.format.specs.declared.End.{End}
 use Rattle.format.specs.declared.Widths.{Widths}
-use Rattle.find_parts.specs.Stands.{endBits}
 
 pub end-long : (w : Widths) (x : End) → length (end w .enc x) ≡ endBits w
 unfolding end

@@ -1,5 +1,6 @@
 -- A record is refused only by document 01's numbers 1 to 12, and at a place within it, which for 1 is 0. The kit's laws give this of
--- each format from its parts; scale and headFields, which the sheet reads too, have it for whatever numbers they are given.
+-- each format from its parts; scale and headFields, which the sheet reads too, have it for whatever numbers they are given, and an end
+-- for its one number.
 use mathlib.Core.Path.{_≡_}
 use Prim.Native.Nat.{ℕ, suc, _-_, _*_, _≤_}
 use native.Mathlib.Omega.{arith}
@@ -14,7 +15,7 @@ use Rattle.bits.specs.Bytes.{bitsOf}
 use Rattle.bits.specs.BytesLaws.{length-bitsOf}
 use Rattle.bits.specs.Codec.{refused}
 use Rattle.bits.proofs.Laws.Refuses.{Refusal, accepted, by, AtMost, Refuses, refused-by, refusal-map, pick-refusal, next-refuses, refusing}
-use Rattle.outcome.specs.Refusals.{badSize}
+use Rattle.outcome.specs.Refusals.{badSize, badLine}
 use Rattle.outcome.specs.Placed.{Placed}
 use Rattle.format.specs.Limits.{leastBytes, mostBytes}
 use Rattle.format.specs.Line.{end, line, skeleton}
@@ -29,9 +30,9 @@ Listed e = T (within 2 12 e)
 
 -- ---- the blocks of a view
 
-end-refuses : (w : Widths) → Refuses Listed (end w .dec)
+pub end-refuses : (P : ℕ → Type 0) (w : Widths) → P badLine → Refuses P (end w .dec)
 unfolding end
-end-refuses w = search refusing depth 12
+end-refuses P w p = search refusing depth 12
 
 line-refuses : (w : Widths) → Refuses Listed (line w .dec)
 unfolding line

@@ -1,4 +1,4 @@
--- How long what is written is: whole bytes, whatever the length field says, and a header of 24.
+-- How long what is written is: an end always as many bits, whole bytes whatever the length field says, and a header of 24.
 use mathlib.Core.Path.{_≡_, refl}
 use Prim.Native.Nat.{ℕ, _+_, _*_, _%_}
 use native.Mathlib.Omega.{arith}
@@ -8,13 +8,25 @@ use Rattle.bits.specs.Lists.{All}
 use Rattle.bits.specs.BitsLaws.{length-bits}
 use Rattle.bits.specs.Bytes.{Byte}
 use Rattle.bits.specs.BytesLaws.{length-bytesOf, bytes-are}
-use Rattle.bits.specs.CodecLaws.{encAlong}
-use Rattle.format.specs.Line.{skeleton}
+use Rattle.bits.specs.CodecLaws.{field, encAlong}
+use Rattle.bits.proofs.Laws.Full.{Full, field-full, then-full, via-full}
+use Rattle.outcome.specs.Refusals.{badLine}
+use Rattle.format.specs.Parts.{endNumbers, makeEnd, numbersOfEnd}
+use Rattle.format.specs.Line.{end, endBits, skeleton}
 use Rattle.format.specs.Index.{indexBlock}
 use Rattle.format.specs.Segments.{segments}
 use Rattle.format.specs.View.{View, view, viewHeader}
 use Rattle.format.specs.Record.{Record, tellSeen, recordOf, header, views, size, write}
 use Rattle.format.specs.declared.Widths.{Widths}
+
+-- every run of so many bits is an end
+pub end-full : (w : Widths) → Full (end w) (endBits w)
+unfolding end
+end-full w =
+    via-full (endNumbers (field badLine 2) (field badLine (w .b)) (field badLine (w .c))) makeEnd numbersOfEnd _ _ (endBits w)
+    (then-full (field badLine 2) _ 2 _ (field-full badLine 2) λ _.
+    then-full (field badLine (w .b)) _ (w .b) _ (field-full badLine (w .b)) λ _.
+    then-full (field badLine (w .c)) _ (w .c) _ (field-full badLine (w .c)) λ _. field-full badLine (w .c))
 
 -- a view: 14 bytes of header and length fields, and its blocks
 pub view-length : (w : Widths) (seen : List ℕ) (v : View)

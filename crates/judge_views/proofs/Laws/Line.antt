@@ -1,6 +1,6 @@
 -- A line, and the lines of a skeleton block, as the judge's loops read them: what each early way out says of the line, and what a
 -- turn of the loop keeps.
-use mathlib.Core.Path.{_≡_, sym, ap, _∙_, subst}
+use mathlib.Core.Path.{_≡_, refl, sym, ap, _∙_, subst}
 use Prim.Native.Nat.{ℕ, _+_, _-_, _*_, _≤_, _<_}
 use native.Mathlib.Omega.{arith}
 use native.Mathlib.Nat.{mul-le-mul-right}
@@ -16,29 +16,25 @@ use Rattle.bits.specs.Lists.{total}
 use Rattle.bits.specs.ChoiceLaws.{split}
 use Rattle.bits.specs.Reads.{found, fault, Reads, keeping, tallied}
 use Rattle.bits.proofs.Laws.Reads.{length-rest, field-past, up-to, go-on, stop, made, all-of, none-of, keeping-got, keeping-refused}
-use Rattle.bits.proofs.Laws.Spans.{Spans, spans-field, spans-then, spans-via, spans-as, spans-times, span-at, span-past}
+use Rattle.bits.proofs.Laws.Refuses.{Refuses, refusing}
+use Rattle.bits.proofs.Laws.Full.{Full, field-full, times-full, full-at, full-past}
 use Rattle.bits.proofs.Laws.Loops.{keeping-same, tally-more, many-turn, many-stop, many-full, many-last}
 use Rattle.outcome.specs.Refusals.{badLine, tooManyLines}
 use Rattle.format.specs.Limits.{mostLines}
-use Rattle.format.specs.Line.{Line, end, line, skeleton}
+use Rattle.format.specs.Line.{Line, end, endBits, line, skeleton}
 use Rattle.format.specs.SheetSize.{lineSize}
 use Rattle.format.specs.declared.Widths.{Widths}
 use Rattle.format.specs.declared.End.{End}
+use Rattle.format.proofs.Laws.Size.{end-full}
+use Rattle.format.proofs.Laws.Refuses.{end-refuses}
 
 -- ---- what is passed by its bits
 
-abbrev pub endBits : Widths → ℕ
-endBits w = 2 + w .b + 2 * w .c
+codes-full : (w : Widths) (n : ℕ) → Full (times (field badLine (w .k)) n) (n * w .k)
+codes-full w n = times-full (field badLine (w .k)) (w .k) n (field-full badLine (w .k))
 
-end-spans : (w : Widths) → Spans (end w .dec) badLine (endBits w)
-unfolding end
-end-spans w =
-    let x = spans-field badLine (w .c) in
-    spans-via _
-    (spans-as (omega arith) (spans-then _ (spans-field badLine 2) _ λ _. spans-then _ (spans-field badLine (w .b)) _ λ _. spans-then _ x _ λ _. x)) _
-
-codes-span : (w : Widths) (n : ℕ) → Spans (timesDec (field badLine (w .k)) n) badLine (n * w .k)
-codes-span w n = spans-times (field badLine (w .k)) (spans-field badLine (w .k)) n
+codes-refuse : (w : Widths) (n : ℕ) → Refuses (λ m. badLine ≡ m) (timesDec (field badLine (w .k)) n)
+codes-refuse w n = search refusing depth 12
 
 -- ---- a line of the block s, at place p
 
@@ -48,26 +44,26 @@ module _ (w : Widths) (s : List ℕ) (p : ℕ) (i : p ≤ 8 * length s) where
   unfolding line
   no-start h =
       split (p + endBits w) (8 * length s)
-      (λ k. let (x, r) = span-at (end-spans w) s p k in
+      (λ k. let (x, r) = full-at (end-full w) s p k in
       none-of _ i (made _ _ (go-on _ _ r (stop _ _ (made _ _ (stop _ _ (field-past badLine s (p + endBits w) 8 k (omega arith))))))))
-      (λ k. let (q, r) = span-past (end-spans w) s p i k in none-of _ i (made _ _ (stop _ _ r)))
+      (λ k. let (q, r) = full-past (end-full w) s p (end-refuses _ w refl) i k in none-of _ i (made _ _ (stop _ _ r)))
 
   -- k codes follow; m of them are left, and the next is at place q
   module _ {k p2 : ℕ} (K : Reads (fieldDec badLine 8) s (p + endBits w) (found k p2)) (room : p + endBits w ≤ 8 * length s) (m q : ℕ)
       (at : q + m * w .k ≡ p2 + k * w .k) (b : q ≤ 8 * length s) where
     start-is : (x : End) × Reads (end w .dec) s p (found x (p + endBits w))
-    start-is = span-at (end-spans w) s p room
+    start-is = full-at (end-full w) s p room
 
     codes-past : 8 * length s < q + m * w .k → Reads (line w .dec) s p (fault badLine p)
     unfolding line
     codes-past h =
-        let (y, r) = span-past (codes-span w k) s p2 (K .within) (rw (sym at) h) in
+        let (y, r) = full-past (codes-full w k) s p2 (codes-refuse w k) (K .within) (rw (sym at) h) in
         none-of _ i (made _ _ (go-on _ _ (start-is .1) (stop _ _ (made _ _ (go-on _ (times (field badLine (w .k))) K r)))))
 
     codes-are : q + m * w .k ≤ 8 * length s
         → (cs : List ℕ) × (length cs ≡ k) × Reads (counted (field badLine 8) (field badLine (w .k)) .dec) s (p + endBits w) (found cs (q + m * w .k))
     codes-are h =
-        let (cs, r) = span-at (codes-span w k) s p2 (rw (sym at) h) in (
+        let (cs, r) = full-at (codes-full w k) s p2 (rw (sym at) h) in (
           cs,
           times-back (field badLine (w .k)) k (drop p2 (bitsOf s)) cs (drop (p2 + k * w .k) (bitsOf s)) (r .is) .0 .0,
           made _ _ (go-on _ (times (field badLine (w .k))) K (up-to (sym at) r)),
@@ -82,7 +78,7 @@ module _ (w : Widths) (s : List ℕ) (p : ℕ) (i : p ≤ 8 * length s) where
     unfolding line
     no-rest h =
         split (q + m * w .k) (8 * length s)
-        (λ l. let (y, r) = span-past (end-spans w) s (q + m * w .k) l (omega arith) in
+        (λ l. let (y, r) = full-past (end-full w) s (q + m * w .k) (end-refuses _ w refl) l (omega arith) in
         none-of _ i (made _ _ (go-on _ _ (start-is .1) (go-on _ _ (codes-are l .2) r))))
         codes-past
 
@@ -90,7 +86,7 @@ module _ (w : Widths) (s : List ℕ) (p : ℕ) (i : p ≤ 8 * length s) where
         → ((l : Line) → lineSize l ≡ 15 + k → Reads (line w .dec) s p (found l (q + (m * w .k + endBits w))) → P) → P
     unfolding line
     line-is h f =
-        let (y, r) = span-at (end-spans w) s (q + m * w .k) (omega arith) in
+        let (y, r) = full-at (end-full w) s (q + m * w .k) (omega arith) in
         let c = codes-are (omega arith) in
         f _ (ap (λ (n : ℕ). 15 + n) (c .1)) (all-of _ (made _ _ (go-on _ _ (start-is .1) (go-on _ _ (c .2) (up-to (omega arith) r)))))
 

@@ -13,10 +13,10 @@ use Rattle.bits.specs.Bytes.{bitsOf}
 use Rattle.bits.specs.Codec.{got, refused, fieldDec}
 use Rattle.bits.specs.Lists.{total}
 use Rattle.bits.specs.Reads.{Reads, found, fault}
-use Rattle.bits.proofs.Laws.Reads.{known, below}
+use Rattle.bits.proofs.Laws.Reads.{known, below, at-place, up-to}
 use Rattle.bits.proofs.Laws.Parts.{part, part-length}
 use Rattle.outcome.specs.Refusals.{badLine}
-use Rattle.format.specs.Line.{Line, line, skeleton}
+use Rattle.format.specs.Line.{Line, endBits, line, skeleton}
 use Rattle.format.specs.View.{viewHeader, occurs}
 use Rattle.format.specs.SheetSize.{lineSize}
 use Rattle.format.specs.declared.ViewHeader.{ViewHeader}
@@ -26,7 +26,7 @@ use Rattle.judge_zeros.specs.Zeros.{cleared}
 use Rattle.judge_blocks.specs.Answers.{reached, indexAtDec, segmentsAtDec}
 use Rattle.judge_views.specs.Views.{viewsDec}
 use Rattle.judge_views.proofs.Laws.Bounds.{index-small, segments-small}
-use Rattle.judge_views.proofs.Laws.Line.{endBits, no-start, no-codes, no-rest, line-is, Lines, lines-start, lines-over, lines-stop, lines-turn, lines-dirt, lines-done}
+use Rattle.judge_views.proofs.Laws.Line.{no-start, no-codes, no-rest, line-is, Lines, lines-start, lines-over, lines-stop, lines-turn, lines-dirt, lines-done}
 use Rattle.judge_heads.proofs.Laws.Seen.{seen-start, seen-more, seen-le}
 use Rattle.judge_views.proofs.Laws.Head.{head-seen, position-le}
 use Rattle.judge_views.proofs.Laws.View.{no-head, skeleton-past, skeleton-bad, index-bad, segments-bad, view-is, Views, views-start, views-stop, views-turn, views-done, exit}
@@ -97,7 +97,10 @@ started : (c : tie.Else4 Inv-loop2 μ-loop2 Inv-loop μ-loop Inv-views μ-views)
 started c = omega (arith, c .if4 .left, c .before .before .before .before .before .before .loop .inv .1)
 
 count-of : (c : tie.After-sure Inv-loop2 μ-loop2 Inv-loop μ-loop Inv-views μ-views) → Reads (fieldDec badLine 8) (blk (c .before .before .before .before .before .before .before .before .before .before)) (c .before .before .before .before .before .before .before .before .loop .p .at + endBits (c .before .before .before .before .before .before .before .before .before .before .before .before .before .before .before .before .before .before .before .before .before .before .args .w)) (found (c .sure .result .value) (c .sure .result .next .at))
-count-of c = c .sure .ensures .0 badLine
+count-of c =
+    let w = c .before .before .before .before .before .before .before .before .before .before .before .before .before .before .before .before .before .before .before .before .before .before .args .w in
+    let e : c .before .before .before .before .before .before .before .before .loop .p .at + (2 + w .b + 2 * w .c) ≡ c .before .before .before .before .before .before .before .before .loop .p .at + endBits w = omega arith in
+    at-place e (c .sure .ensures .0 badLine)
 
 -- the lines are read
 lined : (c : tie.After-enum-told Inv-loop2 μ-loop2 Inv-loop μ-loop Inv-views μ-views) (P : Type 0) → ((ls : List Line) (u : Bits) → length ls ≡ c .before .before .before .before .before .loop .n → total lineSize ls ≡ c .before .before .before .before .before .loop .lines → skeleton (c .before .before .before .before .before .before .before .before .before .before .before .before .before .before .before .before .before .before .before .args .w) .dec (bitsOf (part (c .before .before .before .before .before .before .before .before .before .before .before .before .before .before .before .before .before .before .before .args .bytes .now) ((c .before .before .before .before .before .before .before .before .before .before .before .before .before .before .before .views .a) + 10) (c .before .before .before .before .before .before .before .before .before .before .h .given .0 .1 .0))) ≡ got ls u → P) → P
@@ -329,8 +332,10 @@ loop-again : tie.Need-loop-again Inv-loop2 μ-loop2 Inv-loop μ-loop Inv-views �
 loop-again c =
     let m = c .before .before .before .before .before .loop2 in
     let o = c .before .before .before .before .before .before .before .before .before .before .before .before .before .before .before .loop in
+    let w = c .before .before .before .before .before .before .before .before .before .before .before .before .before .before .before .before .before .before .before .before .before .before .before .before .before .before .before .before .before .args .w in
+    let z : m .p .at + (m .left * w .k + endBits w) ≡ m .p .at + (m .left * w .k + (2 + w .b + 2 * w .c)) = omega arith in
     line-is (c .before .before .before .before .before .before .before .before .before .before .before .before .before .before .before .before .before .before .before .before .before .before .before .before .before .before .before .before .before .args .w) (blk (c .before .before .before .before .before .before .before .before .before .before .before .before .before .before .before .before .before)) (o .p .at) (o .inv .1) (count-of (c .before .before .before .before .before .before .before)) (started (c .before .before .before .before .before .before .before .before .before)) (m .left) (m .p .at) (m .inv .3) (m .inv .1) (omega (arith, c .before .if6 .left))
-    λ l e r. (omega (arith, o .inv .0, c .before .before .before .before .before .before .before .before .before .before .before .if3 .left), r .within, m .inv .2 ∙ o .inv .2, omega (arith, o .inv .3, below badLine 8 (count-of (c .before .before .before .before .before .before .before))), lines-turn (c .before .before .before .before .before .before .before .before .before .before .before .before .before .before .before .before .before .before .before .before .before .before .before .before .before .before .before .before .before .args .w) (blk (c .before .before .before .before .before .before .before .before .before .before .before .before .before .before .before .before .before)) (o .n) (o .lines) (o .p .at) (o .inv .4) (omega (arith, o .inv .0, c .before .before .before .before .before .before .before .before .before .before .before .if3 .left)) (omega (arith, c .before .before .before .before .before .before .before .before .before .before .before .before .before .if2 .taken)) e r)
+    λ l e h. let r = up-to z h in (omega (arith, o .inv .0, c .before .before .before .before .before .before .before .before .before .before .before .if3 .left), r .within, m .inv .2 ∙ o .inv .2, omega (arith, o .inv .3, below badLine 8 (count-of (c .before .before .before .before .before .before .before))), lines-turn (c .before .before .before .before .before .before .before .before .before .before .before .before .before .before .before .before .before .before .before .before .before .before .before .before .before .before .before .before .before .args .w) (blk (c .before .before .before .before .before .before .before .before .before .before .before .before .before .before .before .before .before)) (o .n) (o .lines) (o .p .at) (o .inv .4) (omega (arith, o .inv .0, c .before .before .before .before .before .before .before .before .before .before .before .if3 .left)) (omega (arith, c .before .before .before .before .before .before .before .before .before .before .before .before .before .if2 .taken)) e r)
 
 zeros-at-requires : tie.Need-zeros-at-requires Inv-loop2 μ-loop2 Inv-loop μ-loop Inv-views μ-views
 zeros-at-requires c κs =

@@ -9,34 +9,24 @@ use Rattle.bits.specs.BitsLaws.{length-bits}
 use Rattle.bits.specs.Codec.{judgedDec}
 use Rattle.bits.specs.CodecLaws.{field, then, along, counted, counted-matches, times, only, ranged}
 use Rattle.bits.proofs.Laws.Refuses.{refusing}
+use Rattle.bits.proofs.Laws.Full.{field-full, times-full}
 use Rattle.outcome.specs.Refusals.{badHeader, badView, badLine, badIndex, badSegment}
-use Rattle.format.specs.Parts.{FitsLine, endNumbers, makeEnd, numbersOfEnd, makeLine, partsOfLine, up, headFault}
+use Rattle.format.specs.Parts.{FitsLine, makeLine, partsOfLine, up, headFault}
 use Rattle.format.specs.PartsLaws.{line-matches}
-use Rattle.format.specs.Line.{end, line, skeleton}
+use Rattle.format.specs.Line.{end, endBits, line, skeleton}
 use Rattle.format.specs.Index.{neighbours, index, indexBlock}
 use Rattle.format.specs.Segments.{measured, segment, segments}
 use Rattle.format.specs.View.{viewHeader, view}
 use Rattle.format.specs.Record.{scale, header, tellSeen, views, recordOf}
 use Rattle.format.specs.declared.Widths.{Widths}
+use Rattle.format.proofs.Laws.Size.{end-full}
 use Rattle.places.specs.Reach.{reach}
 use Rattle.places.proofs.Laws.Settles.{Settles, then-settles, along-settles, via-settles}
 use Rattle.places.proofs.Laws.Blocks.{settling}
-use Rattle.places.proofs.Laws.Full.{Full, field-full, then-full, times-full, via-full, whole-settles, judged-settles}
-use Rattle.places.proofs.Laws.Full.{Shaped, full-shaped, head-shaped, tail-shaped, via-shaped}
+use Rattle.places.proofs.Laws.Shaped.{Shaped, full-shaped, head-shaped, tail-shaped, via-shaped, whole-settles, judged-settles}
 use Rattle.places.proofs.Laws.Head.{four, four-full, head-seen}
 
 -- ---- lines
-
-abbrev endBits : Widths → ℕ
-endBits w = 2 + (w .b + (w .c + w .c))
-
-end-full : (w : Widths) → Full (end w) (endBits w)
-unfolding end
-end-full w =
-    via-full (endNumbers (field badLine 2) (field badLine (w .b)) (field badLine (w .c))) makeEnd numbersOfEnd _ _ (endBits w)
-    (then-full (field badLine 2) _ 2 _ (field-full badLine 2) λ _.
-    then-full (field badLine (w .b)) _ (w .b) _ (field-full badLine (w .b)) λ _.
-    then-full (field badLine (w .c)) _ (w .c) _ (field-full badLine (w .c)) λ _. field-full badLine (w .c))
 
 -- a count of codes, then that many
 codes-shaped : (k : ℕ) → Shaped (counted (field badLine 8) (field badLine k)) 8

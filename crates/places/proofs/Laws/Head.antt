@@ -15,11 +15,12 @@ use Rattle.bits.specs.Bits.{Bits, numberOfBits, bitsOfNumber}
 use Rattle.bits.specs.BitsLaws.{length-bits, number-bits}
 use Rattle.bits.specs.Codec.{Codec}
 use Rattle.bits.specs.CodecLaws.{field, then}
+use Rattle.bits.proofs.Laws.Full.{Full, field-full, then-full}
 use Rattle.outcome.specs.Refusals.{badView}
 use Rattle.format.specs.Parts.{impressionOk, headFault}
 use Rattle.places.specs.Reach.{reach}
 use Rattle.places.proofs.Laws.Agree.{append-front, append-rest}
-use Rattle.places.proofs.Laws.Full.{Full, field-full, then-full, Seen}
+use Rattle.places.proofs.Laws.Shaped.{Seen}
 
 abbrev pub four : ℕ → Codec Bool (ℕ × (ℕ × (ℕ × ℕ)))
 four e = then (field e 8) λ _. then (field e 8) λ _. then (field e 8) λ _. field e 8

@@ -18,7 +18,7 @@ use Rattle.bits.proofs.Laws.Reads.{go-on, made, at-place, below, up-to}
 use Rattle.outcome.specs.Refusals.{badLine}
 use Rattle.put_bytes.specs.Laid.{Laid}
 use Rattle.put_bytes.proofs.Laws.{laid-none, laid-one, laid-same}
-use Rattle.format.specs.Line.{Line, end, line}
+use Rattle.format.specs.Line.{Line, end, endBits, line}
 use Rattle.format.specs.SheetSize.{lineSize}
 use Rattle.format.specs.declared.End.{End}
 use Rattle.format.specs.declared.Widths.{Widths}
@@ -27,7 +27,6 @@ use Rattle.put_bytes.specs.HighFirst.{start}
 use Rattle.sheet_bytes.specs.Bytes.{endBytes, lineBytes}
 use Rattle.read_blocks.specs.LineParts.{SmallEnd, PartsThere, PartsOut}
 use Rattle.format.specs.Record.{Narrow}
-use Rattle.find_parts.specs.Stands.{endBits}
 use Rattle.find_parts.proofs.Laws.Line.{line-at}
 use Rattle.read_blocks.specs.LineOuts.{LineOut}
 use Rattle.read_blocks.specs.declared.line.LineParts.{LineParts}

@@ -7,7 +7,7 @@ use Rattle.bits.specs.Codec.{fieldDec}
 use Rattle.bits.specs.Reads.{found, Reads}
 use Rattle.bits.proofs.Laws.Reads.{at-place, below}
 use Rattle.outcome.specs.Refusals.{badLine}
-use Rattle.find_parts.specs.Stands.{endBits}
+use Rattle.format.specs.Line.{endBits}
 use Rattle.trailing.proofs.Laws.{direction-there, count-there, codes-there, draws}
 use Rattle.trailing.proofs.walk_at.Statement.{statement}
 use Rattle.trailing.proofs.walk_at.Tie as tie

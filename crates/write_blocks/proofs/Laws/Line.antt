@@ -13,10 +13,9 @@ use Rattle.bits.proofs.Laws.Parts.{part}
 use Rattle.outcome.specs.Refusals.{badLine}
 use Rattle.put_bits.specs.Put.{Put, PutMore}
 use Rattle.put_bits.proofs.Laws.{put-none, put-laid}
-use Rattle.format.specs.Line.{Line, FitsLine, end, line, line-long}
+use Rattle.format.specs.Line.{Line, FitsLine, end, endBits, line, line-long}
 use Rattle.format.specs.declared.Widths.{Widths}
 use Rattle.sheet.specs.Code.{signExtended}
-use Rattle.find_parts.specs.Stands.{endBits}
 use Rattle.find_parts.proofs.Laws.Line.{end-long, codes-long, line-bits}
 use Rattle.find_parts.proofs.Laws.Lists.{all-long}
 use Rattle.sheet_bytes.specs.Bytes.{endBytes}

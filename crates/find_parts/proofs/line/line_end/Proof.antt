@@ -6,7 +6,7 @@ use native.Mathlib.Omega.{arith}
 use Rattle.bits.proofs.Laws.Reads.{at-place}
 use Rattle.bits.proofs.Laws.Apart.{same}
 use Rattle.outcome.specs.Refusals.{badLine}
-use Rattle.find_parts.specs.Stands.{endBits}
+use Rattle.format.specs.Line.{endBits}
 use Rattle.find_parts.proofs.Laws.Line.{line-at, line-ends}
 use borrow.Author.Needs.{needs}
 use Rattle.find_parts.proofs.line.line_end.Statement.{statement}

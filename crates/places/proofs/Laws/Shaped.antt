@@ -1,88 +1,22 @@
--- Codecs of which every run of so many bits writes a value. With them a part is settled that is refused as a whole: whether it is
--- there goes by a count at its start, and by how many bits follow.
-use mathlib.Core.Path.{_≡_, refl, sym, ap, ap₂, _∙_}
-use Prim.Native.Nat.{ℕ, zero, suc, _+_, _-_, _*_, _≤_}
+-- A part that is refused as a whole is settled where its first bits say whether it is there: by a count at its start, and by how many
+-- bits follow.
+use mathlib.Core.Path.{_≡_, refl, sym, ap, _∙_}
+use Prim.Native.Nat.{ℕ, _+_, _-_, _≤_}
 use native.Mathlib.Omega.{arith}
-use native.Mathlib.Nat.{le-refl, zero-mul, suc-mul}
+use native.Mathlib.Nat.{le-refl}
 use mathlib.Core.Bool.{Bool}
 use mathlib.Core.Option.{Option, none, some}
-use mathlib.Core.List.{List, [], _∷_, _++_, append-assoc}
-use lib.ListN.{length, take, drop, length-append, length-drop, take-append-drop}
+use mathlib.Core.List.{_++_, append-assoc}
+use lib.ListN.{length, take, drop, length-append, length-drop}
 use lib.Seq.{length-take-le, take-at, take-take}
-use Rattle.bits.specs.Lists.{All}
-use Rattle.bits.specs.Bits.{Bits, numberOfBits}
-use Rattle.bits.specs.BitsLaws.{length-bits, number-lt, bits-number}
+use Rattle.bits.specs.Bits.{Bits}
 use Rattle.bits.specs.Codec.{Read, got, refused, next, Codec, sound, judgedDec, atStart, wholeDec}
-use Rattle.bits.specs.CodecLaws.{not-got, Matches, encAll, field, then, times, via}
+use Rattle.bits.specs.CodecLaws.{not-got, Matches, then, via}
 use Rattle.bits.proofs.Laws.Refuses.{Refusal, accepted, by, Refuses, refused-by}
+use Rattle.bits.proofs.Laws.Full.{Full, writes-first, writes-got}
 use Rattle.places.specs.Reach.{reach}
 use Rattle.places.proofs.Laws.Agree.{shares, take-both}
 use Rattle.places.proofs.Laws.Settles.{Settled, Settles, same-alike, next-at}
-
--- ---- every run of k bits is a value
-
-pub record Writes {A : Type 0} (c : Codec Bool A) (p : Bits) : Type 0 where
-  pub value : A
-  pub fits : c .Fits value
-  pub is : c .enc value ≡ p
-
-pub record Full {A : Type 0} (c : Codec Bool A) (k : ℕ) : Type 0 where
-  pub size : (a : A) → c .Fits a → length (c .enc a) ≡ k
-  pub every : (p : Bits) → length p ≡ k → Writes c p
-
-pub field-full : (e w : ℕ) → Full (field e w) w
-field-full e w =
-    record {
-      size = λ n h. length-bits w n;
-      every = λ p l. record { value = numberOfBits p; fits = rw l at (number-lt p); is = rw l at (bits-number p) };
-    }
-
-pub then-full : {A B : Type 0} (c : Codec Bool A) (d : A → Codec Bool B) (k j : ℕ) → Full c k → ((a : A) → Full (d a) j) → Full (then c d) (k + j)
-then-full c d k j f g =
-    record {
-      size = λ a h. length-append (c .enc (a .0)) (d (a .0) .enc (a .1)) ∙ ap₂ (λ (x y : ℕ). x + y) (f .size (a .0) (h .0)) (g (a .0) .size (a .1) (h .1));
-      every = λ p l.
-          let u : length (take k p) ≡ k = length-take-le k p (omega arith) in
-          let v : length (drop k p) ≡ j = omega (arith, length-drop k p) in
-          let x = f .every (take k p) u in
-          let y = g (x .value) .every (drop k p) v in
-          record { value = (x .value, y .value); fits = (x .fits, y .fits); is = ap₂ (λ (m n : Bits). m ++ n) (x .is) (y .is) ∙ take-append-drop k p };
-    }
-
-pub times-full : {A : Type 0} (c : Codec Bool A) (k n : ℕ) → Full c k → Full (times c n) (n * k)
-times-full {A} c k n f = record { size = λ xs h. rw (← h .0) (long xs (h .1)); every = go n }
-  where
-    long : (xs : List A) → All (c .Fits) xs → length (encAll c xs) ≡ length xs * k
-    long [] h = sym (zero-mul k)
-    long (x ∷ xs) h =
-        let z : suc (length xs) * k ≡ length xs * k + k = suc-mul (length xs) k in
-        let y : length (c .enc x ++ encAll c xs) ≡ length (c .enc x) + length (encAll c xs) = length-append (c .enc x) (encAll c xs) in
-        omega (arith, f .size x (h .0), long xs (h .1))
-
-    go : (m : ℕ) (p : Bits) → length p ≡ m * k → Writes (times c m) p
-    go zero [] l = record { value = []; fits = (refl, tt); is = refl }
-    go zero (b ∷ p) l = let z : 0 * k ≡ 0 = zero-mul k in absurd (omega arith)
-    go (suc m) p l =
-        let z : suc m * k ≡ m * k + k = suc-mul m k in
-        let u : length (take k p) ≡ k = length-take-le k p (omega arith) in
-        let v : length (drop k p) ≡ m * k = omega (arith, length-drop k p) in
-        let x = f .every (take k p) u in
-        let y = go m (drop k p) v in
-        record {
-          value = x .value ∷ y .value;
-          fits = (ap suc (y .fits .0), (x .fits, y .fits .1));
-          is = ap₂ (λ (a b : Bits). a ++ b) (x .is) (y .is) ∙ take-append-drop k p;
-        }
-
-module _ {A B : Type 0} (c : Codec Bool A) (f : A → B) (g : B → A) (F : B → Type 0) (m : Matches (c .Fits) f g F) (k : ℕ) where
-  pub via-full : Full c k → Full (via c f g F m) k
-  via-full h =
-      record {
-        size = λ b z. h .size (g b) (m .fits b z);
-        every = λ p l.
-            let x = h .every p l in
-            record { value = f (x .value); fits = m .allowed (x .value) (x .fits); is = ap (c .enc) (m .again (x .value) (x .fits)) ∙ x .is };
-      }
 
 -- ---- the first bits say whether a value is there
 
@@ -108,7 +42,7 @@ full-shaped c k f =
             value = x .value;
             rest = drop k s;
             fits = x .fits;
-            is = sym (take-append-drop k s) ∙ ap (λ (p : Bits). p ++ drop k s) (sym (x .is));
+            is = writes-first k s x;
             long = omega (arith, length-drop k s);
           };
     }
@@ -145,13 +79,11 @@ tail-shaped c d j k h g =
           let z : length (x .rest) ≡ k + length r =
           sym (x .long) ∙ length-append (d (a .0) .enc (a .1)) r ∙ ap (λ (n : ℕ). n + length r) (g (a .0) .size (a .1) (fits .1)) in
           let u = g (x .value) .every (take k (x .rest)) (length-take-le k (x .rest) (omega arith)) in
-          let v : x .rest ≡ d (x .value) .enc (u .value) ++ drop k (x .rest) =
-          sym (take-append-drop k (x .rest)) ∙ ap (λ (p : Bits). p ++ drop k (x .rest)) (sym (u .is)) in
           record {
             value = (x .value, u .value);
             rest = drop k (x .rest);
             fits = (x .fits, u .fits);
-            is = x .is ∙ ap (λ (p : Bits). c .enc (x .value) ++ p) v ∙ sym (append-assoc (c .enc (x .value)) (d (x .value) .enc (u .value)) (drop k (x .rest)));
+            is = x .is ∙ ap (λ (p : Bits). c .enc (x .value) ++ p) (writes-first k (x .rest) u) ∙ sym (append-assoc (c .enc (x .value)) (d (x .value) .enc (u .value)) (drop k (x .rest)));
             long = omega (arith, length-drop k (x .rest));
           };
     }
@@ -226,10 +158,7 @@ module _ {A : Type 0} (c : Codec Bool A) (e : ℕ) (t : A → Option ℕ) where
             let both : take j (c .enc a) ≡ take j (c .enc (x .value)) =
             ap (take j) front ∙ take-both j k s ∙ ap (take k) agree ∙ take-both k j z ∙ ap (take j) (sym (x .is)) in
             let fault : t (x .value) ≡ some d = seen .also a (x .value) d fits (x .fits) y both in
-            let there : c .dec z ≡ got (x .value) (drop k z) =
-            ap (c .dec) (sym (take-append-drop k z) ∙ ap (λ (q : Bits). q ++ drop k z) (sym (x .is)))
-            ∙ c .there (x .value) (drop k z) (x .fits) in
-            same-alike (rw (there, fault) (ap (λ (m : ℕ). refused e (m - d)) (sym len)));
+            same-alike (rw (writes-got k z x, fault) (ap (λ (m : ℕ). refused e (m - d)) (sym len)));
       })
 
   pub judged-settles : (k : ℕ) → Full c k → Seen c e k t → Settles (c .dec) → Settles (judgedDec c e t)
