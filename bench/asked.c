@@ -1,6 +1,6 @@
 /*
- * What orders ask of a benchmark record. It is looked up in the view that plain_judge finds and in
- * that view's index, so that every order is accepted.
+ * What orders ask of a benchmark record. It is looked up in the views that plain_judge finds and in
+ * the index of one of them, so that every order is accepted.
  */
 #include "asked.h"
 
@@ -25,15 +25,21 @@ static void choose_pairs(sample *of, plain_block index)
 
 plain_block choose_view(sample *of)
 {
-    plain_record judged;
-    of->ordered = of->view + 1;
-    do {
-        of->ordered--;
-        plain_judge(of->record, of->length, of->ordered, &judged);
-    } while (!plain_only_quality(judged.view.extended));
-    of->ordered_lines = judged.view.lines;
-    choose_pairs(of, judged.view.index);
-    return judged.view.index;
+    const uint8_t *header = of->record + HEADER;
+    plain_block index = {NULL, 0};
+    while (header < of->record + of->length) {
+        const plain_name name = plain_name_at(header);
+        plain_record judged;
+        plain_judge(of->record, of->length, name, &judged);
+        if (plain_only_quality(judged.view.extended)) {
+            of->ordered = name;
+            of->ordered_lines = judged.view.lines;
+            index = judged.view.index;
+        }
+        header = plain_block_end(judged.view.extended);
+    }
+    choose_pairs(of, index);
+    return index;
 }
 
 /* Lines 0, 3, 6 and so on. */

@@ -26,23 +26,26 @@
 #define BOTH_IN(row, name, ...) SIDES(row, name, , __VA_ARGS__)
 #define BOTH(name, ...) BOTH_IN(name, name, __VA_ARGS__)
 
+/* A view's name as two arguments. */
+#define NAME(view) (view).finger, (view).number
+
 BOTH(read, on->record, on->length, out, room)
 BOTH(write, on->sheet, on->sheet_length, out, room)
-BOTH(trail, on->record, on->length, on->view, on->lines - 1, out, room)
-BOTH(segment, on->record, on->length, on->with_segments, on->segments - 1)
-BOTH(quality, on->record, on->length, on->with_segments, on->segments - 1, out, room)
-BOTH(set_quality, on->record, on->length, on->with_segments, on->segments - 1, on->values,
+BOTH(trail, on->record, on->length, NAME(on->view), on->lines - 1, out, room)
+BOTH(segment, on->record, on->length, NAME(on->with_segments), on->segments - 1)
+BOTH(quality, on->record, on->length, NAME(on->with_segments), on->segments - 1, out, room)
+BOTH(set_quality, on->record, on->length, NAME(on->with_segments), on->segments - 1, on->values,
      on->values_length, out, room)
-BOTH(remove, on->record, on->length, on->ordered, on->ordered_lines, on->removed,
+BOTH(remove, on->record, on->length, NAME(on->ordered), on->ordered_lines, on->removed,
      on->removed_length, out, room)
-BOTH(join, on->record, on->length, on->ordered, on->ordered_lines, on->strangers[0],
+BOTH(join, on->record, on->length, NAME(on->ordered), on->ordered_lines, on->strangers[0],
      on->strangers[1], out, room)
-BOTH(part, on->record, on->length, on->ordered, on->ordered_lines, on->neighbours[0],
+BOTH(part, on->record, on->length, NAME(on->ordered), on->ordered_lines, on->neighbours[0],
      on->neighbours[1], out, room)
 
 /* The first so many orders of the sample's list. */
 #define PAIRS(orders)                                                                             \
-    BOTH_IN(pairs_##orders, pairs, on->record, on->length, on->ordered, on->ordered_lines,        \
+    BOTH_IN(pairs_##orders, pairs, on->record, on->length, NAME(on->ordered), on->ordered_lines,  \
             on->pairs, PAIR_ORDER * (orders), out, room)
 
 PAIRS(1)

@@ -112,12 +112,11 @@ void put_quality(maker *m)
     end_block(m, at);
 }
 
-void put_view(maker *m, uint32_t number, uint32_t position, uint32_t lines, uint32_t codes,
-              uint32_t more)
+void put_view(maker *m, plain_name name, uint32_t lines, uint32_t codes, uint32_t more)
 {
     size_t skeleton;
-    put(m, 8, number);
-    put(m, 8, position);
+    put(m, 8, name.number);
+    put(m, 8, name.finger);
     put(m, 8, 0);
     put(m, 8, 80);
     put(m, SIXTEEN, WIDTH);

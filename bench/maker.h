@@ -24,8 +24,7 @@ void put_header(maker *m, uint32_t views, uint32_t points_per_cm, uint32_t step)
 void put_line(maker *m, uint32_t codes);
 
 /* A view up to its extended block; its lines have `codes` codes each and up to `more` beyond. */
-void put_view(maker *m, uint32_t number, uint32_t position, uint32_t lines, uint32_t codes,
-              uint32_t more);
+void put_view(maker *m, plain_name name, uint32_t lines, uint32_t codes, uint32_t more);
 
 /* The extended block that ends a view: so many segments of any type, or one of local quality. */
 void put_segments(maker *m, uint32_t segments);

@@ -2,8 +2,8 @@
  * The calls of fsk.h once more, written by hand in C and without proofs: what the library is
  * measured against. Signatures and answers, the place of a refusal too, are the host's, with the
  * prefix plain_. Behind the calls stands what the plain files share: numbers, limits and tags, a
- * block behind its length, the judge, refusals 13, 19 and 20, and what a new record takes over from
- * an old one.
+ * view's name, a block behind its length, the judge, refusals 13, 19 and 20, and what a new record
+ * takes over from an old one.
  */
 #ifndef PLAIN_H
 #define PLAIN_H
@@ -15,24 +15,28 @@ fsk_answer plain_read(const uint8_t *record, size_t record_length, uint8_t *shee
                       size_t sheet_length);
 fsk_answer plain_write(const uint8_t *sheet, size_t sheet_length, uint8_t *record,
                        size_t record_length);
-fsk_answer plain_trail(const uint8_t *record, size_t record_length, uint32_t view, uint32_t line,
-                       uint8_t *trail, size_t trail_length);
-fsk_answer plain_segment(const uint8_t *record, size_t record_length, uint32_t view,
-                         uint32_t segment);
-fsk_answer plain_quality(const uint8_t *record, size_t record_length, uint32_t view,
-                         uint32_t segment, uint8_t *values, size_t values_length);
-fsk_answer plain_set_quality(const uint8_t *record, size_t record_length, uint32_t view,
-                             uint32_t segment, const uint8_t *values, size_t values_length,
-                             uint8_t *out, size_t out_length);
-fsk_answer plain_remove(const uint8_t *record, size_t record_length, uint32_t view, uint32_t count,
-                        const uint8_t *lines, size_t lines_length, uint8_t *out,
-                        size_t out_length);
-fsk_answer plain_join(const uint8_t *record, size_t record_length, uint32_t view, uint32_t count,
-                      uint32_t first, uint32_t second, uint8_t *out, size_t out_length);
-fsk_answer plain_part(const uint8_t *record, size_t record_length, uint32_t view, uint32_t count,
-                      uint32_t first, uint32_t second, uint8_t *out, size_t out_length);
-fsk_answer plain_pairs(const uint8_t *record, size_t record_length, uint32_t view, uint32_t count,
-                       const uint8_t *pairs, size_t pairs_length, uint8_t *out, size_t out_length);
+fsk_answer plain_trail(const uint8_t *record, size_t record_length, uint32_t finger,
+                       uint32_t number, uint32_t line, uint8_t *trail, size_t trail_length);
+fsk_answer plain_segment(const uint8_t *record, size_t record_length, uint32_t finger,
+                         uint32_t number, uint32_t segment);
+fsk_answer plain_quality(const uint8_t *record, size_t record_length, uint32_t finger,
+                         uint32_t number, uint32_t segment, uint8_t *values,
+                         size_t values_length);
+fsk_answer plain_set_quality(const uint8_t *record, size_t record_length, uint32_t finger,
+                             uint32_t number, uint32_t segment, const uint8_t *values,
+                             size_t values_length, uint8_t *out, size_t out_length);
+fsk_answer plain_remove(const uint8_t *record, size_t record_length, uint32_t finger,
+                        uint32_t number, uint32_t count, const uint8_t *lines,
+                        size_t lines_length, uint8_t *out, size_t out_length);
+fsk_answer plain_join(const uint8_t *record, size_t record_length, uint32_t finger,
+                      uint32_t number, uint32_t count, uint32_t first, uint32_t second,
+                      uint8_t *out, size_t out_length);
+fsk_answer plain_part(const uint8_t *record, size_t record_length, uint32_t finger,
+                      uint32_t number, uint32_t count, uint32_t first, uint32_t second,
+                      uint8_t *out, size_t out_length);
+fsk_answer plain_pairs(const uint8_t *record, size_t record_length, uint32_t finger,
+                       uint32_t number, uint32_t count, const uint8_t *pairs,
+                       size_t pairs_length, uint8_t *out, size_t out_length);
 fsk_held plain_holds(const uint8_t *old, size_t old_length, const uint8_t *second,
                      size_t second_length, uint32_t number, size_t length);
 
@@ -104,6 +108,18 @@ static inline fsk_answer plain_refused(uint32_t number)
     return (fsk_answer){number, 0, 0};
 }
 
+/* A view's name: its finger position and its number among the views of that finger. A record has
+ * each name once; a caller may ask for any two numbers. */
+typedef struct {
+    uint32_t finger, number;
+} plain_name;
+
+/* The name of the view whose header starts here. */
+static inline plain_name plain_name_at(const uint8_t *header)
+{
+    return (plain_name){.finger = header[1], .number = header[0]};
+}
+
 /* Some bytes: a block of a view (skeleton, index or extended), a payload, a value. */
 typedef struct {
     const uint8_t *bytes;
@@ -147,26 +163,29 @@ typedef struct {
     uint32_t lines;
 } plain_view;
 
-/* A judged record: its widths, how long its sheet is, and the view that was asked for. */
+/* A judged record: its widths, how long its sheet is, whether it has the view that was asked for,
+ * and that view. */
 typedef struct {
     const uint8_t *bytes, *end;
     uint32_t views;
     unsigned c, b, k;
     unsigned end_bits; /* of a line's start or end: type, direction, x, y */
     size_t sheet_length;
+    int has_view;
     plain_view view;
 } plain_record;
 
 /* Judges 1 to 12 and gives the refusal, its place too; its number is 0 if the record is accepted.
- * `record` then holds what is said above; its view only if `wanted` is below the count of views. */
-fsk_answer plain_judge(const uint8_t *bytes, size_t length, uint32_t wanted, plain_record *record);
+ * `record` then holds what is said above; its view only if it has the one with the wanted name. */
+fsk_answer plain_judge(const uint8_t *bytes, size_t length, plain_name wanted,
+                       plain_record *record);
 
 /* The same, and 13 where the wanted view is not there. */
-static inline fsk_answer plain_judge_view(const uint8_t *bytes, size_t length, uint32_t wanted,
+static inline fsk_answer plain_judge_view(const uint8_t *bytes, size_t length, plain_name wanted,
                                           plain_record *record)
 {
     const fsk_answer refusal = plain_judge(bytes, length, wanted, record);
-    if (refusal.number == 0 && wanted >= record->views)
+    if (refusal.number == 0 && !record->has_view)
         return plain_refused(NO_VIEW);
     return refusal;
 }

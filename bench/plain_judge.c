@@ -216,7 +216,8 @@ static fsk_answer judge_view(plain_record *record, const uint8_t **at, uint8_t *
     return judge_segments(record, view);
 }
 
-fsk_answer plain_judge(const uint8_t *bytes, size_t length, uint32_t wanted, plain_record *record)
+fsk_answer plain_judge(const uint8_t *bytes, size_t length, plain_name wanted,
+                       plain_record *record)
 {
     uint8_t seen[POSITIONS] = {0};
     const uint8_t *at;
@@ -231,13 +232,19 @@ fsk_answer plain_judge(const uint8_t *bytes, size_t length, uint32_t wanted, pla
     record->k = bytes[18];
     record->end_bits = 2 + record->b + 2 * record->c;
     record->sheet_length = SHEET_RECORD;
+    record->has_view = 0;
     at = bytes + HEADER;
     for (uint32_t place = 0; place < record->views; place++) {
+        const uint8_t *header = at;
+        plain_name name;
         plain_view view;
         if ((refusal = judge_view(record, &at, seen, &view)).number != 0)
             return refusal;
-        if (place == wanted)
+        name = plain_name_at(header);
+        if (name.finger == wanted.finger && name.number == wanted.number) {
+            record->has_view = 1;
             record->view = view;
+        }
     }
     return at == record->end ? plain_accepted(0) : refused_at(record, BYTES_OVER, at, 0);
 }

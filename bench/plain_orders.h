@@ -8,7 +8,7 @@
 #include "plain.h"
 
 /* 1 to 12, 13 and 14. */
-static inline fsk_answer plain_judge_order(const uint8_t *bytes, size_t length, uint32_t view,
+static inline fsk_answer plain_judge_order(const uint8_t *bytes, size_t length, plain_name view,
                                            uint32_t count, plain_record *record)
 {
     const fsk_answer refusal = plain_judge_view(bytes, length, view, record);
@@ -18,8 +18,9 @@ static inline fsk_answer plain_judge_order(const uint8_t *bytes, size_t length, 
 }
 
 /* The same, and 17 where the view has no index. */
-static inline fsk_answer plain_judge_pair_order(const uint8_t *bytes, size_t length, uint32_t view,
-                                                uint32_t count, plain_record *record)
+static inline fsk_answer plain_judge_pair_order(const uint8_t *bytes, size_t length,
+                                                plain_name view, uint32_t count,
+                                                plain_record *record)
 {
     const fsk_answer refusal = plain_judge_order(bytes, length, view, count, record);
     if (refusal.number == 0 && record->view.index.length == 0)

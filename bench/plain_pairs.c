@@ -103,7 +103,7 @@ static uint8_t *put_changed_index(uint8_t *out, plain_block index, const change 
 }
 
 static fsk_answer change_pair(plain_act act, const uint8_t *record, size_t record_length,
-                              uint32_t view, uint32_t count, uint32_t first, uint32_t second,
+                              plain_name view, uint32_t count, uint32_t first, uint32_t second,
                               uint8_t *out, size_t out_length)
 {
     const uint32_t higher = first > second ? first : second;
@@ -131,14 +131,18 @@ static fsk_answer change_pair(plain_act act, const uint8_t *record, size_t recor
     return plain_accepted(length);
 }
 
-fsk_answer plain_join(const uint8_t *record, size_t record_length, uint32_t view, uint32_t count,
-                      uint32_t first, uint32_t second, uint8_t *out, size_t out_length)
+fsk_answer plain_join(const uint8_t *record, size_t record_length, uint32_t finger,
+                      uint32_t number, uint32_t count, uint32_t first, uint32_t second,
+                      uint8_t *out, size_t out_length)
 {
+    const plain_name view = {finger, number};
     return change_pair(JOIN, record, record_length, view, count, first, second, out, out_length);
 }
 
-fsk_answer plain_part(const uint8_t *record, size_t record_length, uint32_t view, uint32_t count,
-                      uint32_t first, uint32_t second, uint8_t *out, size_t out_length)
+fsk_answer plain_part(const uint8_t *record, size_t record_length, uint32_t finger,
+                      uint32_t number, uint32_t count, uint32_t first, uint32_t second,
+                      uint8_t *out, size_t out_length)
 {
+    const plain_name view = {finger, number};
     return change_pair(PART, record, record_length, view, count, first, second, out, out_length);
 }

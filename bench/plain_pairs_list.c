@@ -221,9 +221,11 @@ static uint8_t *put_lists(uint8_t *out, const index_lists *lists, unsigned new_w
     return plain_put_rest(to);
 }
 
-fsk_answer plain_pairs(const uint8_t *record, size_t record_length, uint32_t view, uint32_t count,
-                       const uint8_t *pairs, size_t pairs_length, uint8_t *out, size_t out_length)
+fsk_answer plain_pairs(const uint8_t *record, size_t record_length, uint32_t finger,
+                       uint32_t number, uint32_t count, const uint8_t *pairs,
+                       size_t pairs_length, uint8_t *out, size_t out_length)
 {
+    const plain_name view = {finger, number};
     plain_record judged;
     const plain_block *old = &judged.view.index;
     index_lists lists;

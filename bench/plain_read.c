@@ -98,8 +98,9 @@ static void put_sheet(uint8_t *out, const plain_record *record)
 fsk_answer plain_read(const uint8_t *record, size_t record_length, uint8_t *sheet,
                       size_t sheet_length)
 {
+    const plain_name any = {0, 0}; /* no view is asked for */
     plain_record judged;
-    const fsk_answer refusal = plain_judge(record, record_length, 0, &judged);
+    const fsk_answer refusal = plain_judge(record, record_length, any, &judged);
     if (refusal.number != 0)
         return refusal;
     if (judged.sheet_length > sheet_length)

@@ -164,9 +164,11 @@ int plain_only_quality(plain_block extended)
     return 1;
 }
 
-fsk_answer plain_remove(const uint8_t *record, size_t record_length, uint32_t view, uint32_t count,
-                        const uint8_t *lines, size_t lines_length, uint8_t *out, size_t out_length)
+fsk_answer plain_remove(const uint8_t *record, size_t record_length, uint32_t finger,
+                        uint32_t number, uint32_t count, const uint8_t *lines,
+                        size_t lines_length, uint8_t *out, size_t out_length)
 {
+    const plain_name view = {finger, number};
     plain_record judged;
     const plain_view *old = &judged.view;
     survivors kept;

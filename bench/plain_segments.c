@@ -12,7 +12,7 @@ typedef struct {
 } found_segment;
 
 /* 1 to 12, 13 and 23. */
-static fsk_answer find_segment(const uint8_t *record, size_t record_length, uint32_t view,
+static fsk_answer find_segment(const uint8_t *record, size_t record_length, plain_name view,
                                uint32_t segment, found_segment *found)
 {
     const plain_block *extended = &found->in.view.extended;
@@ -30,9 +30,10 @@ static fsk_answer find_segment(const uint8_t *record, size_t record_length, uint
     return plain_accepted(0);
 }
 
-fsk_answer plain_segment(const uint8_t *record, size_t record_length, uint32_t view,
-                         uint32_t segment)
+fsk_answer plain_segment(const uint8_t *record, size_t record_length, uint32_t finger,
+                         uint32_t number, uint32_t segment)
 {
+    const plain_name view = {finger, number};
     found_segment found;
     const fsk_answer refusal = find_segment(record, record_length, view, segment, &found);
     if (refusal.number != 0)
@@ -51,7 +52,7 @@ typedef struct {
 } view_cells;
 
 /* find_segment, and 24 where the segment is of another type. */
-static fsk_answer find_quality(const uint8_t *record, size_t record_length, uint32_t view,
+static fsk_answer find_quality(const uint8_t *record, size_t record_length, plain_name view,
                                uint32_t segment, found_segment *found)
 {
     const fsk_answer refusal = find_segment(record, record_length, view, segment, found);
@@ -111,9 +112,11 @@ static void put_values(uint8_t *out, plain_block payload, view_cells cells)
     plain_take_each(out, &reader, cells.bits, cells.count, 0);
 }
 
-fsk_answer plain_quality(const uint8_t *record, size_t record_length, uint32_t view,
-                         uint32_t segment, uint8_t *values, size_t values_length)
+fsk_answer plain_quality(const uint8_t *record, size_t record_length, uint32_t finger,
+                         uint32_t number, uint32_t segment, uint8_t *values,
+                         size_t values_length)
 {
+    const plain_name view = {finger, number};
     found_segment found;
     view_cells cells;
     const fsk_answer refusal = find_quality(record, record_length, view, segment, &found);
@@ -135,10 +138,11 @@ static uint8_t *put_payload(uint8_t *out, const uint8_t *values, view_cells cell
     return plain_put_rest(to);
 }
 
-fsk_answer plain_set_quality(const uint8_t *record, size_t record_length, uint32_t view,
-                             uint32_t segment, const uint8_t *values, size_t values_length,
-                             uint8_t *out, size_t out_length)
+fsk_answer plain_set_quality(const uint8_t *record, size_t record_length, uint32_t finger,
+                             uint32_t number, uint32_t segment, const uint8_t *values,
+                             size_t values_length, uint8_t *out, size_t out_length)
 {
+    const plain_name view = {finger, number};
     const plain_block lent = {values, values_length};
     found_segment found;
     const plain_block *old = &found.payload, *extended = &found.in.view.extended;

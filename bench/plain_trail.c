@@ -64,9 +64,10 @@ static size_t put_trail(uint8_t *trail, line_codes line, const plain_record *rec
     return elements;
 }
 
-fsk_answer plain_trail(const uint8_t *record, size_t record_length, uint32_t view, uint32_t line,
-                       uint8_t *trail, size_t trail_length)
+fsk_answer plain_trail(const uint8_t *record, size_t record_length, uint32_t finger,
+                       uint32_t number, uint32_t line, uint8_t *trail, size_t trail_length)
 {
+    const plain_name view = {finger, number};
     const size_t room = trail_length / 2;
     plain_record judged;
     line_codes codes;

@@ -53,12 +53,16 @@ static const uint8_t sample_a[] = {
     0x50, 0x02, 0x85, 0x00, 0x48, 0xC0, 0x0E, 0x14, 0x00, 0x02, 0x01, 0x60, 0x00, 0x00,
 };
 
-/* Ends a record and describes it; what is lent beside it comes last, in make_shapes. */
-static sample made(maker *m, uint32_t views, uint32_t lines, uint32_t segments)
+/* The view of the records that have only one. */
+static const plain_name right_index = {2, 0};
+
+/* Ends a record and describes it by its last view; what is lent beside it comes last, in
+ * make_shapes. */
+static sample made(maker *m, plain_name view, uint32_t lines, uint32_t segments)
 {
     const size_t length = put_length(m);
-    return (sample){.record = keep(m->bytes, length), .length = length, .view = views - 1,
-                    .lines = lines, .with_segments = views - 1, .segments = segments};
+    return (sample){.record = keep(m->bytes, length), .length = length, .view = view,
+                    .lines = lines, .with_segments = view, .segments = segments};
 }
 
 /* Record 0 is document 01's own; the others have other lines, as long as those. */
@@ -73,7 +77,7 @@ static sample make_sample_a(maker *m, uint32_t number)
         for (int line = 0; line < LINES; line++)
             put_line(m, CODES);
     put_bytes(m, sample_a + INDEX, sizeof sample_a - INDEX);
-    return made(m, 1, LINES, 0);
+    return made(m, right_index, LINES, 0);
 }
 
 /* The standard's compact widths; the index is small too, its numbers are at most 7. */
@@ -82,24 +86,23 @@ static sample make_compact(maker *m, uint32_t number)
     enum { LINES = 58, CODES = 1, MORE = 2 };
     *m = (maker){.c = 8, .b = 6, .k = 4, .w = 3, .drawn = seed(number)};
     put_header(m, 1, 100, 16);
-    put_view(m, 0, 2, LINES, CODES, MORE);
+    put_view(m, right_index, LINES, CODES, MORE);
     put_segments(m, 0);
-    return made(m, 1, LINES, 0);
+    return made(m, right_index, LINES, 0);
 }
 
 /* The standard's normal widths; two views are of the same finger, every second has segments. */
 static sample make_long_lines(maker *m, uint32_t number)
 {
     enum { VIEWS = 6, LINES = 48, CODES = 100, MORE = 155, SEGMENTS = 3 };
-    static const uint8_t positions[VIEWS] = {1, 2, 2, 3, 6, 7};
-    static const uint8_t numbers[VIEWS] = {0, 0, 1, 0, 0, 0};
+    static const plain_name names[VIEWS] = {{1, 0}, {2, 0}, {2, 1}, {3, 0}, {6, 0}, {7, 0}};
     *m = (maker){.c = 11, .b = 8, .k = 4, .w = 6, .drawn = seed(number)};
     put_header(m, VIEWS, 200, 24);
     for (uint32_t view = 0; view < VIEWS; view++) {
-        put_view(m, numbers[view], positions[view], LINES, CODES, MORE);
+        put_view(m, names[view], LINES, CODES, MORE);
         put_segments(m, view % 2 == 0 ? 0 : SEGMENTS);
     }
-    return made(m, VIEWS, LINES, SEGMENTS);
+    return made(m, names[VIEWS - 1], LINES, SEGMENTS);
 }
 
 /* The standard's compact widths. */
@@ -108,9 +111,9 @@ static sample make_many_lines(maker *m, uint32_t number)
     enum { LINES = 1024, CODES = 8, MORE = 16 };
     *m = (maker){.c = 8, .b = 6, .k = 4, .w = 6, .drawn = seed(number)};
     put_header(m, 1, 100, 16);
-    put_view(m, 0, 2, LINES, CODES, MORE);
+    put_view(m, right_index, LINES, CODES, MORE);
     put_segments(m, 0);
-    return made(m, 1, LINES, 0);
+    return made(m, right_index, LINES, 0);
 }
 
 /* The standard's normal widths, and a segment of local quality. */
@@ -119,9 +122,9 @@ static sample make_many_cells(maker *m, uint32_t number)
     enum { LINES = 60, CODES = 20, MORE = 60 };
     *m = (maker){.c = 11, .b = 8, .k = 4, .w = 6, .drawn = seed(number)};
     put_header(m, 1, 200, 24);
-    put_view(m, 0, 2, LINES, CODES, MORE);
+    put_view(m, right_index, LINES, CODES, MORE);
     put_quality(m);
-    return made(m, 1, LINES, 1);
+    return made(m, right_index, LINES, 1);
 }
 
 static const struct {
@@ -146,8 +149,9 @@ static void add_sheet(sample *to)
 /* Nothing is added where the last of the segments is not of local quality. */
 static void add_values(sample *to)
 {
-    to->values_length = plain_quality(to->record, to->length, to->with_segments, to->segments - 1,
-                                      scratch, ROOM).length;
+    const plain_name view = to->with_segments;
+    to->values_length = plain_quality(to->record, to->length, view.finger, view.number,
+                                      to->segments - 1, scratch, ROOM).length;
     to->values = keep(scratch, to->values_length);
 }
 

@@ -5,8 +5,7 @@
 #ifndef RECORDS_H
 #define RECORDS_H
 
-#include <stddef.h>
-#include <stdint.h>
+#include "plain.h"
 
 enum { SHAPES = 5 };
 
@@ -22,12 +21,13 @@ typedef struct {
     size_t length;
     const uint8_t *sheet;          /* the record as a sheet */
     size_t sheet_length;
-    uint32_t view, lines;          /* the last view and its count of lines */
-    uint32_t with_segments;        /* the last view that has segments */
+    plain_name view;               /* the last view */
+    uint32_t lines;                /* its count of lines */
+    plain_name with_segments;      /* the last view that has segments */
     uint32_t segments;             /* how many it has; 0 where no view has any */
     const uint8_t *values;         /* the local quality that the last of them holds */
     size_t values_length;          /* 0 where it holds none */
-    uint32_t ordered;              /* the last view that has no segments but of local quality */
+    plain_name ordered;            /* the last view that has no segments but of local quality */
     uint32_t ordered_lines;        /* its count of lines */
     const uint8_t *removed;        /* every third of them, as a removal's list */
     size_t removed_length;         /* in bytes */

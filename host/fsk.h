@@ -3,8 +3,14 @@
  *
  * A RECORD is a run of 24 to 32,768 bytes: a header, then one or more VIEWS of a finger. A view has a header, a block of
  * LINES (a ridge each: where it starts, how it runs, where it ends), an INDEX that says which lines are neighbours (or none),
- * and SEGMENTS of extended data, which the library carries as they are; those of local quality it also reads and rewrites. Views,
- * lines and segments are counted from 0.
+ * and SEGMENTS of extended data, which the library carries as they are; those of local quality it also reads and rewrites. Lines
+ * and segments are counted from 0.
+ *
+ * A view is named by two numbers: finger, its finger position (0 unknown, 1 to 5 right thumb to right little finger, 6 to 10 left
+ * thumb to left little finger), and number, its view number (0 for the first view of that finger, 1 for the second and so on). So
+ * the second scan of the right index finger is finger 2, number 1. No two views of a record have both in common, and no order
+ * changes them; two numbers that no view has, however large, are refused with 13. The sheet's field 02 has both, the number first,
+ * and the library's listing prints both, as in "right index 1".
  *
  * Every call takes numbers and byte slices (a pointer and a length; an empty slice may have a null pointer) and gives an
  * fsk_answer back, fsk_holds an fsk_held. Whatever the bytes and the numbers are, the call answers: all that is asked of
@@ -82,7 +88,7 @@ enum {
                                The place is the first bit of the segment's length, or the first byte left over. */
     FSK_BYTES_OVER = 12,    /* There are bytes after the last view.
                                The place is the first byte after the last view. */
-    FSK_NO_VIEW = 13,       /* The record has no view with that place. */
+    FSK_NO_VIEW = 13,       /* The record has no view with that finger position and view number. */
     FSK_OTHER_COUNT = 14,   /* The view has another number of lines than the order was made for. */
     FSK_BAD_LINES = 15,     /* A line number is not below the view's number of lines, or a removal list is empty, not rising or of
                                odd length. */
@@ -142,20 +148,20 @@ fsk_answer fsk_write(const uint8_t *sheet, size_t sheet_length, uint8_t *record,
  * heading and draws an element there; but one code, that with only its top bit set, draws nothing and turns the level between 0 and 1.
  * The trail has one 16-bit number for each element drawn: twice its heading plus its level. A line has at most 255 codes, so 510 bytes
  * always suffice.
- * view, line: counted from 0. Writes 16-bit numbers as bytes, high byte first: two bytes each. The answer's length counts the
- * numbers, not the bytes. Where the output has an odd number of bytes, the last one stays as it was.
+ * finger, number: the view. line: counted from 0. Writes 16-bit numbers as bytes, high byte first: two bytes each. The answer's
+ * length counts these numbers, not the bytes. Where the output has an odd number of bytes, the last one stays as it was.
  * Refuses: 1 to 12, 13, 15, 20.
  */
-fsk_answer fsk_trail(const uint8_t *record, size_t record_length, uint32_t view, uint32_t line, uint8_t *trail,
+fsk_answer fsk_trail(const uint8_t *record, size_t record_length, uint32_t finger, uint32_t number, uint32_t line, uint8_t *trail,
                      size_t trail_length);
 
 /*
  * Where a SEGMENT of a view has its payload: the bytes behind its type and its length. Nothing is written or copied. Of an accepted
  * answer, place is the payload's first bit, counted from the record's first, and length its bytes: the payload is
  * record + place / 8, length bytes long.
- * view, segment: counted from 0. Refuses: 1 to 12, 13, 23.
+ * finger, number: the view. segment: counted from 0. Refuses: 1 to 12, 13, 23.
  */
-fsk_answer fsk_segment(const uint8_t *record, size_t record_length, uint32_t view, uint32_t segment);
+fsk_answer fsk_segment(const uint8_t *record, size_t record_length, uint32_t finger, uint32_t number, uint32_t segment);
 
 /*
  * The LOCAL QUALITY of a view's image, which a segment of type 0x0003 has as its payload: the image is laid out in cells of one size,
@@ -165,27 +171,27 @@ fsk_answer fsk_segment(const uint8_t *record, size_t record_length, uint32_t vie
  * up; a view of width or height 0 has no cells. (The view's width and height are in the sheet's field 02.) A payload is right where
  * it is the first three of these bytes, the cells' values with so many bits each, and zero bits up to a whole byte, and nothing else.
  * Eight times the record's length always suffices.
- * view, segment: counted from 0. Writes bytes. Refuses: 1 to 12, 13, 23, 24, 20.
+ * finger, number: the view. segment: counted from 0. Writes bytes. Refuses: 1 to 12, 13, 23, 24, 20.
  */
-fsk_answer fsk_quality(const uint8_t *record, size_t record_length, uint32_t view, uint32_t segment, uint8_t *values,
-                       size_t values_length);
+fsk_answer fsk_quality(const uint8_t *record, size_t record_length, uint32_t finger, uint32_t number, uint32_t segment,
+                       uint8_t *values, size_t values_length);
 
 /*
  * The record with the payload of a segment of local quality made from such values. Only that payload, its segment's length, the
  * extended length and the record length are others. What the payload was is not judged, so that one that breaks the rules can be
  * mended; the values are. Rewriting with the values that fsk_quality gave gives the record back, and fsk_quality then gives what was
  * rewritten. 32,768 bytes always suffice for the new record.
- * view, segment: counted from 0. Writes bytes, to a second buffer. Refuses: 1 to 12, 13, 23, 24, 19, 20.
+ * finger, number: the view. segment: counted from 0. Writes bytes, to a second buffer. Refuses: 1 to 12, 13, 23, 24, 19, 20.
  */
-fsk_answer fsk_set_quality(const uint8_t *record, size_t record_length, uint32_t view, uint32_t segment, const uint8_t *values,
-                           size_t values_length, uint8_t *second, size_t second_length);
+fsk_answer fsk_set_quality(const uint8_t *record, size_t record_length, uint32_t finger, uint32_t number, uint32_t segment,
+                           const uint8_t *values, size_t values_length, uint8_t *second, size_t second_length);
 
 /*
- * An ORDER writes a new record to a second buffer; the old one is only read. It names a view (counted from 0) and the number of lines
- * that it was made for: where the view has another number of lines by now, it is refused with 14. So a removal that comes again after
- * it was accepted is refused, and nothing is lost. All that is not ordered stays; but in a view with an index, the index is written at
- * the least width that holds it, so that a record may become longer. 32,768 bytes always suffice. fsk_holds tells which record holds
- * after an order, or after a list of them; it is what the next order is for.
+ * An ORDER writes a new record to a second buffer; the old one is only read. It names a view (finger, number) and the count of
+ * lines that it was made for: where the view has another count of lines by now, it is refused with 14. So a removal that comes
+ * again after it was accepted is refused, and nothing is lost. All that is not ordered stays; but in a view with an index, the
+ * index is written at the least width that holds it, so that a record may become longer. 32,768 bytes always suffice. fsk_holds
+ * tells which record holds after an order, or after a list of them; it is what the next order is for.
  */
 
 /*
@@ -195,22 +201,22 @@ fsk_answer fsk_set_quality(const uint8_t *record, size_t record_length, uint32_t
  * lines: their numbers, counted from 0 and rising, as 16-bit numbers, high byte first: two bytes each.
  * Writes bytes. Refuses: 1 to 12, 13, 14, 15, 16, 19, 20.
  */
-fsk_answer fsk_remove(const uint8_t *record, size_t record_length, uint32_t view, uint32_t count, const uint8_t *lines,
-                      size_t lines_length, uint8_t *second, size_t second_length);
+fsk_answer fsk_remove(const uint8_t *record, size_t record_length, uint32_t finger, uint32_t number, uint32_t count,
+                      const uint8_t *lines, size_t lines_length, uint8_t *second, size_t second_length);
 
 /*
  * Makes two lines of a view neighbours; a line may be its own neighbour.
  * Writes bytes. Refuses: 1 to 12, 13, 14, 17, 15, 18, 19, 20.
  */
-fsk_answer fsk_join(const uint8_t *record, size_t record_length, uint32_t view, uint32_t count, uint32_t line, uint32_t other,
-                    uint8_t *second, size_t second_length);
+fsk_answer fsk_join(const uint8_t *record, size_t record_length, uint32_t finger, uint32_t number, uint32_t count, uint32_t line,
+                    uint32_t other, uint8_t *second, size_t second_length);
 
 /*
  * Makes two lines of a view neighbours no more.
  * Writes bytes. Refuses: 1 to 12, 13, 14, 17, 15, 18, 19, 20.
  */
-fsk_answer fsk_part(const uint8_t *record, size_t record_length, uint32_t view, uint32_t count, uint32_t line, uint32_t other,
-                    uint8_t *second, size_t second_length);
+fsk_answer fsk_part(const uint8_t *record, size_t record_length, uint32_t finger, uint32_t number, uint32_t count, uint32_t line,
+                    uint32_t other, uint8_t *second, size_t second_length);
 
 /*
  * Joins and parts lines of a view, many pairs in one call. What comes of it is what comes of giving the orders singly, by fsk_join and
@@ -221,8 +227,8 @@ fsk_answer fsk_part(const uint8_t *record, size_t record_length, uint32_t view, 
  * There is at least one order (and there are at most 4,294,967,296, so that a place has 32 bits), or else it is 25.
  * Writes bytes. Refuses: 1 to 12, 13, 14, 17, 25 over the whole list; then order by order 15, 18, 19, 20.
  */
-fsk_answer fsk_pairs(const uint8_t *record, size_t record_length, uint32_t view, uint32_t count, const uint8_t *pairs,
-                     size_t pairs_length, uint8_t *second, size_t second_length);
+fsk_answer fsk_pairs(const uint8_t *record, size_t record_length, uint32_t finger, uint32_t number, uint32_t count,
+                     const uint8_t *pairs, size_t pairs_length, uint8_t *second, size_t second_length);
 
 /*
  * The record that now holds after an order.

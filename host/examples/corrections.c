@@ -1,11 +1,11 @@
 /*
- * The enrolment desk's corrections: corrections FILE VIEW ORDER.. joins and parts lines of a view, all in one call. An ORDER is two
- * lines with + between them, which joins them, or with -, which parts them: 2+0 or 3-1. Views and lines are counted from 0. Where an
- * order of the list is refused, it is left out, and the list is given again. Which lines are neighbours is printed as it was and as it
- * is in the new record; then the same orders are given singly, which gives the same record. The exit status is 1 where the record or
- * the whole list is refused, and 2 where the arguments are wrong or the file cannot be read.
+ * The enrolment desk's corrections: corrections FILE FINGER NUMBER ORDER.. joins and parts lines of a view, all in one call.
+ * FINGER and NUMBER name the view (fingers.h says how). An ORDER is two lines with + between them, which joins them, or with -,
+ * which parts them: 2+0 or 3-1. Lines are counted from 0. Where an order of the list is refused, it is left out, and the list is
+ * given again. Which lines are neighbours is printed as it was and as it is in the new record; then the same orders are given
+ * singly, which gives the same record. The exit status is 1 where the record, the view or the whole list is refused, and 2 where
+ * the arguments are wrong or the file cannot be read.
  */
-#include <stdlib.h>
 #include <string.h>
 
 #include "fields.h"
@@ -20,16 +20,6 @@ typedef struct {
 
 static uint8_t record[MOST_RECORD + 1], second[MOST_RECORD], singly[2][MOST_RECORD], sheet[MOST_SHEET];
 static list pairs;
-
-/* Whether a number stands here, in digits and at most `most`. `number` then has it, and the text goes on behind it. */
-static int take_number(const char **text, unsigned long most, uint32_t *number)
-{
-    const size_t digits = strspn(*text, "0123456789");
-    const unsigned long value = strtoul(*text, NULL, 10);
-    *number = (uint32_t)value;
-    *text += digits;
-    return digits > 0 && value <= most;
-}
 
 static uint8_t *put_two_bytes(uint8_t *bytes, uint32_t number)
 {
@@ -54,28 +44,26 @@ static int add_order(const char *text)
 }
 
 /* Whether the arguments are a file, a view and orders. `view` and the list then have them. */
-static int are_right(int count, char **arguments, uint32_t *view)
+static int are_right(int count, char **arguments, view_name *view)
 {
-    if (count < 4)
+    if (count < 5 || !is_name(arguments + 2, view))
         return 0;
-    const char *text = arguments[2];
-    if (!take_number(&text, UINT32_MAX, view) || *text != '\0')
-        return 0;
-    for (int i = 3; i < count; i++)
+    for (int i = 4; i < count; i++)
         if (!add_order(arguments[i]))
             return 0;
     return 1;
 }
 
 /* Says which lines of a view are neighbours, and gives how many lines it has. Of a view that is not there it says nothing. */
-static uint32_t print_neighbours(fields left, uint32_t view)
+static uint32_t print_neighbours(fields left, view_name view)
 {
     uint32_t lines = 0, printed = 0;
     if (!find_view(&left, view))
         return 0;
     for (take(&left); comes(&left, LINE); lines++)
         take(&left);
-    printf("view %u, lines %u, neighbours:", (unsigned)view, (unsigned)lines);
+    print_name(view);
+    printf(", lines %u, neighbours:", (unsigned)lines);
     if (comes(&left, INDEX))
         take(&left);
     for (uint32_t line = 0; comes(&left, NEIGHBOURS); line++) {
@@ -88,9 +76,9 @@ static uint32_t print_neighbours(fields left, uint32_t view)
 }
 
 /* Gives the whole list. */
-static fsk_answer give(size_t length, uint32_t view, uint32_t lines)
+static fsk_answer give(size_t length, view_name view, uint32_t lines)
 {
-    return fsk_pairs(record, length, view, lines, pairs.orders, pairs.length, second, sizeof second);
+    return fsk_pairs(record, length, view.finger, view.number, lines, pairs.orders, pairs.length, second, sizeof second);
 }
 
 /* Whether the number is about one order of the list, which the answer's place then tells. */
@@ -111,14 +99,15 @@ static void leave_out(fsk_answer refusal)
 }
 
 /* Gives the orders singly, each to the record that the one before left, and gives whether that makes the same record. */
-static int is_same_singly(size_t length, uint32_t view, uint32_t lines, size_t new_length)
+static int is_same_singly(size_t length, view_name view, uint32_t lines, size_t new_length)
 {
     const uint8_t *now = record;
     for (size_t i = 0; i < pairs.length; i += ORDER) {
         const uint8_t *order = pairs.orders + i;
         uint8_t *next = now == singly[0] ? singly[1] : singly[0];
-        const fsk_answer answer = (order[1] == 0 ? fsk_join : fsk_part)(now, length, view, lines, two_bytes(order + 2),
-                                                                        two_bytes(order + 4), next, MOST_RECORD);
+        const fsk_answer answer = (order[1] == 0 ? fsk_join : fsk_part)(now, length, view.finger, view.number, lines,
+                                                                        two_bytes(order + 2), two_bytes(order + 4), next,
+                                                                        MOST_RECORD);
         if (answer.number != FSK_ACCEPTED)
             return 0;
         now = next;
@@ -129,9 +118,9 @@ static int is_same_singly(size_t length, uint32_t view, uint32_t lines, size_t n
 
 int main(int count, char **arguments)
 {
-    uint32_t view;
+    view_name view;
     if (!are_right(count, arguments, &view)) {
-        fputs("usage: corrections FILE VIEW ORDER.., where an ORDER is LINE+LINE or LINE-LINE\n", stderr);
+        fputs("usage: corrections FILE FINGER NUMBER ORDER.., where an ORDER is LINE+LINE or LINE-LINE\n", stderr);
         return 2;
     }
     const long length = load(arguments[1], record);

@@ -1,11 +1,11 @@
 /*
- * The enrolment desk's job: desk FILE VIEW SEGMENT COLUMN ROW VALUE [OUT] raises (or lowers) the quality of one cell, in a segment of
- * local quality. Views, segments, columns and rows are counted from 0; VALUE is at most 255. The cells are printed as they were and as
- * they are in the new record; then the old values are set again, which gives the old record. The new record is written to the file
- * OUT, if one is named. The exit status is 1 where the record, the segment or the value is refused or there is no such cell, and 2
- * where the arguments are wrong or a file cannot be read or written.
+ * The enrolment desk's job: desk FILE FINGER NUMBER SEGMENT COLUMN ROW VALUE [OUT] raises (or lowers) the quality of one cell, in
+ * a segment of local quality. FINGER and NUMBER name the view (fingers.h says how); segments, columns and rows are counted from 0;
+ * VALUE is at most 255. The cells are printed as they were and as they are in the new record; then the old values are set again,
+ * which gives the old record. The new record is written to the file OUT, if one is named. The exit status is 1 where the record,
+ * the view, the segment or the value is refused or there is no such cell, and 2 where the arguments are wrong or a file cannot be
+ * read or written.
  */
-#include <stdlib.h>
 #include <string.h>
 
 #include "fields.h"
@@ -16,7 +16,8 @@ enum { CELL_WIDTH, CELL_HEIGHT, BITS, CELLS }; /* where what stands in the value
 
 /* A segment, a cell in it, and the value that the cell is to have. */
 typedef struct {
-    uint32_t view, segment, column, row, value;
+    view_name view;
+    uint32_t segment, column, row, value;
 } change;
 
 typedef struct {
@@ -26,20 +27,12 @@ typedef struct {
 static uint8_t record[MOST_RECORD + 1], second[MOST_RECORD], third[MOST_RECORD], sheet[MOST_SHEET];
 static uint8_t old_values[MOST_VALUES], new_values[MOST_VALUES], read_values[MOST_VALUES];
 
-/* Whether the text is a number, in digits and at most `most`. `number` then has it. */
-static int is_number(const char *text, unsigned long most, uint32_t *number)
-{
-    const unsigned long value = strtoul(text, NULL, 10);
-    *number = (uint32_t)value;
-    return *text != '\0' && text[strspn(text, "0123456789")] == '\0' && value <= most;
-}
-
-/* Whether the five texts are a change. `wanted` then has it. */
+/* Whether the six texts are a change. `wanted` then has it. */
 static int is_change(char **texts, change *wanted)
 {
-    return is_number(texts[0], UINT32_MAX, &wanted->view) && is_number(texts[1], UINT32_MAX, &wanted->segment) &&
-           is_number(texts[2], UINT32_MAX, &wanted->column) && is_number(texts[3], UINT32_MAX, &wanted->row) &&
-           is_number(texts[4], UINT8_MAX, &wanted->value);
+    return is_name(texts, &wanted->view) && is_number(texts[2], UINT32_MAX, &wanted->segment) &&
+           is_number(texts[3], UINT32_MAX, &wanted->column) && is_number(texts[4], UINT32_MAX, &wanted->row) &&
+           is_number(texts[5], UINT8_MAX, &wanted->value);
 }
 
 /* Whether a call refused. If so, says why. */
@@ -84,15 +77,19 @@ static size_t set_cell(const change *wanted, size_t length, size_t values, grid 
     memcpy(new_values, old_values, values);
     printf("%u is to become %u\n", *cell, (unsigned)wanted->value);
     *cell = (uint8_t)wanted->value;
-    const fsk_answer set = fsk_set_quality(record, length, wanted->view, wanted->segment, new_values, values, second, sizeof second);
+    const fsk_answer set = fsk_set_quality(record, length, wanted->view.finger, wanted->view.number, wanted->segment, new_values,
+                                           values, second, sizeof second);
     return refused(set) ? 0 : set.length;
 }
 
 /* Whether the new record has the new values, and becomes the old record where the old values are set again. Says so. */
 static int comes_back(const change *done, size_t new_length, size_t length, size_t values, grid cells)
 {
-    const fsk_answer read = fsk_quality(second, new_length, done->view, done->segment, read_values, sizeof read_values);
-    const fsk_answer back = fsk_set_quality(second, new_length, done->view, done->segment, old_values, values, third, sizeof third);
+    const view_name view = done->view;
+    const fsk_answer read = fsk_quality(second, new_length, view.finger, view.number, done->segment, read_values,
+                                        sizeof read_values);
+    const fsk_answer back = fsk_set_quality(second, new_length, view.finger, view.number, done->segment, old_values, values, third,
+                                            sizeof third);
     if (refused(read) || refused(back))
         return 0;
     const int as_set = same(read_values, read.length, new_values, values), as_before = same(third, back.length, record, length);
@@ -118,14 +115,15 @@ static int save(const char *file, size_t length)
 int main(int count, char **arguments)
 {
     change wanted;
-    if (count < 7 || count > 8 || !is_change(arguments + 2, &wanted)) {
-        fputs("usage: desk FILE VIEW SEGMENT COLUMN ROW VALUE [OUT]\n", stderr);
+    if (count < 8 || count > 9 || !is_change(arguments + 2, &wanted)) {
+        fputs("usage: desk FILE FINGER NUMBER SEGMENT COLUMN ROW VALUE [OUT]\n", stderr);
         return 2;
     }
     const long length = load(arguments[1], record);
     if (length < 0)
         return 2;
-    const fsk_answer quality = fsk_quality(record, (size_t)length, wanted.view, wanted.segment, old_values, sizeof old_values);
+    const fsk_answer quality = fsk_quality(record, (size_t)length, wanted.view.finger, wanted.view.number, wanted.segment,
+                                           old_values, sizeof old_values);
     if (refused(quality))
         return 1;
     const fsk_answer read = fsk_read(record, (size_t)length, sheet, sizeof sheet);
@@ -138,5 +136,5 @@ int main(int count, char **arguments)
     const size_t new_length = set_cell(&wanted, (size_t)length, quality.length, cells);
     if (new_length == 0 || !comes_back(&wanted, new_length, (size_t)length, quality.length, cells))
         return 1;
-    return count == 8 ? save(arguments[7], new_length) : 0;
+    return count == 9 ? save(arguments[8], new_length) : 0;
 }

@@ -1,12 +1,14 @@
 /*
- * What the examples need: a record from a file, a walk over the fields of its sheet, and a refusal in words. A sheet that fsk_read
- * gave is whole and in order (fsk.h says in which), so the walk tests nothing.
+ * What the examples need: a record from a file, a walk over the fields of its sheet, and a refusal in words; fingers.h has the
+ * names of views. A sheet that fsk_read gave is whole and in order (fsk.h says in which), so the walk tests nothing.
  */
 #ifndef FIELDS_H
 #define FIELDS_H
 
 #include <fsk.h>
 #include <stdio.h>
+
+#include "fingers.h"
 
 enum {
     MOST_RECORD = 32768,
@@ -37,24 +39,33 @@ static inline int comes(const fields *left, unsigned tag)
     return left->at < left->end && *left->at == tag;
 }
 
+/* The next field, which stays. */
+static inline field peek(const fields *left)
+{
+    return (field){two_bytes(left->at + 1), left->at + 3};
+}
+
 /* The next field, which is then passed. */
 static inline field take(fields *left)
 {
-    const field taken = {two_bytes(left->at + 1), left->at + 3};
+    const field taken = peek(left);
     left->at = taken.value + taken.length;
     return taken;
 }
 
-/* Passes what stands before a view, in a sheet from its first field on. Gives whether the view is there. */
-static inline int find_view(fields *left, uint32_t view)
+/* A view's name: its field has the number first. */
+static inline view_name name_of(field view)
 {
-    take(left);
-    for (; view > 0 && comes(left, VIEW); view--) {
-        do
-            take(left);
-        while (left->at < left->end && !comes(left, VIEW));
-    }
-    return comes(left, VIEW);
+    return (view_name){.finger = view.value[1], .number = view.value[0]};
+}
+
+/* Passes what stands before a view. Gives whether the view is there; if not, all is passed. */
+static inline int find_view(fields *left, view_name wanted)
+{
+    for (; left->at < left->end; take(left))
+        if (comes(left, VIEW) && is_same(name_of(peek(left)), wanted))
+            return 1;
+    return 0;
 }
 
 /* How many codes a line has: they stand behind its two ends of 6 bytes each. */

@@ -1,16 +1,25 @@
 /*
- * The terminal's job: terminal FILE [CODES] takes the poor lines out of a record, those with fewer than CODES codes (2 if not said).
- * Each view gets one removal; and because jobs do run twice, the very same removal is then run again. The exit status is 1 where the
- * record or a removal is refused, and 2 where the arguments are wrong or the file cannot be read.
+ * The terminal's job: terminal FILE [FINGER NUMBER] [CODES] takes the poor lines out of a record, those with fewer than CODES
+ * codes (2 if not said). FINGER and NUMBER name the view that they are taken out of (fingers.h says how); if not said, it is every
+ * view. Each view gets one removal; and because jobs do run twice, the very same removal is then run again. The exit status is 1
+ * where the record, the view or a removal is refused, and 2 where the arguments are wrong or the file cannot be read.
  */
-#include <stdlib.h>
 #include <string.h>
 
 #include "fields.h"
 
+/* What the arguments say. */
+typedef struct {
+    const char *file;
+    int has_name;
+    view_name view; /* that name, if there is one */
+    uint32_t least_codes;
+} job;
+
 /* The removal of the poor lines of a view, made for the number of lines that the view has. */
 typedef struct {
-    uint32_t view, count;
+    view_name view;
+    uint32_t count;
     uint8_t lines[2 * MOST_LINES]; /* as fsk_remove takes them: two bytes each, high byte first */
     size_t length;
 } removal;
@@ -23,11 +32,22 @@ typedef struct {
 
 static uint8_t buffers[2][MOST_RECORD + 1], before[MOST_RECORD], sheet[MOST_SHEET];
 
-/* The removal for the view that comes next in the sheet, which is then passed. */
-static removal plan(uint32_t view, fields *left, size_t least_codes)
+/* Whether the arguments are right: their count says which of them are there. `wanted` then has them. */
+static int is_job(int count, char **arguments, job *wanted)
 {
-    removal order = {.view = view};
-    take(left);
+    const int has_codes = count == 3 || count == 5;
+    if (count < 2 || count > 5)
+        return 0;
+    *wanted = (job){.file = arguments[1], .has_name = count >= 4, .least_codes = 2};
+    if (wanted->has_name && !is_name(arguments + 2, &wanted->view))
+        return 0;
+    return !has_codes || is_number(arguments[count - 1], UINT32_MAX, &wanted->least_codes);
+}
+
+/* The removal for the view that comes next in the sheet, which is then passed. */
+static removal plan(fields *left, uint32_t least_codes)
+{
+    removal order = {.view = name_of(take(left))};
     for (; comes(left, LINE); order.count++) {
         if (codes_of(take(left)) < least_codes) {
             order.lines[order.length++] = (uint8_t)(order.count >> 8);
@@ -42,8 +62,8 @@ static removal plan(uint32_t view, fields *left, size_t least_codes)
 /* Runs the removal; which record holds then, fsk_holds says. */
 static fsk_answer run(const removal *order, state *now)
 {
-    const fsk_answer removed = fsk_remove(now->record, now->length, order->view, order->count, order->lines, order->length,
-                                          now->second, MOST_RECORD);
+    const fsk_answer removed = fsk_remove(now->record, now->length, order->view.finger, order->view.number, order->count,
+                                          order->lines, order->length, now->second, MOST_RECORD);
     const fsk_held held = fsk_holds(now->record, now->length, now->second, MOST_RECORD, removed.number, removed.length);
     if (held.second) {
         uint8_t *old = now->record;
@@ -72,15 +92,26 @@ static uint32_t run_in_words(const char *when, const removal *order, state *now)
     return removed.number;
 }
 
+/* Runs a view's removal twice, if there is a line to remove. Gives whether it was accepted the first time. */
+static int run_twice(const removal *order, uint32_t least_codes, state *now)
+{
+    print_name(order->view);
+    printf(": %zu of %u lines have fewer than %u codes\n", order->length / 2, (unsigned)order->count, (unsigned)least_codes);
+    if (order->length == 0)
+        return 1;
+    const uint32_t number = run_in_words("removal", order, now);
+    run_in_words("the same again", order, now);
+    return number == FSK_ACCEPTED;
+}
+
 int main(int count, char **arguments)
 {
-    const char *codes = count == 3 ? arguments[2] : "2";
-    if (count < 2 || count > 3 || codes[strspn(codes, "0123456789")] != '\0') {
-        fputs("usage: terminal FILE [CODES]\n", stderr);
+    job wanted;
+    if (!is_job(count, arguments, &wanted)) {
+        fputs("usage: terminal FILE [FINGER NUMBER] [CODES]\n", stderr);
         return 2;
     }
-    const unsigned long least_codes = strtoul(codes, NULL, 10);
-    const long length = load(arguments[1], buffers[0]);
+    const long length = load(wanted.file, buffers[0]);
     if (length < 0)
         return 2;
     state now = {buffers[0], buffers[1], (size_t)length};
@@ -93,17 +124,18 @@ int main(int count, char **arguments)
     /* The sheet stays that of the record before all removals. That is enough: none of them changes another view. */
     fields left = {sheet, sheet + read.length};
     int status = 0;
-    take(&left);
-    for (uint32_t view = 0; comes(&left, VIEW); view++) {
-        const removal order = plan(view, &left, least_codes);
-        printf("view %u: %zu of %u lines have fewer than %lu codes\n", (unsigned)view, order.length / 2, (unsigned)order.count,
-               least_codes);
-        if (order.length == 0)
-            continue;
-        if (run_in_words("removal", &order, &now) != FSK_ACCEPTED)
-            status = 1;
-        run_in_words("the same again", &order, &now);
+    if (!wanted.has_name) {
+        take(&left);
+    } else if (!find_view(&left, wanted.view)) {
+        const removal of_no_view = {.view = wanted.view};
+        explain(run(&of_no_view, &now)); /* with 13, whatever else it lacks */
+        return 1;
     }
+    do {
+        const removal order = plan(&left, wanted.least_codes);
+        if (!run_twice(&order, wanted.least_codes, &now))
+            status = 1;
+    } while (!wanted.has_name && comes(&left, VIEW));
     printf("the record has %zu bytes, before it had %ld\n", now.length, length);
     return status;
 }

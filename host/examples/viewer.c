@@ -4,11 +4,6 @@
  */
 #include "fields.h"
 
-static const char *const fingers[] = {
-    "unknown",    "right thumb", "right index", "right middle", "right ring",  "right little",
-    "left thumb", "left index",  "left middle", "left ring",    "left little",
-};
-
 static const char *const end_types[] = {"imaginary end", "ridge end", "bifurcation", "imaginary continuation"};
 
 static uint8_t record[MOST_RECORD + 1], sheet[MOST_SHEET];
@@ -48,12 +43,13 @@ static void print_neighbours(unsigned line, field neighbours)
     puts("");
 }
 
-static void print_view(unsigned place, fields *left)
+static void print_view(fields *left)
 {
-    const uint8_t *v = take(left).value;
+    const field view = take(left);
+    const uint8_t *v = view.value;
     unsigned lines = 0;
-    printf("view %u: %s, number %u, impression %u, quality %u, width %u, height %u\n", place, fingers[v[1]], v[0], v[2], v[3],
-           two_bytes(v + 4), two_bytes(v + 6));
+    print_name(name_of(view));
+    printf(": impression %u, quality %u, width %u, height %u\n", v[2], v[3], two_bytes(v + 4), two_bytes(v + 6));
     while (comes(left, LINE))
         print_line(lines++, take(left));
     if (comes(left, INDEX)) {
@@ -86,7 +82,7 @@ int main(int count, char **arguments)
     fields left = {sheet, sheet + read.length};
     printf("record of %ld bytes, its sheet has %zu\n", length, read.length);
     print_header(take(&left));
-    for (unsigned place = 0; comes(&left, VIEW); place++)
-        print_view(place, &left);
+    while (comes(&left, VIEW))
+        print_view(&left);
     return 0;
 }

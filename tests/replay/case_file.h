@@ -7,7 +7,8 @@
  *                     6 join, 7 part, 8 holds, 9 quality, 10 set_quality,
  *                     11 pairs
  *            1 byte   number of numbers passed, then 8 bytes for each,
- *                     in the order of the call's declaration
+ *                     in the order of the call's declaration: a view's
+ *                     finger position and number are the first two
  *            1 byte   number of input slices, then for each
  *                     4 bytes length and that many bytes
  *            4 bytes  size of the lent output in bytes
@@ -31,7 +32,7 @@ enum {
     READ = 1, WRITE, TRAIL, SEGMENT, REMOVE, JOIN, PART, HOLDS, QUALITY, SET_QUALITY, PAIRS,
     CALLS
 };
-enum { MOST_NUMBERS = 4, MOST_INPUTS = 2 };
+enum { MOST_NUMBERS = 5, MOST_INPUTS = 2 };
 
 typedef struct { const uint8_t *bytes; size_t length; } slice;
 
@@ -48,9 +49,9 @@ typedef struct {
 
 /* Of each call its name, and how many numbers and input slices it takes. */
 static const struct { const char *name; unsigned numbers, inputs; } calls[CALLS] = {
-    {"", 0, 0},        {"read", 0, 1},   {"write", 0, 1},       {"trail", 2, 1},
-    {"segment", 2, 1}, {"remove", 2, 2}, {"join", 4, 1},        {"part", 4, 1},
-    {"holds", 2, 2},   {"quality", 2, 1}, {"set_quality", 2, 2}, {"pairs", 2, 2},
+    {"", 0, 0},        {"read", 0, 1},   {"write", 0, 1},       {"trail", 3, 1},
+    {"segment", 3, 1}, {"remove", 3, 2}, {"join", 5, 1},        {"part", 5, 1},
+    {"holds", 2, 2},   {"quality", 3, 1}, {"set_quality", 3, 2}, {"pairs", 3, 2},
 };
 
 static _Noreturn void stop(const char *why)

@@ -27,7 +27,8 @@ static uint32_t shown;
 
 /* ---- the call ---- */
 
-/* What the library answers to the case's call. */
+/* What the library answers to the case's call. Where it names a view, the first two
+ * numbers are its finger position and its number. */
 static fsk_answer library(const test_case *c)
 {
     const uint8_t *in = inputs_at[0], *also = inputs_at[1];
@@ -44,24 +45,24 @@ static fsk_answer library(const test_case *c)
     case WRITE:
         return fsk_write(in, in_len, out, out_len);
     case TRAIL:
-        return fsk_trail(in, in_len, n[0], n[1], out, out_len);
+        return fsk_trail(in, in_len, n[0], n[1], n[2], out, out_len);
     case SEGMENT:
-        return fsk_segment(in, in_len, n[0], n[1]);
+        return fsk_segment(in, in_len, n[0], n[1], n[2]);
     case REMOVE:
-        return fsk_remove(in, in_len, n[0], n[1], also, also_len, out, out_len);
+        return fsk_remove(in, in_len, n[0], n[1], n[2], also, also_len, out, out_len);
     case JOIN:
-        return fsk_join(in, in_len, n[0], n[1], n[2], n[3], out, out_len);
+        return fsk_join(in, in_len, n[0], n[1], n[2], n[3], n[4], out, out_len);
     case PART:
-        return fsk_part(in, in_len, n[0], n[1], n[2], n[3], out, out_len);
+        return fsk_part(in, in_len, n[0], n[1], n[2], n[3], n[4], out, out_len);
     case HOLDS:
         held = fsk_holds(in, in_len, also, also_len, n[0], (size_t)c->numbers[1]);
         return (fsk_answer){held.second, 0, held.length};
     case QUALITY:
-        return fsk_quality(in, in_len, n[0], n[1], out, out_len);
+        return fsk_quality(in, in_len, n[0], n[1], n[2], out, out_len);
     case SET_QUALITY:
-        return fsk_set_quality(in, in_len, n[0], n[1], also, also_len, out, out_len);
+        return fsk_set_quality(in, in_len, n[0], n[1], n[2], also, also_len, out, out_len);
     case PAIRS:
-        return fsk_pairs(in, in_len, n[0], n[1], also, also_len, out, out_len);
+        return fsk_pairs(in, in_len, n[0], n[1], n[2], also, also_len, out, out_len);
     }
     stop("a case has an unknown call");
 }
@@ -170,7 +171,8 @@ static int has_orders(const test_case *c)
                                 || (c->number >= 18 && c->number <= 20));
 }
 
-/* One order of a list of pairs, given singly to the record that now holds. */
+/* One order of a list of pairs, given singly to the record that now holds: the list's
+ * finger, number and line count, then the two lines. */
 static test_case single_order(const test_case *c, size_t place, slice record)
 {
     const uint8_t *order = c->inputs[1].bytes + ORDER_BYTES * place;
@@ -178,8 +180,8 @@ static test_case single_order(const test_case *c, size_t place, slice record)
     single.call = order[1] == 0 ? JOIN : PART;
     single.numbers_passed = calls[single.call].numbers;
     single.inputs_lent = calls[single.call].inputs;
-    single.numbers[2] = (uint64_t)order[2] << 8 | order[3];
-    single.numbers[3] = (uint64_t)order[4] << 8 | order[5];
+    single.numbers[3] = (uint64_t)order[2] << 8 | order[3];
+    single.numbers[4] = (uint64_t)order[4] << 8 | order[5];
     single.inputs[0] = record;
     return single;
 }

@@ -14,12 +14,17 @@ import quality
 from build import build
 from judge import judge
 from model import LARGEST_RECORD, Refusal
+from names import named_view
 from sheet import from_sheet, to_sheet
 from trail import rounding, trail
 
 CALLS = {"read": 1, "write": 2, "trail": 3, "segment": 4,
          "remove": 5, "join": 6, "part": 7, "holds": 8,
          "quality": 9, "set_quality": 10, "pairs": 11}
+# The calls that write a record in which one view is changed, and all calls that name a
+# view: its finger position and its number are the first two numbers that they take.
+ORDERS = ("remove", "join", "part", "pairs", "set_quality")
+NAMING = ("trail", "segment", "quality") + ORDERS
 
 
 @dataclass
@@ -71,15 +76,13 @@ def answer_write(sheet):
     return written(build(from_sheet(sheet)))
 
 
-def answer_trail(view, line, record):
+def answer_trail(finger, number, line, record):
     """Record, then 13, 15; two bytes for each element, high byte first.
 
     A trail without elements has no way of rounding, as it shows none.
     """
     whole = record_of(record)
-    if view >= len(whole.views):
-        raise Refusal(13)
-    lines = whole.views[view].lines
+    lines = named_view(whole, finger, number).lines
     if line >= len(lines):
         raise Refusal(15)
     elements = trail(lines[line], whole)
@@ -90,47 +93,48 @@ def answer_trail(view, line, record):
                    2, ways)
 
 
-def view_with_segment(record, view, segment):
+def view_with_segment(record, finger, number, segment):
     """The view that has a segment asked for by view and place: 13, 23."""
-    if view >= len(record.views):
-        raise Refusal(13)
-    if segment >= len(record.views[view].segments):
+    view = named_view(record, finger, number)
+    if segment >= len(view.segments):
         raise Refusal(23)
-    return record.views[view]
+    return view
 
 
-def answer_segment(view, segment, record):
+def answer_segment(finger, number, segment, record):
     """Record, then 13, 23; the payload's first bit and its length in bytes."""
-    found = view_with_segment(record_of(record), view, segment).segments[segment]
+    view = view_with_segment(record_of(record), finger, number, segment)
+    found = view.segments[segment]
     return Outcome(0, found.payload_bit, len(found.payload))
 
 
-def answer_remove(view, count, record, lines):
+def answer_remove(finger, number, count, record, lines):
     whole = record_of(record)
-    edited = orders.remove(whole, view, count, lines)
-    return written(build(edited), ways=(quality.carried(whole.views[view]),))
+    edited = orders.remove(whole, finger, number, count, lines)
+    view = named_view(whole, finger, number)
+    return written(build(edited), ways=(quality.carried(view),))
 
 
-def answer_join(view, count, first, second, record):
-    return written(build(orders.join(record_of(record), view, count,
+def answer_join(finger, number, count, first, second, record):
+    return written(build(orders.join(record_of(record), finger, number, count,
                                      first, second)))
 
 
-def answer_part(view, count, first, second, record):
-    return written(build(orders.part(record_of(record), view, count,
+def answer_part(finger, number, count, first, second, record):
+    return written(build(orders.part(record_of(record), finger, number, count,
                                      first, second)))
 
 
-def answer_pairs(view, count, record, listed):
+def answer_pairs(finger, number, count, record, listed):
     """Record, then 13, 14, 17, 25; then the orders in turn, each 15, 18, 19."""
     whole = record_of(record)
-    found = pairs.judge_list(whole, len(record), view, count, listed)
-    number, place, fault = pairs.refusal(found, LARGEST_RECORD)
-    if number != 0:
-        return Outcome(number, place, fault=fault, walk=found)
+    found = pairs.judge_list(whole, len(record), finger, number, count, listed)
+    refused, place, fault = pairs.refusal(found, LARGEST_RECORD)
+    if refused != 0:
+        return Outcome(refused, place, fault=fault, walk=found)
     new = build(found.record)
     assert len(new) == found.lengths[-1]
-    old_width = whole.views[view].index.w
+    old_width = named_view(whole, finger, number).index.w
     return replace(written(new, 1, tuple(pairs.ways(found, record, old_width, new))),
                    walk=found)
 
@@ -143,19 +147,19 @@ def answer_holds(number, length, old, second):
     return Outcome(0, 0, len(old))
 
 
-def answer_quality(view, segment, record):
+def answer_quality(finger, number, segment, record):
     """Record, then 13, 23, 24; the payload's values."""
-    whole = view_with_segment(record_of(record), view, segment)
-    found = quality.read(whole, whole.segments[segment])
+    view = view_with_segment(record_of(record), finger, number, segment)
+    found = quality.read(view, view.segments[segment])
     return written(quality.to_values(found), ways=(quality.reading(found),))
 
 
-def answer_set_quality(view, segment, record, values):
+def answer_set_quality(finger, number, segment, record, values):
     """Record, then 13, 23, 24, 19; the record with that payload rewritten."""
     whole = record_of(record)
-    old = view_with_segment(whole, view, segment)
+    old = view_with_segment(whole, finger, number, segment)
     new = quality.rewrite(old, segment, values)
-    return written(build(orders.with_view(whole, view, new)),
+    return written(build(orders.with_view(whole, new)),
                    ways=(quality.rewriting(old, segment, new),))
 
 
@@ -195,14 +199,14 @@ def lent(result, out_size):
     return result
 
 
-def given_singly(view, count, record, listed, out_size):
+def given_singly(finger, number, count, record, listed, out_size):
     """A list's orders by the calls themselves: number, place and the bytes written.
 
     Each has the same room, and is lent the bytes that the one before wrote.
     """
     for place, (kind, first, second) in enumerate(pairs.orders_of(listed)):
         call = "join" if kind == pairs.JOIN else "part"
-        result = outcome(call, [view, count, first, second], [record])
+        result = outcome(call, [finger, number, count, first, second], [record])
         result = lent(result, out_size)
         if result.number != 0:
             return result.number, place, b""

@@ -12,7 +12,8 @@ unsigned and stand high byte first:
                     6 join, 7 part, 8 holds, 9 quality, 10 set_quality,
                     11 pairs
            1 byte   number of numbers passed, then 8 bytes for each,
-                    in the order of the call's declaration
+                    in the order of the call's declaration: a view's
+                    finger position and number are the first two
            1 byte   number of input slices, then for each
                     4 bytes length and that many bytes
            4 bytes  size of the lent output in bytes (0: none, or an empty one)
@@ -24,25 +25,25 @@ unsigned and stand high byte first:
                     the output beyond them must keep its fill
 
 Tables go to standard error: how often each number was met, how often each fault,
-and how often calls were accepted in each way (tables.py). What a chosen call can
-meet and never met is a failure. How many cases are refused with a place in the
-record goes to standard output.
+how often calls were accepted in each way, and what the names of views were like
+(tables.py). What a chosen call can meet and never met is a failure. How many cases
+are refused with a place in the record goes to standard output.
 """
 
 import argparse
 import random
 import struct
 import sys
-from collections import Counter
 from itertools import islice
 
-from answers import CALLS
+from answers import CALLS, ORDERS
 from model import FAULTS
 from plan import Stock, streams
-from tables import all_tables, never_met
+from tables import Met, all_tables, never_met
 
-ORDERS = ["remove", "join", "part", "pairs", "set_quality", "holds"]
-GROUPS = {"orders": ORDERS, "others": [call for call in CALLS if call not in ORDERS]}
+WITH_ORDERS = [*ORDERS, "holds"]
+GROUPS = {"orders": WITH_ORDERS,
+          "others": [call for call in CALLS if call not in WITH_ORDERS]}
 
 
 def case_bytes(case):
@@ -87,19 +88,19 @@ def arguments():
 
 def main():
     chosen = arguments()
-    met, ways = Counter(), Counter()
+    met = Met()
     with open(chosen.out, "wb") as out:
         out.write(b"FSKCASES" + struct.pack(">I", chosen.count))
         for case in all_cases(chosen.calls, chosen.seed, chosen.count):
             out.write(case_bytes(case))
-            met[case.call, case.expected.number, case.expected.fault] += 1
-            ways.update((case.call, way) for way in case.expected.ways)
-    print(all_tables(met, ways, chosen.calls), file=sys.stderr)
-    missing = never_met(met, ways, chosen.calls)
+            met.add(case)
+    print(all_tables(met, chosen.calls), file=sys.stderr)
+    missing = never_met(met, chosen.calls)
     for text in missing:
         print("never met: " + text, file=sys.stderr)
-    written = sum(met.values())
-    placed = sum(times for (_, number, _), times in met.items() if number in FAULTS)
+    written = sum(met.numbers.values())
+    placed = sum(times for (_, number, _), times in met.numbers.items()
+                 if number in FAULTS)
     print("cases: %d, %d of them refused with a place" % (written, placed))
     if written != chosen.count:
         print("%d cases written, not %d" % (written, chosen.count), file=sys.stderr)

@@ -19,26 +19,32 @@ from model import LARGEST_RECORD, Index, Line, Record, Segment, View, least_widt
 from pairs import JOIN, ORDER_BYTES, PART, bytes_of
 
 
+# The names of pairs_record's views, and that of two_line_record's.
+WITHOUT_INDEX, MIDDLE, LAST = (9, 0), (2, 0), (9, 1)
+TWO_LINES = (2, 0)
+
+
 @dataclass
 class Edge:
     """A list, what it is given to, and the room that is lent (None: any)."""
 
     data: bytes
     listed: bytes
-    view: int = 1
+    name: tuple = MIDDLE
     count: int = 8
     room: int = None
 
 
 def pairs_record(neighbours, w=None, size=None):
-    """Three views, of which the second has lines with these neighbours and the first
-    no index; a segment of the last fills the record to `size` bytes."""
+    """Three views: the second, of another finger than the others, has lines with these
+    neighbours, the first has no index, and a segment of the last fills the record to
+    `size` bytes."""
     lines = [Line(1, 3, 0, 1, [], 2, 5, 1, 0)] * max(2, len(neighbours))
     index = Index(w or least_width(neighbours), neighbours)
-    views = [View(0, 2, 0, 80, 16, 16, lines[:2]),
-             View(1, 2, 0, 80, 16, 16, lines[:len(neighbours)], index,
+    views = [View(0, 9, 0, 80, 16, 16, lines[:2]),
+             View(0, 2, 0, 80, 16, 16, lines[:len(neighbours)], index,
                   [Segment(0x0101, b"\7")]),
-             View(2, 2, 0, 80, 16, 16, lines[:2], Index(3, [[], [0]]))]
+             View(1, 9, 0, 80, 16, 16, lines[:2], Index(3, [[], [0]]))]
     record = Record(0, 197, 1, 4, 2, 16, 64, 32, views)
     return build(record if size is None else fill(record, size))
 
@@ -97,8 +103,9 @@ def before_shapes():
     """13, 14 and 17 come before the shape of a list, and before its orders."""
     data = pairs_record(EIGHT)
     lists = cut_lists()[:14] + other_kinds(OTHER_KINDS[:1])[:14]
-    return [Edge(data, listed, view, count) for listed in lists
-            for view, count in ((0, 2), (0, 3), (1, 7), (2, 2), (3, 8))]
+    return [Edge(data, listed, name, count) for listed in lists
+            for name, count in ((WITHOUT_INDEX, 2), (WITHOUT_INDEX, 3), (MIDDLE, 7),
+                                (LAST, 2), ((9, 2), 8), ((2, 1), 8))]
 
 
 def wrong_orders(wrong_ones):
@@ -125,7 +132,7 @@ def every_list():
     named = list(product((JOIN, PART), range(3), range(3)))
     right = list(product((JOIN, PART), range(2), range(2)))
     lists = [[order] for order in named] + list(product(named, repeat=2))
-    return [Edge(data, bytes_of(orders), 0, 2)
+    return [Edge(data, bytes_of(orders), TWO_LINES, 2)
             for orders in lists + list(product(right, repeat=3))]
 
 
@@ -137,7 +144,7 @@ def widths():
     lists = [counted, far, [(JOIN, 0, 0)], [(JOIN, 1, 0), (PART, 0, 1)]]
     lists += [orders + [(PART, second, first) for _, first, second in orders[::-1]]
               for orders in (counted, far)]
-    return [Edge(pairs_record(twenty, w), bytes_of(orders[:length]), 1, 20)
+    return [Edge(pairs_record(twenty, w), bytes_of(orders[:length]), MIDDLE, 20)
             for orders in lists for w in (1, 2, 5, 16)
             for length in sorted({1, 2, 3, 7, len(orders) // 2, len(orders)})]
 
@@ -158,15 +165,15 @@ def limits_of(neighbours, orders):
     more at each place where they are longer than all before."""
     edges = []
     data, listed = pairs_record(neighbours), bytes_of(orders)
-    lengths = outcome("pairs", [1, 31], [data, listed]).walk.lengths
+    lengths = outcome("pairs", [*MIDDLE, 31], [data, listed]).walk.lengths
     for place, before in risen(lengths, 0):
         rooms = {before, lengths[place] - 1, lengths[place], lengths[-1]}
-        edges += [Edge(data, listed, 1, 31, room) for room in sorted(rooms)]
+        edges += [Edge(data, listed, MIDDLE, 31, room) for room in sorted(rooms)]
     for place, before in risen(lengths, len(data)):
         for length in sorted({before, lengths[place] - 1, lengths[place]}):
             filled = pairs_record(neighbours, None, LARGEST_RECORD - length + len(data))
             room = LARGEST_RECORD + (0, 9, -1)[len(edges) % 3]
-            edges.append(Edge(filled, listed, 1, 31, room))
+            edges.append(Edge(filled, listed, MIDDLE, 31, room))
     return edges
 
 
@@ -186,7 +193,7 @@ def long_lists():
     lists = [turns * 128 + part, turns * 128 + wrong, turns * 600, turns * 127 + join,
              turns * 32768 + part, wrong + turns * 32768 + b"\0", wrong + bytes(131072),
              bytes(65536), bytes(65538), join + turns * 200 + bytes(4)]
-    return [Edge(data, listed, 0, 2, 100) for listed in lists]
+    return [Edge(data, listed, TWO_LINES, 2, 100) for listed in lists]
 
 
 def list_edges():

@@ -13,8 +13,11 @@ from model import LARGEST_RECORD, QUALITY_TYPE, Index, Line, Record, Segment, Vi
 from quality import (FIRST_BYTES, Quality, bytes_for, cells_along, to_payload,
                      to_values)
 
-# Where quality_record has its segment: the view, and the place in the view.
-PLACE = [1, 1]
+# The segment of quality_record and that of full_of_cells: finger position and number of
+# the view, and the segment's place in it. Then the names of removal_record's views.
+NAMED = [7, 0, 1]
+FULL = [2, 0, 0]
+REMOVAL_NAMES = ((2, 0), (4, 0))
 OTHER_TYPES = (0x0000, 0x0001, 0x0002, 0x0004, 0x0103, 0x0300, 0x8003, 0xFFFF)
 # Columns, rows and bits; the cells, their bits or bytes pass 8, 16 or 32 bits.
 WRAPPING = ((256, 1, 8), (1, 256, 8), (128, 64, 8), (256, 256, 1), (256, 256, 8),
@@ -25,12 +28,13 @@ MOST_REST = 1200
 
 
 def quality_record(width, height, payload, type_=QUALITY_TYPE):
-    """Three views; the second has the segment, between two of other types."""
-    views = [View(number, 2, 0, 80, 16, 16, [], None, [
-        Segment(QUALITY_TYPE, b"\x08\x08\x02\x1b")]) for number in range(3)]
-    views[1] = View(1, 2, 0, 80, width, height, [], None, [
+    """Three views; the second has the segment, between two of other types. The others
+    are two views of another finger."""
+    first, last = [View(number, 2, 0, 80, 16, 16, [], None, [
+        Segment(QUALITY_TYPE, b"\x08\x08\x02\x1b")]) for number in range(2)]
+    middle = View(0, 7, 0, 80, width, height, [], None, [
         Segment(0x0103, b"\7"), Segment(type_, payload), Segment(0x0300, b"\1\1\1")])
-    return build(Record(0, 197, 8, 8, 4, 16, 64, 32, views))
+    return build(Record(0, 197, 8, 8, 4, 16, 64, 32, [first, middle, last]))
 
 
 def pattern(count, bits):
@@ -143,11 +147,12 @@ def full_of_cells(size=LARGEST_RECORD):
 
 
 def removal_record(segments, others):
-    """Two views of three lines; the second has the segments, the first the others."""
+    """Views of two fingers, three lines each; the second has the segments, the first
+    the others."""
     lines = [Line(1, 64, 10, 20, [2], 0, 192, 14, 20) for _ in range(3)]
     index = Index(2, [[], [0], [2, 0]])
     views = [View(0, 2, 0, 80, 5, 3, lines, index, others),
-             View(1, 2, 0, 80, 5, 3, lines, index, segments)]
+             View(0, 4, 0, 80, 5, 3, lines, index, segments)]
     return build(Record(0, 197, 8, 8, 4, 16, 64, 32, views))
 
 

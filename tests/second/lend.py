@@ -1,7 +1,8 @@
 """Turns a call and its arguments into a case: output lent, answer expected.
 
-Also the arguments that several calls share: view places, line numbers and
-counts that are mostly right and otherwise near a limit or a wrap-around.
+Also the arguments that several calls share: line numbers, places of segments and
+counts that are mostly right and otherwise near a limit or a wrap-around. The names
+of views stand in make_names.py.
 """
 
 from dataclasses import dataclass
@@ -64,6 +65,15 @@ def lend(rng, call, numbers, slices, out_size=None):
         out_size = out_size_for(rng, call, result)
     fill = rng.choice((0x00, 0xFF, 0xA5, rng.randrange(256)))
     return Case(call, numbers, slices, out_size, fill, lent(result, out_size))
+
+
+def lend_enough(rng, call, numbers, slices):
+    """The case of a call with just enough room, where it can be accepted."""
+    result = outcome(call, numbers, slices)
+    if result.number != 0:
+        return lend(rng, call, numbers, slices)
+    lengths = [len(result.written)] + (result.walk.lengths if result.walk else [])
+    return lend(rng, call, numbers, slices, max(lengths))
 
 
 def far_off(rng, right, count):

@@ -1,15 +1,16 @@
 """Makes random right records as structures, from a seeded source of chance.
 
-The kinds differ in what they reach: all widths, few and many lines, views with
-repeated positions, indexes of every sort, segments of local quality (right or not)
-and of other types, and records that fill 32,768 bytes to the last. Damage is done
-elsewhere.
+The kinds differ in what they reach: all widths, few and many lines, several views
+of one finger between those of others, indexes of every sort, segments of local
+quality (right or not) and of other types, and records that fill 32,768 bytes to the
+last. Damage is done elsewhere.
 """
 
 from build import parts_of, size_of
 from make_quality import random_payload, random_size
 from model import (IMPRESSIONS, LARGEST_RECORD, MOST_LINES, QUALITY_TYPE, Index,
                    Line, Record, Segment, View, least_width)
+from names import POSITIONS
 
 
 def number(rng, width, style):
@@ -119,16 +120,17 @@ def random_style(rng):
 
 
 def random_positions(rng, count):
-    """Finger positions; some records repeat a few of them."""
-    most = rng.choice((0, 1, 10, 10))
-    return [rng.randint(0, most) for _ in range(count)]
+    """Finger positions out of one, a few or all of them, in any order."""
+    few = rng.sample(POSITIONS, rng.choice((1, 2, 3, 11, 11)))
+    return [rng.choice(few) for _ in range(count)]
 
 
 def random_record(rng, size, segments=0.5):
-    """A right record; size is tiny, small, middle or views."""
+    """A right record; size is tiny, small, middle, fingers or views."""
     views, lines, codes = {"tiny": (1, 2, 3), "small": (2, 6, 8),
-                           "middle": (4, 30, 12), "views": (40, 2, 2)}[size]
-    count = rng.randint(1, views)
+                           "middle": (4, 30, 12), "fingers": (9, 5, 3),
+                           "views": (40, 2, 2)}[size]
+    count = rng.randint(4 if size == "fingers" else 1, views)
     if size == "views" and rng.random() < 0.1:
         count = rng.choice((254, 255))
     record = random_header(rng)
@@ -138,10 +140,11 @@ def random_record(rng, size, segments=0.5):
     return record
 
 
-def fill(record, size, view=-1, type_=0x0123):
-    """Adds one segment to a view, so that the record has `size` bytes."""
+def fill(record, size, view=None, type_=0x0123):
+    """Adds one segment to a view, the last if none is given, so that the record has
+    `size` bytes."""
     gap = size - size_of(parts_of(record)) - 4
-    record.views[view].segments.append(
+    (view or record.views[-1]).segments.append(
         Segment(type_, bytes((7 * at + 1) % 256 for at in range(gap))))
     return record
 
@@ -215,7 +218,7 @@ def long_records(rng):
 def growing(rng, bits):
     """A record in which the least width grows with an order, and the middle line.
 
-    View 0 has an index in which only the last line has neighbours, the middle
+    The first view has an index in which only the last line has neighbours, the middle
     line and line 0, so that removing or parting the middle one leaves a
     difference one bit wider than `bits`.
     """

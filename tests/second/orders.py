@@ -1,28 +1,27 @@
-"""The three orders on a record: removal, join and part, with 13 to 18.
+"""The three orders on a record: removal, join and part, with 14 to 18.
 
-Each gives a new structure in which only the edited view's lines and index
-differ; building it gives the new bytes, and 19 where they are too many.
+The view is found by its name first (names.py, 13). Each order gives a new structure
+in which only that view's lines and index differ; building it gives the new bytes, and
+19 where they are too many.
 """
 
 from dataclasses import replace
 
 from model import QUALITY_TYPE, Index, Refusal, least_width
+from names import name_of, named_view
 
 
-def named_view(record, place, count):
-    """The view that an order names by its place and line count: 13, 14."""
-    if place >= len(record.views):
-        raise Refusal(13)
-    view = record.views[place]
+def counted_view(record, finger, number, count):
+    """The view that an order names, with the line count it was made for: 13, 14."""
+    view = named_view(record, finger, number)
     if count != len(view.lines):
         raise Refusal(14)
     return view
 
 
-def with_view(record, place, view):
-    """The record with the view at `place` exchanged."""
-    views = list(record.views)
-    views[place] = view
+def with_view(record, new):
+    """The record with a view exchanged for a new one, which has the same name."""
+    views = [new if name_of(view) == name_of(new) else view for view in record.views]
     return replace(record, views=views)
 
 
@@ -41,12 +40,12 @@ def removal_list(data, count):
     return numbers
 
 
-def remove(record, place, count, list_bytes):
+def remove(record, finger, number, count, list_bytes):
     """Removal: the survivors are renumbered, a removed line leaves all lists.
 
     Segments of local quality are carried as they stand; another type gives 16.
     """
-    view = named_view(record, place, count)
+    view = counted_view(record, finger, number, count)
     removed = set(removal_list(list_bytes, count))
     for segment in view.segments:
         if segment.type != QUALITY_TYPE:
@@ -63,48 +62,48 @@ def remove(record, place, count, list_bytes):
         index = Index(least_width(neighbours), neighbours)
     edited = replace(view, lines=[view.lines[old] for old in survivors],
                      index=index)
-    return with_view(record, place, edited)
+    return with_view(record, edited)
 
 
-def indexed_view(record, place, count):
+def indexed_view(record, finger, number, count):
     """The view of pair orders: 13, 14, 17."""
-    view = named_view(record, place, count)
+    view = counted_view(record, finger, number, count)
     if view.index is None:
         raise Refusal(17)
     return view
 
 
-def pair_view(record, place, count, first, second):
+def pair_view(record, finger, number, count, first, second):
     """A pair order's view, the higher and the lower line: 13, 14, 17, 15."""
-    view = indexed_view(record, place, count)
+    view = indexed_view(record, finger, number, count)
     if first >= count or second >= count:
         raise Refusal(15)
     return view, max(first, second), min(first, second)
 
 
-def with_list(record, place, view, line, listed):
+def with_list(record, view, line, listed):
     """The record in which one line's list is exchanged and w is the least."""
     neighbours = list(view.index.neighbours)
     neighbours[line] = listed
     index = Index(least_width(neighbours), neighbours)
-    return with_view(record, place, replace(view, index=index))
+    return with_view(record, replace(view, index=index))
 
 
-def join(record, place, count, first, second):
+def join(record, finger, number, count, first, second):
     """Join: the two lines become neighbours; 18 if they are."""
-    view, higher, lower = pair_view(record, place, count, first, second)
+    view, higher, lower = pair_view(record, finger, number, count, first, second)
     listed = view.index.neighbours[higher]
     if lower in listed:
         raise Refusal(18)
     longer = sorted(listed + [lower], reverse=True)
-    return with_list(record, place, view, higher, longer)
+    return with_list(record, view, higher, longer)
 
 
-def part(record, place, count, first, second):
+def part(record, finger, number, count, first, second):
     """Part: the two lines are no longer neighbours; 18 if they are not."""
-    view, higher, lower = pair_view(record, place, count, first, second)
+    view, higher, lower = pair_view(record, finger, number, count, first, second)
     listed = view.index.neighbours[higher]
     if lower not in listed:
         raise Refusal(18)
     shorter = [neighbour for neighbour in listed if neighbour != lower]
-    return with_list(record, place, view, higher, shorter)
+    return with_list(record, view, higher, shorter)

@@ -9,8 +9,10 @@ from answers import judged, outcome
 from build import build
 from lend import lend, line_count, place_in
 from make import fill, growing, random_record
+from make_names import any_name, name_in
 from make_pairs import random_list
 from model import LARGEST_RECORD, QUALITY_TYPE, Record
+from names import find_view, name_of
 from quality_plan import set_quality_case
 
 
@@ -86,13 +88,12 @@ def can_be_obeyed(call, view):
     return view.lines and view.index is not None
 
 
-def chosen_view(rng, call, record):
-    """A view's place: mostly one in which the order can be obeyed."""
-    fitting = [place for place, view in enumerate(record.views)
-               if can_be_obeyed(call, view)]
+def chosen_name(rng, call, record):
+    """A view's name: mostly of one in which the order can be obeyed."""
+    fitting = [view for view in record.views if can_be_obeyed(call, view)]
     if fitting and rng.random() < 0.8:
-        return rng.choice(fitting)
-    return place_in(rng, len(record.views), 0.25)
+        return name_of(rng.choice(fitting))
+    return name_in(rng, record, 0.25)
 
 
 def order_case(rng, call, data):
@@ -101,14 +102,13 @@ def order_case(rng, call, data):
     if call == "set_quality":
         return set_quality_case(rng, data)
     record = judged(data)
-    view, count, index = 0, rng.randrange(3), None
+    name, count, index = any_name(rng), rng.randrange(3), None
     if isinstance(record, Record):
-        view = chosen_view(rng, call, record)
-        count = 0
-        if view < len(record.views):
-            count = len(record.views[view].lines)
-            index = record.views[view].index
-    numbers = [view, line_count(rng, count)]
+        name = chosen_name(rng, call, record)
+        view = find_view(record, *name)
+        count = len(view.lines) if view else 0
+        index = view.index if view else None
+    numbers = [*name, line_count(rng, count)]
     if call == "remove":
         return lend(rng, call, numbers, [data, list_bytes(rng, count)])
     if call == "pairs":
@@ -119,7 +119,7 @@ def order_case(rng, call, data):
 
 def sequence(rng, calls, length):
     """Orders one after another; each accepted result is lent to the next."""
-    size = rng.choices(("small", "middle", "views"), (60, 37, 3))[0]
+    size = rng.choices(("small", "middle", "fingers", "views"), (40, 27, 30, 3))[0]
     data = build(random_record(rng, size, 0.5))
     for _ in range(length):
         case = order_case(rng, rng.choice(calls), data)
@@ -128,15 +128,16 @@ def sequence(rng, calls, length):
             data = case.expected.written
 
 
-def growing_order(rng, call, middle):
-    """The arguments of an order that makes w grow in a record of make.growing."""
-    lines = 2 * middle + 1
+def growing_order(rng, call, view, middle):
+    """The arguments of an order that makes w grow in a view of make.growing."""
+    lines = len(view.lines)
+    numbers = [*name_of(view), lines]
     if call == "remove":
         gone = rng.choice(([middle], [middle], [middle - 1, middle]))
-        return [0, lines], [numbers_as_bytes(gone)]
+        return numbers, [numbers_as_bytes(gone)]
     if call == "part":
-        return [0, lines, lines - 1, middle], []
-    return [0, lines, rng.randint(middle + 1, lines - 1), 1], []
+        return numbers + [lines - 1, middle], []
+    return numbers + [rng.randint(middle + 1, lines - 1), 1], []
 
 
 def growing_case(rng, call):
@@ -145,12 +146,13 @@ def growing_case(rng, call):
     What fills the record stands in another view, or is carried as local quality.
     """
     record, middle = growing(rng, rng.randint(2, 9))
-    numbers, more = growing_order(rng, call, middle)
+    edited, other = record.views
+    numbers, more = growing_order(rng, call, edited, middle)
     data = build(record)
     if rng.random() < 0.8:
         growth = outcome(call, numbers, [data] + more).length - len(data)
         past = min(growth, rng.choice((-1, 0, 0, 1, 1, 2, 9)))
-        view, type_ = rng.choice(((-1, 0x0123), (0, QUALITY_TYPE)))
+        view, type_ = rng.choice(((other, 0x0123), (edited, QUALITY_TYPE)))
         data = build(fill(record, LARGEST_RECORD + past - growth, view, type_))
     out_size = rng.choice((None, None, 0, 32767, 32768, 32769, 40000))
     return lend(rng, call, numbers, [data] + more, out_size)
@@ -164,5 +166,5 @@ def order_stream(rng, call, calls, source):
         yield order_case(rng, call, next(source))
         if turn % 6 == 0:
             yield from sequence(rng, calls, rng.choice((2, 4, 8, 25)))
-        if turn % 12 == 0:
+        if turn % 9 == 0:
             yield growing_case(rng, call)

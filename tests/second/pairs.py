@@ -12,6 +12,7 @@ from dataclasses import dataclass, field
 import orders
 from build import index_size
 from model import LARGEST_RECORD, Record, Refusal
+from names import named_view
 
 JOIN, PART = 0, 1
 GIVEN = {JOIN: orders.join, PART: orders.part}
@@ -57,17 +58,18 @@ def bytes_of(listed):
     return b"".join(struct.pack(">HHH", *order) for order in listed)
 
 
-def walk(record, size, view, count, listed):
+def walk(record, size, finger, number, count, listed):
     """The Walk of orders on a view of a record that has `size` bytes."""
-    others = size - index_size(record.views[view].index)
+    others = size - index_size(named_view(record, finger, number).index)
     found = Walk(listed, record)
     for kind, first, second in listed:
         try:
-            found.record = GIVEN[kind](found.record, view, count, first, second)
+            found.record = GIVEN[kind](found.record, finger, number, count,
+                                       first, second)
         except Refusal as refused:
             found.number = refused.number
             break
-        index = found.record.views[view].index
+        index = named_view(found.record, finger, number).index
         found.lengths.append(others + index_size(index))
         found.widths.append(index.w)
     return found
@@ -102,15 +104,15 @@ def shape_fault(data, listed):
     return ""
 
 
-def judge_list(record, size, view, count, data):
+def judge_list(record, size, finger, number, count, data):
     """13, 14, 17, then 25 over the whole list; the Walk of its orders.
 
     Whether an order before the fault would be refused is only counted.
     """
-    orders.indexed_view(record, view, count)
+    orders.indexed_view(record, finger, number, count)
     listed = orders_of(data)
     fault = shape_fault(data, listed)
-    found = walk(record, size, view, count, right_beginning(listed))
+    found = walk(record, size, finger, number, count, right_beginning(listed))
     if fault and found.number != 0:
         fault = fault.split(",")[0] + " after 15 or 18"
     if fault:

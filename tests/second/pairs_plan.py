@@ -14,6 +14,7 @@ from lend import lend
 from make import fill, growing, random_record
 from make_pairs import list_length, right_list, with_wrong_order
 from model import LARGEST_RECORD
+from names import name_of
 from orders_plan import order_case, sequence
 from pairs import bytes_of
 from quality_plan import some
@@ -38,40 +39,39 @@ def list_edge_cases(rng, most):
     first, others = list_edges()
     edges = first + some(rng, others, max(0, most - len(first)))
     for turn, edge in enumerate(edges):
-        case = lend(rng, "pairs", [edge.view, edge.count], [edge.data, edge.listed],
+        case = lend(rng, "pairs", [*edge.name, edge.count], [edge.data, edge.listed],
                     edge.room)
         yield as_given_singly(case) if turn % 4 == 0 else case
 
 
 def indexed_record(rng):
-    """A record that has a view with lines and an index, and that view's place."""
+    """A record that has a view with lines and an index, and that view."""
     if rng.random() < 0.5:
         record, _ = growing(rng, rng.choice((2, 3, 3, 4, 4, 5, 5, 6, 7, 8)))
-        return record, 0
+        return record, record.views[0]
     while True:
-        record = random_record(rng, rng.choice(("small", "middle")), 0.3)
-        for place, view in enumerate(record.views):
-            if view.lines and view.index is not None:
-                return record, place
+        record = random_record(rng, rng.choice(("small", "middle", "fingers")), 0.3)
+        fitting = [view for view in record.views
+                   if view.lines and view.index is not None]
+        if fitting:
+            return record, rng.choice(fitting)
 
 
 def indexed_cases(rng, number):
     """Some lists, mostly right ones, on one view with lines and an index."""
-    record, place = indexed_record(rng)
-    view, data = record.views[place], build(record)
-    count = len(view.lines)
+    record, view = indexed_record(rng)
+    data, count = build(record), len(view.lines)
     for _ in range(number):
         orders = right_list(rng, view.index, count, list_length(rng))
         if rng.random() < 0.25:
             orders = with_wrong_order(rng, orders, count)
-        yield lend(rng, "pairs", [place, count], [data, bytes_of(orders)])
+        yield lend(rng, "pairs", [*name_of(view), count], [data, bytes_of(orders)])
 
 
 def filled_case(rng):
     """A list of which some record comes to 32,768 bytes, or just past them: 19."""
-    record, place = indexed_record(rng)
-    view, data = record.views[place], build(record)
-    numbers = [place, len(view.lines)]
+    record, view = indexed_record(rng)
+    data, numbers = build(record), [*name_of(view), len(view.lines)]
     orders = right_list(rng, view.index, len(view.lines), list_length(rng))
     listed = bytes_of(orders)
     lengths = outcome("pairs", numbers, [data, listed]).walk.lengths
@@ -80,7 +80,7 @@ def filled_case(rng):
         at, before = rng.choice((rises[0], rises[-1], rng.choice(rises)))
         length = rng.choice((before, lengths[at] - 1, lengths[at]))
         size = LARGEST_RECORD - length + len(data)
-        data = build(fill(record, size, rng.choice((place, -1))))
+        data = build(fill(record, size, rng.choice((view, record.views[-1]))))
     room = rng.choice((LARGEST_RECORD - 1, LARGEST_RECORD, LARGEST_RECORD, 40000))
     return lend(rng, "pairs", numbers, [data, listed], room if rises else None)
 

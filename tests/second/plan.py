@@ -2,21 +2,24 @@
 
 A call's cases are an endless stream that mixes right and damaged records in
 turns, so that every refusal is met again and again; a share is kept for the
-records at the edges.
+records at the edges, and for names of views that are easily mistaken.
 """
 
 from functools import partial
 
-from answers import judged
+from answers import NAMING, judged
 from build import build
 from damage import KINDS, LONG_KINDS, damaged
 from damage_sheet import KINDS as SHEET_KINDS
 from damage_sheet import damaged_sheet, long_sheets
-from edges import edge_records, heading_records, small_records
+from edges import edge_records, heading_records
 from edges_sheet import some_edge_sheets
 from lend import lend, place_in
 from make import long_records, random_record
+from make_names import any_name, name_in
 from model import Record
+from names import find_view, name_of
+from names_plan import name_cases, small_names
 from orders_plan import order_case, order_stream
 from pairs_plan import list_edge_cases, pairs_stream
 from quality_plan import quality_stream, removal_edges, set_quality_stream
@@ -50,7 +53,8 @@ def right_bytes(rng, stock, segments=0.5):
     """The bytes of a right record of any kind."""
     if rng.random() < 0.015:
         return rng.choice(stock.long)
-    size = rng.choices(("tiny", "small", "middle", "views"), (30, 50, 17, 3))[0]
+    size = rng.choices(("tiny", "small", "middle", "fingers", "views"),
+                       (28, 44, 15, 10, 3))[0]
     return build(random_record(rng, size, segments))
 
 
@@ -88,16 +92,14 @@ def read_stream(rng, stock, budget):
             yield lend(rng, "read", [], [data])
 
 
-def view_with(rng, record, name):
-    """A view's place, mostly of one with lines or segments, and these."""
-    places = [place for place, view in enumerate(record.views)
-              if getattr(view, name)]
-    place = place_in(rng, len(record.views))
-    if places and rng.random() < 0.7:
-        place = rng.choice(places)
-    if place >= len(record.views):
-        return place, []
-    return place, getattr(record.views[place], name)
+def view_with(rng, record, what):
+    """A view's name, mostly of one with lines or segments, and these."""
+    having = [view for view in record.views if getattr(view, what)]
+    name = name_in(rng, record)
+    if having and rng.random() < 0.7:
+        name = name_of(rng.choice(having))
+    view = find_view(record, *name)
+    return name, getattr(view, what) if view else []
 
 
 def trail_stream(rng, stock, budget):
@@ -105,37 +107,36 @@ def trail_stream(rng, stock, budget):
 
     Where the first heading is all there is to see, the room just fits.
     """
-    for data in small_records():
-        for view in range(3):
-            for line in range(4):
-                yield lend(rng, "trail", [view, line], [data])
+    for data, name in small_names():
+        for line in range(4):
+            yield lend(rng, "trail", [*name, line], [data])
     for data in heading_records():
-        for line in range(len(judged(data).views[0].lines)):
-            yield lend(rng, "trail", [0, line], [data], 2)
+        view = judged(data).views[0]
+        for line in range(len(view.lines)):
+            yield lend(rng, "trail", [*name_of(view), line], [data], 2)
     for data in records(rng, stock, budget * 2 // 5, 0.75):
         record = judged(data)
         if not isinstance(record, Record):
-            yield lend(rng, "trail", [rng.randrange(3), rng.randrange(3)], [data])
+            yield lend(rng, "trail", [*any_name(rng), rng.randrange(3)], [data])
             continue
         for _ in range(rng.randint(1, 3)):
-            view, lines = view_with(rng, record, "lines")
-            yield lend(rng, "trail", [view, place_in(rng, len(lines))], [data])
+            name, lines = view_with(rng, record, "lines")
+            yield lend(rng, "trail", [*name, place_in(rng, len(lines))], [data])
 
 
 def segment_stream(rng, stock, budget):
     """Every segment of a few records, otherwise some segments of many."""
-    for data in small_records():
-        for view in range(3):
-            for segment in range(4):
-                yield lend(rng, "segment", [view, segment], [data])
+    for data, name in small_names():
+        for segment in range(4):
+            yield lend(rng, "segment", [*name, segment], [data])
     for data in records(rng, stock, budget * 2 // 5, 0.75, 0.9):
         record = judged(data)
         if not isinstance(record, Record):
-            yield lend(rng, "segment", [rng.randrange(3), 0], [data])
+            yield lend(rng, "segment", [*any_name(rng), 0], [data])
             continue
         for _ in range(rng.randint(1, 2)):
-            view, found = view_with(rng, record, "segments")
-            yield lend(rng, "segment", [view, place_in(rng, len(found))], [data])
+            name, found = view_with(rng, record, "segments")
+            yield lend(rng, "segment", [*name, place_in(rng, len(found))], [data])
 
 
 def write_stream(rng, stock, budget):
@@ -200,6 +201,12 @@ def quality_call_stream(stream, rng, stock, budget):
     yield from stream(rng, source, budget // 5)
 
 
+def names_first(call, stream, rng, stock, budget):
+    """Names of views at the edges, then the other cases of a call that names one."""
+    yield from name_cases(rng, call, budget // 20)
+    yield from stream(rng, stock, budget)
+
+
 def streams(calls):
     """For each chosen call the maker of its stream of cases."""
     makers = {"read": read_stream, "trail": trail_stream,
@@ -211,4 +218,6 @@ def streams(calls):
     for call in ("remove", "join", "part"):
         makers[call] = partial(order_call_stream, call, sequenced)
     makers["pairs"] = partial(pairs_call_stream, sequenced)
+    for call in NAMING:
+        makers[call] = partial(names_first, call, makers[call])
     return makers

@@ -8,12 +8,15 @@ bytes or just past them.
 
 from answers import judged, outcome
 from build import build
-from edges_quality import (OTHER_TYPES, PLACE, full_of_cells, payload_edges,
-                           quality_record, removal_records, values_edges)
+from edges_quality import (FULL, NAMED, OTHER_TYPES, REMOVAL_NAMES, full_of_cells,
+                           payload_edges, quality_record, removal_records,
+                           values_edges)
 from lend import lend, place_in
 from make import fill, random_record
+from make_names import any_name, name_in
 from make_quality import broken_values, fresh_values, hopeless
 from model import LARGEST_RECORD, QUALITY_TYPE, Record
+from names import find_view, name_of
 from quality import FIRST_BYTES
 
 # What a segment holds whose payload is to be rewritten at the edges.
@@ -26,21 +29,20 @@ def some(rng, members, most):
 
 
 def named_segment(rng, data):
-    """The places of a view and a segment: mostly one of local quality."""
+    """The name of a view and the place of a segment: mostly one of local quality."""
     record = judged(data)
     if not isinstance(record, Record):
-        return [rng.randrange(3), rng.randrange(2)]
-    found = [[place, at] for place, view in enumerate(record.views)
-             for at in range(len(view.segments))]
-    right = [[place, at] for place, at in found
-             if record.views[place].segments[at].type == QUALITY_TYPE]
-    if right and rng.random() < 0.85:
-        return rng.choice(right)
-    if found and rng.random() < 0.5:
-        return rng.choice(found)
-    view = place_in(rng, len(record.views), 0.2)
-    segments = record.views[view].segments if view < len(record.views) else []
-    return [view, place_in(rng, len(segments), 0.3)]
+        return [*any_name(rng), rng.randrange(2)]
+    found = [(view, at) for view in record.views for at in range(len(view.segments))]
+    right = [(view, at) for view, at in found
+             if view.segments[at].type == QUALITY_TYPE]
+    for members, share in ((right, 0.85), (found, 0.5)):
+        if members and rng.random() < share:
+            view, at = rng.choice(members)
+            return [*name_of(view), at]
+    name = name_in(rng, record, 0.2)
+    view = find_view(record, *name)
+    return [*name, place_in(rng, len(view.segments) if view else 0, 0.3)]
 
 
 def quality_case(rng, data):
@@ -57,14 +59,14 @@ def one_cell_changed(rng, values):
     return values[:at] + bytes([new]) + values[at + 1:]
 
 
-def values_for(rng, data, place):
+def values_for(rng, data, named):
     """Values to be written: from those stored, or others; some are broken."""
-    view, segment = place
+    *name, segment = named
     record = judged(data)
-    if (not isinstance(record, Record) or view >= len(record.views)
-            or segment >= len(record.views[view].segments)):
+    view = find_view(record, *name) if isinstance(record, Record) else None
+    if view is None or segment >= len(view.segments):
         return rng.choice((hopeless(rng), b"\1\1\1", b""))
-    read = outcome("quality", place, [data])
+    read = outcome("quality", named, [data])
     kind = rng.randrange(10)
     if read.number == 0 and kind < 2:
         return read.written
@@ -72,13 +74,13 @@ def values_for(rng, data, place):
         return one_cell_changed(rng, read.written)
     if read.number == 0 and kind < 6:
         return broken_values(rng, read.written)
-    return fresh_values(rng, record.views[view])
+    return fresh_values(rng, view)
 
 
 def set_quality_case(rng, data):
     """Rewriting of a segment of a record's bytes."""
-    place = named_segment(rng, data)
-    return lend(rng, "set_quality", place, [data, values_for(rng, data, place)])
+    named = named_segment(rng, data)
+    return lend(rng, "set_quality", named, [data, values_for(rng, data, named)])
 
 
 def filled_case(rng):
@@ -88,31 +90,32 @@ def filled_case(rng):
     while True:
         record = random_record(rng, "small", 1.0)
         data = build(record)
-        place = named_segment(rng, data)
-        values = values_for(rng, data, place)
-        growth = outcome("set_quality", place, [data, values]).length - len(data)
+        named = named_segment(rng, data)
+        values = values_for(rng, data, named)
+        growth = outcome("set_quality", named, [data, values]).length - len(data)
         if growth > 0:
             break
     past = min(growth, rng.choice((-1, 0, 0, 1, 1, 2, 9)))
-    data = build(fill(record, size + past - growth, rng.choice((0, -1))))
+    view = rng.choice((record.views[0], record.views[-1]))
+    data = build(fill(record, size + past - growth, view))
     if rng.random() < 0.15:
         values = broken_values(rng, values)
     out_size = rng.choice((None, None, 0, size - 1, size, size + 1, 40000))
-    return lend(rng, "set_quality", place, [data, values], out_size)
+    return lend(rng, "set_quality", named, [data, values], out_size)
 
 
 def quality_edges(rng, most):
     """Payloads at the edges, right payloads under other types, and the longest."""
     for width, height, payload in some(rng, payload_edges(), most):
         data = quality_record(width, height, payload)
-        yield lend(rng, "quality", PLACE, [data])
+        yield lend(rng, "quality", NAMED, [data])
     for type_ in OTHER_TYPES:
         data = quality_record(5, 1, b"\1\1\1\xf8", type_)
-        yield lend(rng, "quality", PLACE, [data])
+        yield lend(rng, "quality", NAMED, [data])
     data = full_of_cells()
     values = FIRST_BYTES + 511 * 511
     for out_size in (values, values - 1):
-        yield lend(rng, "quality", [0, 0], [data], out_size)
+        yield lend(rng, "quality", FULL, [data], out_size)
 
 
 def set_quality_edges(rng, most):
@@ -120,29 +123,29 @@ def set_quality_edges(rng, most):
     edges = some(rng, values_edges(), most)
     for at, (width, height, values) in enumerate(edges):
         data = quality_record(width, height, STORED[at % len(STORED)])
-        yield lend(rng, "set_quality", PLACE, [data, values])
+        yield lend(rng, "set_quality", NAMED, [data, values])
     for type_ in OTHER_TYPES:
         data = quality_record(5, 1, b"\1\1\1\xf8", type_)
-        yield lend(rng, "set_quality", PLACE, [data, b"\1\1\1" + bytes(5)])
+        yield lend(rng, "set_quality", NAMED, [data, b"\1\1\1" + bytes(5)])
     data = full_of_cells()
-    values = outcome("quality", [0, 0], [data]).written
+    values = outcome("quality", FULL, [data]).written
     for out_size in (len(data), len(data) - 1):
-        yield lend(rng, "set_quality", [0, 0], [data, values], out_size)
+        yield lend(rng, "set_quality", FULL, [data, values], out_size)
     for bits, last in ((2, 3), (2, 4)):
         longer = values[:2] + bytes([bits]) + values[3:-1] + bytes([last])
-        yield lend(rng, "set_quality", [0, 0], [data, longer], 65536)
+        yield lend(rng, "set_quality", FULL, [data, longer], 65536)
     for columns, rows in ((181, 181), (256, 256), (1, 65529)):
         data = quality_record(columns, rows, b"")
         values = b"\1\1\x08" + bytes([1]) * (columns * rows)
-        yield lend(rng, "set_quality", PLACE, [data, values], 65536)
+        yield lend(rng, "set_quality", NAMED, [data, values], 65536)
 
 
 def removal_edges(rng, most):
     """Removals of one line from either view, so that segments are carried or not."""
     for data in some(rng, removal_records(), most):
-        for view in (0, 1):
+        for name in REMOVAL_NAMES:
             lines = bytes([0, rng.randrange(3)])
-            yield lend(rng, "remove", [view, 3], [data, lines])
+            yield lend(rng, "remove", [*name, 3], [data, lines])
 
 
 def quality_stream(rng, source, most_edges):

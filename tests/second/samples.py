@@ -2,19 +2,21 @@
 
 All are assertions. Run it alone; it prints one line when all hold. It shows
 that the second program reads document 01 as its own samples do, and that every
-fault has the place worked out by hand, every direction the nearest heading, and
-local quality and lists of pairs the bytes worked out by hand, before it judges
-anything.
+fault has the place worked out by hand, every direction the nearest heading, every
+name the view worked out by hand, and local quality and lists of pairs the bytes,
+before it judges anything.
 """
 
 from dataclasses import replace
 
-from answers import lent, outcome
+from answers import NAMING, lent, outcome
 from bits import signed
 from build import build, index_bytes, parts_of, put_together
 from faults import all_faults, base_bytes
 from judge import judge
 from model import FAULTS, Index, Line, Record, Refusal, Segment, View, least_width
+from names import name_of
+from samples_names import names_of_views
 from samples_pairs import lists_of_pairs
 from samples_quality import local_quality
 from sheet import to_sheet
@@ -25,6 +27,8 @@ SAMPLE_A = bytes.fromhex(
     "08080410402000000002005001000100"
     "00105002850048C00E145002850048C0"
     "0E14000201600000")
+# The name of its view, from the view's header: byte 25 the finger, 24 the number.
+A_VIEW = [SAMPLE_A[25], SAMPLE_A[24]]
 
 # First headings of request [2], worked out by hand: N, b, and for some directions
 # the heading. The number behind a row is 2N divided by 2 to the b.
@@ -83,12 +87,13 @@ def proved_samples():
     assert lent(outcome("read", [], [SAMPLE_A]), 66).number == 20
     record = judge(SAMPLE_A)
     assert trail(record.views[0].lines[0], record) == [36]               # P2
-    assert result_of("trail", [0, 0], [SAMPLE_A]) == bytes([0, 36])
-    p3 = result_of("remove", [0, 2], [SAMPLE_A, bytes([0, 0])])          # P3
+    assert result_of("trail", [*A_VIEW, 0], [SAMPLE_A]) == bytes([0, 36])
+    first = bytes([0, 0])
+    p3 = result_of("remove", [*A_VIEW, 2], [SAMPLE_A, first])            # P3
     assert len(p3) == 48 and index_block(p3) == bytes([1, 0])
-    assert outcome("remove", [0, 2], [p3, bytes([0, 0])]).number == 14   # P4
-    assert outcome("join", [0, 2, 0, 1], [SAMPLE_A]).number == 18        # P5
-    p5 = result_of("join", [0, 2, 0, 0], [SAMPLE_A])
+    assert outcome("remove", [*A_VIEW, 2], [p3, first]).number == 14     # P4
+    assert outcome("join", [*A_VIEW, 2, 0, 1], [SAMPLE_A]).number == 18  # P5
+    p5 = result_of("join", [*A_VIEW, 2, 0, 0], [SAMPLE_A])
     assert index_block(p5) == bytes([0x01, 0xB0])
     p6 = build(plain_record())                                           # P6
     assert len(p6) == 38 and number_and_place(p6) == (0, 0)
@@ -105,7 +110,7 @@ def proved_samples():
                 Index(4, [[] for _ in range(30)] + [[15, 0]]))           # P11
     p11 = build(plain_record(views=[view]))
     assert len(index_block(p11)) == 18 and least_width(view.index.neighbours) == 4
-    removed = result_of("remove", [0, 31], [p11, bytes([0, 15])])
+    removed = result_of("remove", [*name_of(view), 31], [p11, bytes([0, 15])])
     assert len(index_block(removed)) == 21 and index_block(removed)[0] == 5
     assert judge(removed).views[0].index.neighbours[29] == [0]
 
@@ -133,41 +138,52 @@ def run_only_samples():
     zero_byte_more = parts_of(judge(SAMPLE_A))
     zero_byte_more.views[0].skeleton += b"\0"
     assert number_and_place(put_together(zero_byte_more)) == (8, 8 * 50)
-    assert outcome("remove", [0, 2], [SAMPLE_A, bytes([0, 0, 1])]).number == 15
+    assert outcome("remove", [*A_VIEW, 2], [SAMPLE_A, bytes([0, 0, 1])]).number == 15
     for number, length, second, held in ((0, 56, 1, 56), (0, 57, 0, 3), (14, 0, 0, 3)):
         found = outcome("holds", [number, length], [b"old", SAMPLE_A])
         assert (found.number, found.length) == (second, held)
 
 
 def places():
-    """Every fault has its place, in every call on a record; above 12 it is 0."""
+    """Every fault has its place, in every call on a record, whatever view is named;
+    above 12 it is 0."""
     assert number_and_place(base_bytes()) == (0, 0)
-    arguments = {"read": ([], []), "trail": ([0, 0], []), "segment": ([0, 0], []),
-                 "remove": ([0, 1], [bytes([0, 0])]), "join": ([1, 2, 0, 0], []),
-                 "part": ([1, 2, 1, 1], []), "quality": ([1, 0], []),
-                 "set_quality": ([1, 0], [bytes([255, 255, 1])]),
-                 "pairs": ([1, 2], [bytes(6)])}
+    arguments = {"read": ([], []), "trail": ([2, 0, 0], []), "segment": ([2, 0, 0], []),
+                 "remove": ([2, 0, 1], [bytes([0, 0])]), "join": ([2, 1, 2, 0, 0], []),
+                 "part": ([2, 1, 2, 1, 1], []), "quality": ([2, 1, 0], []),
+                 "set_quality": ([2, 1, 0], [bytes([255, 255, 1])]),
+                 "pairs": ([2, 1, 2], [bytes(6)])}
+    lists = [(call, *lent_too) for call, lent_too in arguments.items()]
+    lists += [(call, [11, 256] + arguments[call][0][2:], arguments[call][1])
+              for call in NAMING]
     met = set()
     for number, place, fault, data in all_faults():
         met.add((number, fault))
-        for call, (numbers, more) in arguments.items():
+        for call, numbers, more in lists:
             found = outcome(call, numbers, [data] + more)
             assert found.number == number, (found, number)
             assert (found.place, found.fault) == (place, fault), (found, place)
             assert found.length == 0 and found.written == b""
     assert met == {(number, fault) for number in FAULTS for fault in FAULTS[number]}
+    places_of_others()
+
+
+def places_of_others():
+    """Numbers above 12 have the place 0; a segment has its payload's first bit."""
     for call, numbers, more, number in (
-            ("trail", [2, 0], [], 13), ("trail", [1, 2], [], 15),
-            ("segment", [2, 0], [], 13), ("segment", [1, 1], [], 23),
-            ("remove", [1, 1], [bytes([0, 0])], 14),
-            ("remove", [1, 2], [bytes([0, 0])], 16), ("join", [0, 1, 0, 0], [], 17),
-            ("join", [1, 2, 1, 0], [], 18), ("part", [1, 2, 0, 0], [], 18),
-            ("quality", [2, 0], [], 13), ("quality", [1, 1], [], 23),
-            ("quality", [1, 0], [], 24), ("set_quality", [2, 0], [b""], 13),
-            ("set_quality", [1, 1], [b""], 23), ("set_quality", [1, 0], [b""], 24)):
+            ("trail", [2, 2, 0], [], 13), ("trail", [2, 1, 2], [], 15),
+            ("segment", [2, 2, 0], [], 13), ("segment", [2, 1, 1], [], 23),
+            ("remove", [2, 1, 1], [bytes([0, 0])], 14),
+            ("remove", [2, 1, 2], [bytes([0, 0])], 16),
+            ("join", [2, 0, 1, 0, 0], [], 17), ("join", [2, 1, 2, 1, 0], [], 18),
+            ("part", [2, 1, 2, 0, 0], [], 18),
+            ("quality", [2, 2, 0], [], 13), ("quality", [2, 1, 1], [], 23),
+            ("quality", [2, 1, 0], [], 24), ("set_quality", [2, 2, 0], [b""], 13),
+            ("set_quality", [2, 1, 1], [b""], 23),
+            ("set_quality", [2, 1, 0], [b""], 24)):
         found = outcome(call, numbers, [base_bytes()] + more)
         assert (found.number, found.place) == (number, 0), found
-    found = outcome("segment", [1, 0], [base_bytes()])
+    found = outcome("segment", [2, 1, 0], [base_bytes()])
     assert (found.number, found.place, found.length) == (0, 8 * 83, 2)
 
 
@@ -212,5 +228,6 @@ if __name__ == "__main__":
     headings()
     local_quality(SAMPLE_A)
     lists_of_pairs(SAMPLE_A)
+    names_of_views(SAMPLE_A)
     print("samples: P1 to P11, the run-only samples, %d places, the headings, local"
-          " quality and lists of pairs hold" % len(all_faults()))
+          " quality, lists of pairs and names of views hold" % len(all_faults()))

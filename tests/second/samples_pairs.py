@@ -14,9 +14,13 @@ from faults import base_bytes
 from judge import judge
 from make import fill
 from model import LIST_FAULTS, Index, Line, Record, View
+from names import name_of
 from pairs import JOIN, PART, bytes_of
 
 PLENTY = 100
+# The names of sample A's view, and of the views of faults.py's record of 85 bytes.
+A_VIEW = (2, 0)
+BASE_VIEWS = ((2, 0), (2, 1))
 
 # Lists that sample A accepts, and the index block that comes of each, worked out by
 # hand. At first it is 01 60: w = 1, line 0 has no neighbours (0), line 1 has line 0
@@ -71,9 +75,9 @@ ROOMS = (
     ([(JOIN, 0, 1)], {0: (18, 0)}), ([(JOIN, 2, 1)], {0: (15, 0)}))
 
 
-def result(data, orders, room, view=0, count=2):
+def result(data, orders, room, name=A_VIEW, count=2):
     """The answer to a list in so much room: number, place, and what is written."""
-    found = lent(outcome("pairs", [view, count], [data, bytes_of(orders)]), room)
+    found = lent(outcome("pairs", [*name, count], [data, bytes_of(orders)]), room)
     assert found.length == len(found.written)
     return found.number, found.place, found.written
 
@@ -92,7 +96,8 @@ def by_hand(sample_a):
     for orders, block in (([(PART, 1, 1)], "01 60"), ([(JOIN, 0, 0)], "02 48 40"),
                           ([(PART, 1, 1), (JOIN, 0, 0)], "01 B0")):
         expected = with_index(base_bytes(), 72, 3, bytes.fromhex(block))
-        assert result(base_bytes(), orders, PLENTY, 1) == (0, 0, expected), orders
+        found = result(base_bytes(), orders, PLENTY, BASE_VIEWS[1])
+        assert found == (0, 0, expected), orders
 
 
 def refused(sample_a):
@@ -102,13 +107,15 @@ def refused(sample_a):
     met = set()
     for text, fault in MISSHAPEN:
         for room in (0, PLENTY):
-            found = outcome("pairs", [0, 2], [sample_a, bytes.fromhex(text)])
+            found = outcome("pairs", [*A_VIEW, 2], [sample_a, bytes.fromhex(text)])
             assert lent(found, room) == found
             assert (found.number, found.place, found.fault) == (25, 0, fault), text
         met.add(fault)
-        for data, numbers, number in ((sample_a, [1, 2], 13), (sample_a, [0, 3], 14),
-                                      (base_bytes(), [0, 2], 14),
-                                      (base_bytes(), [0, 1], 17)):
+        for data, numbers, number in ((sample_a, [2, 1, 2], 13),
+                                      (sample_a, [0, 2, 2], 13),
+                                      (sample_a, [*A_VIEW, 3], 14),
+                                      (base_bytes(), [*BASE_VIEWS[0], 2], 14),
+                                      (base_bytes(), [*BASE_VIEWS[0], 1], 17)):
             found = outcome("pairs", numbers, [data, bytes.fromhex(text)])
             assert (found.number, found.place) == (number, 0), found
     assert met == set(LIST_FAULTS)
@@ -144,11 +151,11 @@ def at_the_limit():
         record = Record(0, 100, 8, 8, 4, 16, 64, 32, [view])
         assert len(build(record)) == 289
         data = build(fill(record, size))
-        found = result(data, orders, 40000, 0, 31)
+        found = result(data, orders, 40000, name_of(view), 31)
         assert found[:2] == (number, place), (size, orders, found[:2])
         if orders == [up, down] and number == 0:
             assert found[2] == data
-            assert result(data, orders, 32767, 0, 31)[:2] == (20, 0)
+            assert result(data, orders, 32767, name_of(view), 31)[:2] == (20, 0)
 
 
 def every_short_list(sample_a):
@@ -159,7 +166,7 @@ def every_short_list(sample_a):
                           + [(pair, (55, 56, 57)) for pair in product(named, repeat=2)]
                           + [(three, (56, 57)) for three in product(right, repeat=3)]):
         for room in sizes:
-            singly = given_singly(0, 2, sample_a, bytes_of(orders), room)
+            singly = given_singly(*A_VIEW, 2, sample_a, bytes_of(orders), room)
             assert result(sample_a, orders, room) == singly, (orders, room)
 
 
@@ -176,7 +183,7 @@ def last_word():
         pair = (max(first, second), min(first, second))
         orders.append((PART if pair in joined else JOIN, first, second))
         joined ^= {pair}
-    number, place, new = result(data, orders, 1000, 0, 40)
+    number, place, new = result(data, orders, 1000, name_of(view), 40)
     assert (number, place) == (0, 0)
     neighbours = judge(new).views[0].index.neighbours
     assert neighbours == [[lower for lower in range(line, -1, -1)

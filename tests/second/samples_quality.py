@@ -14,6 +14,10 @@ from model import QUALITY_FAULTS, Record, Refusal, Segment, View
 from quality import (Quality, cells_along, from_payload, from_values, to_payload,
                      to_values)
 
+# The name of the view that each record here has, sample A too, and its first segment.
+VIEW = [2, 0]
+SEGMENT = [*VIEW, 0]
+
 # Width, height, payload and values of a view, worked out by hand.
 BY_HAND = (
     (256, 256, "40 40 04  01 23 45 67 89 AB CD EF",           # 4 by 4 cells
@@ -80,14 +84,14 @@ def by_hand():
         assert to_values(from_payload(payload, view)) == values, text
         assert to_payload(from_values(values, view)) == payload, text
         data = record_of(width, height, payload)
-        read = outcome("quality", [0, 0], [data])
+        read = outcome("quality", SEGMENT, [data])
         assert (read.number, read.place, read.length) == (0, 0, len(values))
         assert read.written == values
         assert lent(read, len(values)).number == 0
         assert lent(read, len(values) - 1).number == 20
         for stored in (payload, b"", b"\0", bytes(50)):
             old = record_of(width, height, stored)
-            new = outcome("set_quality", [0, 0], [old, values])
+            new = outcome("set_quality", SEGMENT, [old, values])
             assert (new.number, new.place, new.length) == (0, 0, len(data))
             assert new.written == data
             assert lent(new, len(data) - 1).number == 20
@@ -102,23 +106,23 @@ def broken():
         payload = bytes.fromhex(text)
         found = fault_of(from_payload, payload, view)
         assert found == fault, (text, found)
-        read = outcome("quality", [0, 0], [record_of(5, 3, payload)])
+        read = outcome("quality", SEGMENT, [record_of(5, 3, payload)])
         assert (read.number, read.place, read.length) == (24, 0, 0)
         met.add(found)
     for listed, fault in BROKEN_VALUES:
         found = fault_of(from_values, bytes(listed), view)
         assert found == fault, (listed, found)
-        new = outcome("set_quality", [0, 0], [record_of(5, 3, right), bytes(listed)])
+        new = outcome("set_quality", SEGMENT, [record_of(5, 3, right), bytes(listed)])
         assert (new.number, new.place, new.length) == (24, 0, 0)
         met.add(found)
     for type_ in (0, 1, 2, 4, 0x0103, 0x0300):
         data = record_of(5, 3, right, type_)
         for call, more in (("quality", []), ("set_quality", [values])):
-            found = outcome(call, [0, 0], [data] + more)
+            found = outcome(call, SEGMENT, [data] + more)
             assert (found.number, found.fault) == (24, "type")
             met.add(found.fault)
-            assert outcome(call, [1, 0], [data] + more).number == 13
-            assert outcome(call, [0, 1], [data] + more).number == 23
+            assert outcome(call, [2, 1, 0], [data] + more).number == 13
+            assert outcome(call, [*VIEW, 1], [data] + more).number == 23
     assert met == set(QUALITY_FAULTS)
 
 
@@ -163,13 +167,13 @@ def removed_from_a(sample_a):
     segment = bytes.fromhex("0003 000F" + BY_HAND[0][2])
     data = sample_a_with(sample_a, [Segment(3, segment[4:])])
     assert data == sample_a[:11] + b"\x47" + sample_a[12:54] + b"\0\x0F" + segment
-    p3 = outcome("remove", [0, 2], [sample_a, b"\0\0"]).written
-    removed = outcome("remove", [0, 2], [data, b"\0\0"])
+    p3 = outcome("remove", [*VIEW, 2], [sample_a, b"\0\0"]).written
+    removed = outcome("remove", [*VIEW, 2], [data, b"\0\0"])
     assert (removed.number, removed.length) == (0, 63)
     assert removed.written == p3[:11] + b"\x3F" + p3[12:46] + b"\0\x0F" + segment
     assert lent(removed, 62).number == 20
     bad = [Segment(3, b""), Segment(3, b"\0\0\0"), Segment(3, segment[4:] + b"\7")]
-    found = outcome("remove", [0, 2], [sample_a_with(sample_a, bad), b"\0\0"])
+    found = outcome("remove", [*VIEW, 2], [sample_a_with(sample_a, bad), b"\0\0"])
     assert found.number == 0
     assert [each.payload for each in judge(found.written).views[0].segments] == [
         each.payload for each in bad]
@@ -177,17 +181,18 @@ def removed_from_a(sample_a):
         for at in range(4):
             mixed = bad[:at] + [Segment(type_, segment[4:])] + bad[at:]
             mixed_data = sample_a_with(sample_a, mixed)
-            assert outcome("remove", [0, 2], [mixed_data, b"\0\0"]).number == 16
-            assert outcome("remove", [0, 2], [mixed_data, b"\0\2"]).number == 15
+            assert outcome("remove", [*VIEW, 2], [mixed_data, b"\0\0"]).number == 16
+            assert outcome("remove", [*VIEW, 2], [mixed_data, b"\0\2"]).number == 15
 
 
 def rewritten_in_a(sample_a):
     """A cell changed, and cells of another size: what else changes are lengths."""
     payload, values = bytes.fromhex(BY_HAND[0][2]), bytes(BY_HAND[0][3])
     data = sample_a_with(sample_a, [Segment(3, payload)])
-    one_cell = outcome("set_quality", [0, 0], [data, values[:3] + b"\x0F" + values[4:]])
+    changed = values[:3] + b"\x0F" + values[4:]
+    one_cell = outcome("set_quality", SEGMENT, [data, changed])
     assert one_cell.written == data[:63] + b"\xF1" + data[64:]
-    longer = outcome("set_quality", [0, 0], [data, bytes([32, 32, 4] + [9] * 64)])
+    longer = outcome("set_quality", SEGMENT, [data, bytes([32, 32, 4] + [9] * 64)])
     assert longer.written == (sample_a[:11] + b"\x5F" + sample_a[12:54] + b"\0\x27"
                               + b"\0\3\0\x27\x20\x20\4" + b"\x99" * 32)
 
@@ -197,11 +202,11 @@ def at_the_limit():
     for width, height, number in ((43, 761, 0), (324, 101, 19)):
         values = bytes([1, 1, 8] + [255] * (width * height))
         data = record_of(width, height, b"\1\1\x08")
-        new = outcome("set_quality", [0, 0], [data, values])
+        new = outcome("set_quality", SEGMENT, [data, values])
         assert (new.number, new.length) == (number, 0 if number else 32768)
         at_seven_bits = values[:2] + b"\7" + values[3:]
-        assert outcome("set_quality", [0, 0], [data, at_seven_bits]).number == 24
-    assert lent(outcome("quality", [0, 0], [data]), 0).number == 24
+        assert outcome("set_quality", SEGMENT, [data, at_seven_bits]).number == 24
+    assert lent(outcome("quality", SEGMENT, [data]), 0).number == 24
 
 
 def local_quality(sample_a):

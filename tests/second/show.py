@@ -9,9 +9,13 @@ Of a long slice the first bytes are shown.
 import struct
 import sys
 
-from answers import CALLS
+from answers import CALLS, NAMING
 
-
+# The numbers that a call takes behind the finger and number of a view, or at all.
+NUMBERS = {"trail": ("line",), "segment": ("segment",), "quality": ("segment",),
+           "set_quality": ("segment",), "remove": ("count",), "pairs": ("count",),
+           "join": ("count", "line", "other line"),
+           "part": ("count", "line", "other line"), "holds": ("number", "length")}
 MOST_SHOWN = 1024
 BYTES_IN_A_ROW = 32
 
@@ -34,12 +38,21 @@ class Taker:
         return self.data[self.at - size:self.at]
 
 
+def numbers_of(call):
+    """What the numbers that a call takes are, in their order."""
+    view = ("finger", "view number") if call in NAMING else ()
+    return view + NUMBERS.get(call, ())
+
+
 def take_case(taker):
     """One case as a list of names and values, in the order of the file."""
-    names = {number: call for call, number in CALLS.items()}
-    fields = [("call", names[taker.number("B")])]
-    for _ in range(taker.number("B")):
-        fields.append(("number passed", taker.number("Q")))
+    calls = {number: call for call, number in CALLS.items()}
+    call = calls[taker.number("B")]
+    fields = [("call", call)]
+    if taker.number("B") != len(numbers_of(call)):
+        sys.exit("a case passes another number of numbers than its call takes")
+    for name in numbers_of(call):
+        fields.append((name, taker.number("Q")))
     for _ in range(taker.number("B")):
         fields.append(("slice lent", taker.bytes()))
     fields.append(("output size", taker.number("I")))

@@ -1,14 +1,17 @@
 """What the cases of each call have to meet, and tables of how often they did.
 
-Three things are counted: the numbers that a call gives; the faults behind them,
+Four things are counted: the numbers that a call gives; the faults behind them,
 which are what the place of 2 to 12 points at, the rule that 24 or 25 tells of, or
-where in its list an order stands that is refused; and the ways in which a call was
-accepted, of which a list of pairs can have several at once.
+where in its list an order stands that is refused; the ways in which a call was
+accepted, of which a list of pairs can have several at once; and what the names of
+views were like, in calls that were accepted and in those that 13 refused.
 """
 
 from collections import Counter
 
+from answers import NAMING, ORDERS, judged
 from model import FAULTS, LIST_FAULTS, QUALITY_FAULTS
+from names import RIGHT_NAMES, WRONG_NAMES, right_kinds, wrong_kinds
 from pairs import LISTS, PAIR_FAULTS
 from quality import CARRIED, PAYLOAD_FAULTS, READINGS, REWRITINGS, VALUE_FAULTS
 from trail import ROUNDINGS
@@ -37,6 +40,49 @@ WAYS = {"trail": ("first heading rounded", ROUNDINGS),
         "quality": ("payload read", READINGS),
         "set_quality": ("payload rewritten", REWRITINGS),
         "pairs": ("list accepted", LISTS)}
+# What is told apart among names of views: in accepted cases, in accepted orders on the
+# record that an order before left, and in cases that 13 refuses.
+FOLLOWING = ("after an order on this view", "after one on the same finger",
+             "after one on another finger")
+NAMES = (("view named", RIGHT_NAMES, NAMING),
+         ("order in a sequence", FOLLOWING, ORDERS),
+         ("no view named", WRONG_NAMES, NAMING))
+
+
+def following(name, before):
+    """Which of the FOLLOWING a name is behind an order on the view named before."""
+    if name == before:
+        return FOLLOWING[0]
+    return FOLLOWING[1] if name[0] == before[0] else FOLLOWING[2]
+
+
+class Met:
+    """How often each thing was met in the cases so far. The record that the last
+    accepted order left, and the name of the view that it changed, are kept."""
+
+    def __init__(self):
+        self.numbers, self.ways, self.names = Counter(), Counter(), Counter()
+        self.left, self.changed = None, None
+
+    def add(self, case):
+        """Counts a case."""
+        expected = case.expected
+        self.numbers[case.call, expected.number, expected.fault] += 1
+        self.ways.update((case.call, way) for way in expected.ways)
+        if case.call in NAMING:
+            self.names.update((case.call, kind) for kind in self.kinds_of_name(case))
+        if case.call in ORDERS and expected.number == 0:
+            self.left, self.changed = expected.written, case.numbers[:2]
+
+    def kinds_of_name(self, case):
+        """What the name in a case is like, where it was accepted or refused with 13."""
+        name, record = case.numbers[:2], judged(case.slices[0])
+        if case.expected.number == 13:
+            yield from wrong_kinds(record, *name)
+        if case.expected.number == 0:
+            yield from right_kinds(record, *name)
+            if case.call in ORDERS and case.slices[0] == self.left:
+                yield following(name, self.changed)
 
 
 def faults_of(call, number):
@@ -44,23 +90,26 @@ def faults_of(call, number):
     return FAULTS_OF.get(call, {}).get(number) or FAULTS.get(number, ("",))
 
 
-def never_met(met, ways, calls):
+def never_met(met, calls):
     """What the calls can meet and never met, as texts."""
     wanted = [(call, number, fault) for call in calls
               for number in sorted(MUST_MEET[call])
               for fault in faults_of(call, number)]
-    missing = ["%s gives %d %s" % each for each in wanted if met[each] == 0]
+    missing = ["%s gives %d %s" % each for each in wanted if met.numbers[each] == 0]
     for call in calls:
         what, known = WAYS.get(call, ("", ()))
         missing += ["%s, %s: %s" % (call, what, way) for way in known
-                    if ways[call, way] == 0]
+                    if met.ways[call, way] == 0]
+        missing += ["%s, %s: %s" % (call, what, kind)
+                    for what, known, naming in NAMES if call in naming
+                    for kind in known if met.names[call, kind] == 0]
     return missing
 
 
 def number_table(met, calls):
     """How often each call gave each number, as text."""
     numbers = Counter()
-    for (call, number, _), times in met.items():
+    for (call, number, _), times in met.numbers.items():
         numbers[call, number] += times
     lines = ["%-12s" % "call" + "".join("%6d" % number for number in NUMBERS)]
     for call in calls:
@@ -76,7 +125,7 @@ def fault_table(met, calls):
     for number, faults in list(FAULTS.items()) + [(24, QUALITY_FAULTS)]:
         for fault in faults:
             lines.append("%2d %-25s" % (number, fault) + "".join(
-                "%12s" % (met[call, number, fault] or ".") for call in calls))
+                "%12s" % (met.numbers[call, number, fault] or ".") for call in calls))
     return "\n".join(lines)
 
 
@@ -86,24 +135,38 @@ def list_table(met, calls):
         return ""
     lines = ["%-28s%12s" % ("list refused", "pairs")]
     for number, faults in FAULTS_OF["pairs"].items():
-        lines += ["%2d %-25s%12s" % (number, fault, met["pairs", number, fault] or ".")
+        lines += ["%2d %-25s%12s" % (number, fault,
+                                     met.numbers["pairs", number, fault] or ".")
                   for fault in faults]
     return "\n".join(lines)
 
 
-def way_tables(ways, calls):
+def way_tables(met, calls):
     """How often each call was accepted in each of its ways, as text."""
     lines = []
     for call in calls:
         what, known = WAYS.get(call, ("", ()))
         if known:
             lines.append("%-28s%12s" % (what, call))
-        lines += ["   %-25s%12s" % (way, ways[call, way] or ".") for way in known]
+        lines += ["   %-25s%12s" % (way, met.ways[call, way] or ".") for way in known]
     return "\n".join(lines)
 
 
-def all_tables(met, ways, calls):
+def name_tables(met, calls):
+    """How often each call met each kind of name, as text."""
+    lines = []
+    for what, known, naming in NAMES:
+        chosen = [call for call in calls if call in naming]
+        if chosen:
+            lines.append("%-33s" % what + "".join("%12s" % call for call in chosen))
+            lines += ["   %-30s" % kind + "".join(
+                "%12s" % (met.names[call, kind] or ".") for call in chosen)
+                      for kind in known]
+    return "\n".join(lines)
+
+
+def all_tables(met, calls):
     """The tables that have something to tell, one after another."""
-    tables = [number_table(met, calls), fault_table(met, calls),
-              list_table(met, calls), way_tables(ways, calls)]
+    tables = [number_table(met, calls), fault_table(met, calls), list_table(met, calls),
+              way_tables(met, calls), name_tables(met, calls)]
     return "\n".join(table for table in tables if table)

@@ -3,24 +3,27 @@
     python3 tests/second/vectors.py [--write]
 
 The program `vectors` prints, for each file that its arguments name, the
-listing, then of a refused record the refusal's place, else the sheet's size
-and the first trails and segments of each view. Behind the line of a segment whose
-local quality can be read stand its values, where 256 bytes hold them. Here the
-same text comes from this program's own judge, sheet, trail, segment and quality
-code, and vectors_records.py and vectors_quality.py make records from plain values,
-so that neither rests on the library. Without an argument files and text are
-compared; with --write they are written and then compared.
+listing, then of a refused record the refusal's place, else the sheet's size and the
+first trails and segments of each view, which finger position and view number name:
+the fingers rise, and of each the views count up while there is one. Behind the line
+of a segment whose local quality can be read stand its values, where 256 bytes hold
+them. Here the same text comes from this program's own judge, sheet, trail, segment
+and quality code, and vectors_records.py, vectors_names.py and vectors_quality.py make
+records from plain values, so that neither rests on the library. Without an argument
+files and text are compared; with --write they are written and then compared.
 """
 
 import argparse
 import sys
-from itertools import zip_longest
+from itertools import count, zip_longest
 from pathlib import Path
 
 from answers import lent, outcome
 from judge import judge
 from model import FAULTS, LARGEST_RECORD, Refusal
+from names import POSITIONS, find_view
 from trail import trail
+from vectors_names import name_samples
 from vectors_quality import quality_samples
 from vectors_records import (FINGERS, heading_samples, limit_samples,
                              refused_samples)
@@ -41,7 +44,7 @@ FOUND = ("a", "p3", "p5", "p6", "p7", "p8-b3", "p8-b4", "p9", "p10", "p11",
 def new_samples():
     """All samples made here, by name."""
     return {**limit_samples(), **heading_samples(), **quality_samples(),
-            **refused_samples()}
+            **name_samples(), **refused_samples()}
 
 
 def view_text(view):
@@ -62,26 +65,37 @@ def sheet_text(data):
     return "sheet %d" % read.length
 
 
-def segment_rows(data, view, segment):
+def segment_rows(data, finger, number, segment):
     """A segment's size, and the values of its local quality if the room holds them."""
-    found = outcome("segment", [view, segment], [data])
-    rows = ["segment %d %d: %d bytes" % (view, segment, found.length)]
-    read = lent(outcome("quality", [view, segment], [data]), QUALITY_ROOM)
+    named = [finger, number, segment]
+    found = outcome("segment", named, [data])
+    rows = ["segment %d %d %d: %d bytes" % (*named, found.length)]
+    read = lent(outcome("quality", named, [data]), QUALITY_ROOM)
     if read.number == 0:
         values = "".join(" %d" % value for value in read.written)
-        rows.append("quality %d %d:%s" % (view, segment, values))
+        rows.append("quality %d %d %d:%s" % (*named, values))
+    return rows
+
+
+def view_rows(data, record, finger, number):
+    """A view's first trails, then its first segments."""
+    view, rows = find_view(record, finger, number), []
+    for at, line in enumerate(view.lines[:MOST_SHOWN]):
+        numbers = "".join(" %d" % element for element in trail(line, record))
+        rows.append("trail %d %d %d:%s" % (finger, number, at, numbers))
+    for at in range(min(len(view.segments), MOST_SHOWN)):
+        rows += segment_rows(data, finger, number, at)
     return rows
 
 
 def detail_rows(data, record):
-    """Each view's first trails, then its first segments."""
+    """The rows of all views, finger by finger, not as they stand in the record."""
     rows = []
-    for place, view in enumerate(record.views):
-        for at, line in enumerate(view.lines[:MOST_SHOWN]):
-            numbers = "".join(" %d" % element for element in trail(line, record))
-            rows.append("trail %d %d:%s" % (place, at, numbers))
-        for at in range(min(len(view.segments), MOST_SHOWN)):
-            rows += segment_rows(data, place, at)
+    for finger in POSITIONS:
+        for number in count():
+            if find_view(record, finger, number) is None:
+                break
+            rows += view_rows(data, record, finger, number)
     return rows
 
 

@@ -14,4 +14,5 @@ pub mod Lists
 pub mod Index
 pub mod Segments
 pub mod Written
+pub mod Named
 pub mod Apart

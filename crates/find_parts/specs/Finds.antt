@@ -17,7 +17,9 @@ use Rattle.format.specs.Segments.{Segment, segment, segments}
 use Rattle.format.specs.View.{View}
 use Rattle.format.specs.Places.{segmentBits}
 use Rattle.format.specs.Record.{Record, read, Narrow}
+use Rattle.format.specs.Named.{placeIn, Means}
 use Rattle.format.specs.declared.Widths.{Widths}
+use Rattle.format.specs.declared.ViewName.{ViewName}
 use Rattle.find_parts.specs.Stands.{BlocksAt, ViewIn}
 use Rattle.find_parts.specs.declared.view.Part.{Part}
 use Rattle.find_parts.specs.declared.view.Blocks.{Blocks}
@@ -43,15 +45,22 @@ pub record BlocksFound (s : List ℕ) (b : ℕ) (x : Blocks) : Type 0 where
   pub extended : x .extended .from ≡ x .index .to + 2
   pub is : (w : Widths) (v : View) (d : ℕ) (B : BlocksAt w s b v d) → (x .skeleton .to ≡ B .i) × (x .index .to ≡ B .j) × (x .extended .to ≡ d)
 
--- ---- view i of the record s
+-- ---- the view that a name means, of the record s
 
-pub record ViewThere (s : List ℕ) (i : ℕ) : Type 0 where
+pub record ViewsThere (s : List ℕ) : Type 0 where
   pub value : Record
   pub reads : read s ≡ got value []
-  pub below : i < length (value .views)
 
-pub record ViewFound (s : List ℕ) (i a : ℕ) : Type 0 where
-  pub is : (r : Record) → read s ≡ got r [] → ViewIn r s i a
+-- it starts at byte a, whichever place it has
+pub record MeantAt (view : ViewName) (r : Record) (s : List ℕ) (a : ℕ) : Type 0 where
+  pub place : ℕ
+  pub means : Means view r place
+  pub at : ViewIn r s place a
+
+-- within the record, it is there; at the record's end, the name means none
+pub record NameFound (s : List ℕ) (view : ViewName) (a : ℕ) : Type 0 where
+  pub there : a < length s → (r : Record) → read s ≡ got r [] → MeantAt view r s a
+  pub none : length s ≤ a → (r : Record) → read s ≡ got r [] → length (r .views) ≤ placeIn view (r .views)
 
 -- ---- lines of the skeleton block s
 

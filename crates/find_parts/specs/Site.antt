@@ -30,8 +30,8 @@ pub record SiteThere (s : List ℕ) (x : Blocks) (w : Widths) : Type 0 where
   pub value : Record
   pub reads : read s ≡ got value []
   pub widths : w ≡ value .head .scale .widths
-  pub view : ℕ
-  pub blocks : BlocksIn value s view x
+  pub place : ℕ
+  pub blocks : BlocksIn value s place x
 
 pub record SiteFound (s : List ℕ) (x : Blocks) (w : Widths) (y : Site) : Type 0 where
   pub is : (r : Record) (i : ℕ) → w ≡ r .head .scale .widths → i < length (r .views) → BlocksIn r s i x → SiteOf r s i y

@@ -1,9 +1,12 @@
 // Views and their blocks: from length to length.
+ghost use mathlib.Core.Path.{_≡_};
 ghost use Prim.Native.Nat.{_+_, _≤_};
-ghost use lib.ListN.{length};
-ghost use Rattle.find_parts.specs.Finds.{BlockFound, BlocksThere, BlocksFound, ViewThere, ViewFound};
+ghost use lib.ListN.{length, getD};
+ghost use Rattle.format.specs.Named.{named, sameName};
+ghost use Rattle.find_parts.specs.Finds.{BlockFound, BlocksThere, BlocksFound, ViewsThere, NameFound};
 use bits::Cursor;
 use format::Header;
+use format::ViewName;
 
 // A part of the bytes: from its first byte up to the byte behind it.
 pub struct Part {
@@ -47,17 +50,26 @@ pub fn blocks_at(bytes: &[u8], b: usize) -> Blocks
     }
 }
 
-// The byte at which view i of the record starts.
-pub fn view_at(bytes: &[u8], i: usize) -> usize
-    requires { ⌜ ViewThere (now bytes) i ⌝ }
-    ensures { λ r. ⌜ ViewFound (now (bytes .entry)) i r ⌝ }
+// Whether the view at byte a has the name: its header starts with its number and its finger position.
+fn has_name(bytes: &[u8], a: usize, view: ViewName) -> bool
+    requires { ⌜ a + 2 ≤ length (now bytes) ⌝ }
+    ensures { λ r. ⌜ r ≡ sameName (named (getD (now (bytes .entry)) (a + 1) 0) (getD (now (bytes .entry)) a 0)) view ⌝ }
+{
+    bytes[a + 1] as u32 == view.finger && bytes[a] as u32 == view.number
+}
+
+// The byte at which the view of that name starts; the record's end, where it has none. From header to header.
+pub fn view_named(bytes: &[u8], view: ViewName) -> usize
+    requires { ⌜ ViewsThere (now bytes) ⌝ }
+    ensures { λ r. ⌜ NameFound (now (bytes .entry)) view r ⌝ }
 {
     let mut a: usize = Header::BYTES;
-    let mut n: usize = 0;
-    while n < i {
+    while a < bytes.len() {
+        if has_name(bytes, a, view) {
+            return a;
+        }
         let blocks = blocks_at(bytes, a + 8);
         a = blocks.extended.to;
-        n += 1;
     }
     a
 }

@@ -18,6 +18,7 @@ use Rattle.format.specs.Record.{Record, tellSeen, size}
 use Rattle.format.specs.Places.{noViewThere, noSegmentThere, viewAt, segmentAt, bitsBefore, bitsAhead, segmentBits}
 use Rattle.format.specs.Call.{inSegment, onSegment}
 use Rattle.format.specs.declared.Scale.{Scale}
+use Rattle.format.specs.declared.ViewName.{ViewName}
 use Rattle.format.proofs.Laws.Record.{read-is, read-back}
 use Rattle.format.proofs.Laws.Call.{no-segment}
 use Rattle.find_parts.specs.Stored.{headBytes, blocksOut}
@@ -35,19 +36,22 @@ use Rattle.find_segment.specs.declared.Spot.{Spot}
 
 -- ---- refused
 
-module _ {s : List ℕ} {view : ℕ} (place : ℕ) where
+module _ {s : List ℕ} {view : ViewName} (place : ℕ) where
   pub refused-view : {e p : ℕ} → Refuses s view e p → SegmentRefuses s view place e p
   unfolding onSegment
   refused-view h = record { is = λ f. h .is (inSegment place f) }
 
 -- ---- where code stops in the extended block
 
-module _ {s : List ℕ} {view : ℕ} {c : Scale} {x : Blocks} (h : Stands s view c x) (bytes : All Byte s) where
+module _ {s : List ℕ} {view : ViewName} {c : Scale} {x : Blocks} (h : Stands s view c x) (bytes : All Byte s) where
   abbrev r : Record
   r = h .value
 
+  abbrev i : ℕ
+  i = h .place
+
   abbrev v : View
-  v = viewAt r view
+  v = viewAt r i
 
   abbrev first : ℕ
   first = x .extended .from
@@ -59,11 +63,11 @@ module _ {s : List ℕ} {view : ℕ} {c : Scale} {x : Blocks} (h : Stands s view
   header-is : part s (x .skeleton .from - 10) 8 ≡ headBytes (v .head)
   header-is =
       let (a, b, _) = read-back s r [] bytes (h .reads) in
-      let front : List ℕ = ahead r view (size r) in
-      let rest : List ℕ = blocksOut (r .head .scale .widths) v ++ behind r view in
+      let front : List ℕ = ahead r i (size r) in
+      let rest : List ℕ = blocksOut (r .head .scale .widths) v ++ behind r i in
       let e : s ≡ front ++ (headBytes (v .head) ++ rest) =
-      b ∙ written r a ∙ apart r view (h .there) ∙ ap (λ (xs : List ℕ). front ++ xs) (append-assoc (headBytes (v .head)) (blocksOut (r .head .scale .widths) v) (behind r view)) in
-      let n : length front ≡ x .skeleton .from - 10 = omega (arith, ahead-long r view (size r), h .blocks .before) in
+      b ∙ written r a ∙ apart r i (h .means .there) ∙ ap (λ (xs : List ℕ). front ++ xs) (append-assoc (headBytes (v .head)) (blocksOut (r .head .scale .widths) v) (behind r i)) in
+      let n : length front ≡ x .skeleton .from - 10 = omega (arith, ahead-long r i (size r), h .blocks .before) in
       ap (λ (xs : List ℕ). part xs (x .skeleton .from - 10) 8) e
       ∙ ap (take 8) (drop-at front (headBytes (v .head) ++ rest) (x .skeleton .from - 10) n)
 
@@ -87,7 +91,7 @@ module _ {s : List ℕ} {view : ℕ} {c : Scale} {x : Blocks} (h : Stands s view
       (ap (λ (a : ℕ). part s a 2) (sym z) ∙ sym (part-part s (x .skeleton .from - 10) 8 6 2 (omega (arith, far, lines-within)) (omega arith)) ∙ ap (λ (xs : List ℕ). part xs 6 2) header-is)
 
   -- the bits before the block
-  extended-bits : 8 * first ≡ bitsBefore r view + bitsAhead (r .head .scale .widths) v
+  extended-bits : 8 * first ≡ bitsBefore r i + bitsAhead (r .head .scale .widths) v
   extended-bits =
       let b = h .blocks in
       omega (arith, b .before, block-bits (b .lines), b .lines .from, b .next, block-bits (b .index), b .index .from, b .last)
@@ -103,7 +107,7 @@ module _ {s : List ℕ} {view : ℕ} {c : Scale} {x : Blocks} (h : Stands s view
     pub not-there : length block ≤ p .next → SegmentRefuses s view place noSegment 0
     not-there k =
         let z : length (v .segments) - p .count ≡ 0 = sym (length-drop (p .count) (v .segments)) ∙ ap length (segments-none block-bytes (left .1) k) in
-        record { is = λ f. no-segment view place f s (h .reads) (h .there) (omega (arith, P .upto)) }
+        record { is = λ f. no-segment view place f s (h .reads) (h .means) (omega (arith, P .upto)) }
 
     module _ (k : p .next < length block) where
       here : SegmentAt block (p .next) (drop (p .count) (v .segments)) []
@@ -161,23 +165,25 @@ module _ {s : List ℕ} {view : ℕ} {c : Scale} {x : Blocks} (h : Stands s view
           record {
             value = r;
             reads = h .reads;
+            i = i;
+            means = h .means;
             at = record {
-              there = h .there;
+              there = h .means .there;
               below = is-there .0;
               image = ap₂ (λ (a b : ℕ). record { width = a; height = b }) (ew ∙ its-width) (eh ∙ its-height);
               kind = ek ∙ kind-is ∙ ap (λ (y : Segment). y .kind) g;
               before = extended-bits;
               extended = h .blocks .segments;
-              first = omega (arith, extended-bits, left .2, ap (λ (i : ℕ). segmentBits (take i (v .segments))) count-is);
+              first = omega (arith, extended-bits, left .2, ap (λ (n : ℕ). segmentBits (take n (v .segments))) count-is);
               end = omega (arith, m, ap (λ (y : Segment). length (y .payload)) g);
               inside = omega (arith, m, within);
-              is = ap (λ (i : ℕ). part s (first + p .next + 4) i) z ∙ sym (in-record 4 (length (here .value .payload)) (omega arith)) ∙ its-payload here ∙ ap (λ (y : Segment). y .payload) g;
+              is = ap (λ (n : ℕ). part s (first + p .next + 4) n) z ∙ sym (in-record 4 (length (here .value .payload)) (omega arith)) ∙ its-payload here ∙ ap (λ (y : Segment). y .payload) g;
             };
           }
 
 -- ---- what a segment that is found brings with it
 
-module _ {s : List ℕ} {i place : ℕ} {x : Spot} (h : SegmentStands s i place x) where
+module _ {s : List ℕ} {name : ViewName} {place : ℕ} {x : Spot} (h : SegmentStands s name place x) where
   -- the payload's part is within the record, which is short
   pub bounds : (x .payload .from ≤ x .payload .to) × (x .payload .to ≤ length s) × (length s ≤ 32768)
   bounds = let a = h .at in (omega (arith, a .end), omega (arith, a .inside, a .extended .within), record-apart s (h .reads) .short)
@@ -187,5 +193,5 @@ module _ {s : List ℕ} {i place : ℕ} {x : Spot} (h : SegmentStands s i place 
   unfolding view viewHeader
   small-image =
       let r : Record = h .value in
-      let (_, f) = along-at tellSeen (λ s v. view (r .head .scale .widths) s .Fits v) noViewThere [] (r .views) i (h .at .there) (read-is s r [] (h .reads) .0 .fits .views) in
+      let (_, f) = along-at tellSeen (λ s v. view (r .head .scale .widths) s .Fits v) noViewThere [] (r .views) (h .i) (h .at .there) (read-is s r [] (h .reads) .0 .fits .views) in
       rw (h .at .image) (f .0 .0 .0 .width, f .0 .0 .0 .height)

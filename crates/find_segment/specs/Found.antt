@@ -9,6 +9,8 @@ use Rattle.format.specs.Segments.{segments}
 use Rattle.format.specs.Record.{Record, read}
 use Rattle.format.specs.Places.{viewAt, imageOf, segmentAt, bitsBefore, bitsAhead, firstBit}
 use Rattle.format.specs.Call.{onSegment}
+use Rattle.format.specs.Named.{Means}
+use Rattle.format.specs.declared.ViewName.{ViewName}
 use Rattle.find_parts.specs.Stands.{BlockAt}
 use Rattle.find_segment.specs.declared.Spot.{Spot}
 use Rattle.find_segment.specs.declared.FoundSegment.{FoundSegment}
@@ -28,22 +30,24 @@ pub record SpotOf (r : Record) (s : List ℕ) (i place : ℕ) (x : Spot) : Type 
   pub inside : x .payload .to ≤ x .extended .to
   pub is : take (x .payload .to - x .payload .from) (drop (x .payload .from) s) ≡ segmentAt (viewAt r i) place .payload
 
--- the bytes s are a record's, and its segment stands at x
-pub record SegmentStands (s : List ℕ) (view place : ℕ) (x : Spot) : Type 0 where
+-- the bytes s are a record's, the view that is named is its view i, and the segment stands at x
+pub record SegmentStands (s : List ℕ) (view : ViewName) (place : ℕ) (x : Spot) : Type 0 where
   pub value : Record
   pub reads : read s ≡ got value []
-  pub at : SpotOf value s view place x
+  pub i : ℕ
+  pub means : Means view value i
+  pub at : SpotOf value s i place x
 
 -- some segment of a record stands at x
 pub record SpotThere (s : List ℕ) (x : Spot) : Type 0 where
-  pub view : ℕ
+  pub view : ViewName
   pub place : ℕ
   pub stands : SegmentStands s view place x
 
 -- every call on the segment is refused with the number e at the place p, whatever it asks
-pub record SegmentRefuses (s : List ℕ) (view place e p : ℕ) : Type 0 where
+pub record SegmentRefuses (s : List ℕ) (view : ViewName) (place e p : ℕ) : Type 0 where
   pub is : (f : ℕ → Record → Outcome ℕ) → onSegment view place f s ≡ refused e p
 
-abbrev pub FindsSegment : List ℕ → (view place : ℕ) → FoundSegment → Type 0
+abbrev pub FindsSegment : List ℕ → ViewName → (place : ℕ) → FoundSegment → Type 0
 FindsSegment s view place (f.At x) = SegmentStands s view place x
 FindsSegment s view place (f.Refused e p) = SegmentRefuses s view place e p

@@ -8,6 +8,7 @@ use find_parts::view::Part;
 use find_view::FoundView;
 use find_view::find_view;
 use format::Image;
+use format::ViewName;
 use outcome::Refusal;
 
 // The size of its view's image, its view's extended block, its type, and its payload.
@@ -24,7 +25,7 @@ pub enum FoundSegment {
     Refused { number: u32, bit: u32 },
 }
 
-pub fn find_segment(bytes: &[u8], view: usize, place: usize) -> FoundSegment
+pub fn find_segment(bytes: &[u8], view: ViewName, place: usize) -> FoundSegment
     ensures { λ r. ⌜ FindsSegment (now (bytes .entry)) view place r ⌝ }
 {
     match find_view(bytes, view) {

@@ -12,6 +12,8 @@ use Rattle.outcome.specs.Refusals.{noView, noSegment}
 use Rattle.outcome.specs.Outcome.{Outcome, refused}
 use Rattle.format.specs.Record.{Record, read}
 use Rattle.format.specs.Places.{viewAt}
+use Rattle.format.specs.Named.{placeIn}
+use Rattle.format.specs.declared.ViewName.{ViewName}
 
 -- a refusal's place is counted from the start of the bytes, which have n bits
 abbrev pub fromRead : {A : Type 0} → ℕ → (Record → Outcome A) → Read Bool Record → Outcome A
@@ -21,16 +23,18 @@ fromRead n f (C.refused e left) = refused e (n - left)
 unfoldable pub onRecord : {A : Type 0} → (Record → Outcome A) → List ℕ → Outcome A
 onRecord f bytes = fromRead (8 * length bytes) f (read bytes)
 
--- "no view with that place": 13. A view is named by its place; f is told the place of the view that is meant.
-abbrev pub inView : {A : Type 0} → ℕ → (ℕ → Record → Outcome A) → Record → Outcome A
-inView view f r = pick (ltb view (length (r .views))) (f view r) (refused noView 0)
+-- "no view has the pair": 13. A view is named by finger position and view number; f is told its place.
+abbrev pub inView : {A : Type 0} → ViewName → (ℕ → Record → Outcome A) → Record → Outcome A
+inView view f r =
+    let i : ℕ = placeIn view (r .views) in
+    pick (ltb i (length (r .views))) (f i r) (refused noView 0)
 
-unfoldable pub onView : {A : Type 0} → ℕ → (ℕ → Record → Outcome A) → List ℕ → Outcome A
+unfoldable pub onView : {A : Type 0} → ViewName → (ℕ → Record → Outcome A) → List ℕ → Outcome A
 onView view f = onRecord (inView view f)
 
 -- "no segment with that place": 23, behind 13. A segment is named by its view and its place there.
 abbrev pub inSegment : {A : Type 0} → ℕ → (ℕ → Record → Outcome A) → ℕ → Record → Outcome A
-inSegment place f view r = pick (ltb place (length (viewAt r view .segments))) (f view r) (refused noSegment 0)
+inSegment place f i r = pick (ltb place (length (viewAt r i .segments))) (f i r) (refused noSegment 0)
 
-unfoldable pub onSegment : {A : Type 0} → (view place : ℕ) → (ℕ → Record → Outcome A) → List ℕ → Outcome A
+unfoldable pub onSegment : {A : Type 0} → ViewName → (place : ℕ) → (ℕ → Record → Outcome A) → List ℕ → Outcome A
 onSegment view place f = onView view (inSegment place f)

@@ -9,6 +9,7 @@ pub mod Segments
 pub mod View
 pub mod Record
 pub mod Places
+pub mod Named
 pub mod SheetSize
 pub mod Call
 pub mod Sample

@@ -57,7 +57,7 @@ bitsAhead w v = 80 + length (skeleton w .enc (v .lines)) + 16 + length (indexBlo
 abbrev pub segmentBits : List Segment → ℕ
 segmentBits gs = total (λ g. length (segment .enc g)) gs
 
--- the first bit of a payload, behind its type and its length
-abbrev pub firstBit : (view place : ℕ) → Record → ℕ
-firstBit view place r =
-    bitsBefore r view + bitsAhead (r .head .scale .widths) (viewAt r view) + segmentBits (take place (viewAt r view .segments)) + 32
+-- the first bit of a payload of view i, behind its type and its length
+abbrev pub firstBit : (i place : ℕ) → Record → ℕ
+firstBit i place r =
+    bitsBefore r i + bitsAhead (r .head .scale .widths) (viewAt r i) + segmentBits (take place (viewAt r i .segments)) + 32

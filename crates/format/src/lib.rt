@@ -42,6 +42,12 @@ pub struct ViewHeader {
     pub height: usize,
 }
 
+// How a call names a view: finger position and view number.
+pub struct ViewName {
+    pub finger: u32,
+    pub number: u32,
+}
+
 // The lines of a view.
 impl ViewHeader {
     pub const MOST_LINES: usize = 1024;

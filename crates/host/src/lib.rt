@@ -2,6 +2,7 @@
 ghost use mathlib.Core.Path.{_≡_};
 ghost use mathlib.Core.Bool.{true, false};
 ghost use Rattle.outcome.specs.Outcome.{Answers, AnswersInBytes};
+ghost use Rattle.format.specs.Named.{named};
 ghost use Rattle.sheet.specs.Sheet.{reading, writing};
 ghost use Rattle.trail.specs.Trail.{trailing};
 ghost use Rattle.segment.specs.Segment.{segmentAnswer};
@@ -10,6 +11,7 @@ ghost use Rattle.orders.specs.Order.{order};
 ghost use Rattle.order_holds.specs.Held.{held};
 ghost use Rattle.orders.specs.Called.{removalOrder, pairOrder};
 ghost use Rattle.orders.specs.Pairs.{pairsCall, pairs};
+use format::ViewName;
 use order_holds::Held;
 use order_holds::which_holds;
 use ordering::join;
@@ -39,66 +41,93 @@ pub extern "C" fn fsk_write(sheet: &[u8], bytes: &mut [u8]) -> Answer
 }
 
 #[no_mangle]
-pub extern "C" fn fsk_trail(bytes: &[u8], view: u32, line: u32, out: &mut [u8]) -> Answer
-    ensures { λ r. ⌜ AnswersInBytes (trailing view line (now (bytes .entry))) (now (out .entry)) (now (out .exit)) r ⌝ }
+pub extern "C" fn fsk_trail(
+    bytes: &[u8],
+    finger: u32,
+    number: u32,
+    line: u32,
+    out: &mut [u8],
+) -> Answer
+    ensures { λ r. ⌜ AnswersInBytes (trailing (named finger number) line (now (bytes .entry))) (now (out .entry)) (now (out .exit)) r ⌝ }
 {
-    trail_as_bytes(bytes, view as usize, line as usize, out)
+    trail_as_bytes(bytes, ViewName { finger, number }, line as usize, out)
 }
 
 #[no_mangle]
-pub extern "C" fn fsk_segment(bytes: &[u8], view: u32, place: u32) -> Answer
-    ensures { λ r. ⌜ r ≡ segmentAnswer view place (now (bytes .entry)) ⌝ }
+pub extern "C" fn fsk_segment(bytes: &[u8], finger: u32, number: u32, place: u32) -> Answer
+    ensures { λ r. ⌜ r ≡ segmentAnswer (named finger number) place (now (bytes .entry)) ⌝ }
 {
-    segment(bytes, view as usize, place as usize)
+    segment(bytes, ViewName { finger, number }, place as usize)
 }
 
 #[no_mangle]
-pub extern "C" fn fsk_quality(bytes: &[u8], view: u32, place: u32, values: &mut [u8]) -> Answer
-    ensures { λ r. ⌜ Answers (quality view place (now (bytes .entry))) (now (values .entry)) (now (values .exit)) r ⌝ }
+pub extern "C" fn fsk_quality(
+    bytes: &[u8],
+    finger: u32,
+    number: u32,
+    place: u32,
+    values: &mut [u8],
+) -> Answer
+    ensures { λ r. ⌜ Answers (quality (named finger number) place (now (bytes .entry))) (now (values .entry)) (now (values .exit)) r ⌝ }
 {
-    quality(bytes, view as usize, place as usize, values)
+    quality(bytes, ViewName { finger, number }, place as usize, values)
 }
 
 #[no_mangle]
 pub extern "C" fn fsk_set_quality(
     bytes: &[u8],
-    view: u32,
+    finger: u32,
+    number: u32,
     place: u32,
     values: &[u8],
     out: &mut [u8],
 ) -> Answer
-    ensures { λ r. ⌜ Answers (setQuality view place (now (values .entry)) (now (bytes .entry))) (now (out .entry)) (now (out .exit)) r ⌝ }
+    ensures { λ r. ⌜ Answers (setQuality (named finger number) place (now (values .entry)) (now (bytes .entry))) (now (out .entry)) (now (out .exit)) r ⌝ }
 {
-    set_quality(bytes, view as usize, place as usize, values, out)
+    set_quality(
+        bytes,
+        ViewName { finger, number },
+        place as usize,
+        values,
+        out,
+    )
 }
 
 #[no_mangle]
 pub extern "C" fn fsk_remove(
     bytes: &[u8],
-    view: u32,
+    finger: u32,
+    number: u32,
     count: u32,
     lines: &[u8],
     out: &mut [u8],
 ) -> Answer
-    ensures { λ r. ⌜ Answers (order (removalOrder view count (now (lines .entry))) (now (bytes .entry))) (now (out .entry)) (now (out .exit)) r ⌝ }
+    ensures { λ r. ⌜ Answers (order (removalOrder (named finger number) count (now (lines .entry))) (now (bytes .entry))) (now (out .entry)) (now (out .exit)) r ⌝ }
 {
-    remove(bytes, view as usize, count as usize, lines, out)
+    remove(
+        bytes,
+        ViewName { finger, number },
+        count as usize,
+        lines,
+        out,
+    )
 }
 
 #[no_mangle]
 pub extern "C" fn fsk_join(
     bytes: &[u8],
-    view: u32,
+    finger: u32,
+    number: u32,
     count: u32,
     a: u32,
     b: u32,
     out: &mut [u8],
 ) -> Answer
-    ensures { λ r. ⌜ Answers (order (pairOrder view count a b true) (now (bytes .entry))) (now (out .entry)) (now (out .exit)) r ⌝ }
+    ensures { λ r. ⌜ Answers (order (pairOrder (named finger number) count a b true) (now (bytes .entry))) (now (out .entry)) (now (out .exit)) r ⌝ }
 {
     join(
         bytes,
-        view as usize,
+        ViewName { finger, number },
         count as usize,
         a as usize,
         b as usize,
@@ -109,17 +138,18 @@ pub extern "C" fn fsk_join(
 #[no_mangle]
 pub extern "C" fn fsk_part(
     bytes: &[u8],
-    view: u32,
+    finger: u32,
+    number: u32,
     count: u32,
     a: u32,
     b: u32,
     out: &mut [u8],
 ) -> Answer
-    ensures { λ r. ⌜ Answers (order (pairOrder view count a b false) (now (bytes .entry))) (now (out .entry)) (now (out .exit)) r ⌝ }
+    ensures { λ r. ⌜ Answers (order (pairOrder (named finger number) count a b false) (now (bytes .entry))) (now (out .entry)) (now (out .exit)) r ⌝ }
 {
     part(
         bytes,
-        view as usize,
+        ViewName { finger, number },
         count as usize,
         a as usize,
         b as usize,
@@ -130,14 +160,21 @@ pub extern "C" fn fsk_part(
 #[no_mangle]
 pub extern "C" fn fsk_pairs(
     bytes: &[u8],
-    view: u32,
+    finger: u32,
+    number: u32,
     count: u32,
     list: &[u8],
     out: &mut [u8],
 ) -> Answer
-    ensures { λ r. ⌜ Answers (pairs (pairsCall view count (now (list .entry)) (now (out .entry))) (now (bytes .entry))) (now (out .entry)) (now (out .exit)) r ⌝ }
+    ensures { λ r. ⌜ Answers (pairs (pairsCall (named finger number) count (now (list .entry)) (now (out .entry))) (now (bytes .entry))) (now (out .entry)) (now (out .exit)) r ⌝ }
 {
-    pairs(bytes, view as usize, count as usize, list, out)
+    pairs(
+        bytes,
+        ViewName { finger, number },
+        count as usize,
+        list,
+        out,
+    )
 }
 
 #[no_mangle]

@@ -16,8 +16,8 @@ use Rattle.order_carry.specs.Carried.{sizeNumber}
 pub record Indexed (s : List ℕ) (x : Site) : Type 0 where
   pub value : Record
   pub reads : read s ≡ got value []
-  pub view : ℕ
-  pub at : SiteOf value s view x
+  pub place : ℕ
+  pub at : SiteOf value s place x
   pub index : x .index .from < x .index .to
 
 -- ---- at most
@@ -36,7 +36,7 @@ pub record AtMost (s : List ℕ) (x : Site) (orders r : ℕ) : Type 0 where
 pub record SizeThere (s : List ℕ) (x : Site) (words : List ℕ) : Type 0 where
   pub there : Indexed s x
   pub few : length words / 6 ≤ 4294967296
-  pub passed : Passed (heardIn words) (viewAt (there .value) (there .view))
+  pub passed : Passed (heardIn words) (viewAt (there .value) (there .place))
 
 pub record SizeSeen (s : List ℕ) (x : Site) (words : List ℕ) (lent r : ℕ) : Type 0 where
   pub is : (o : Record) (i : ℕ) → read s ≡ got o [] → SiteOf o s i x → Passed (heardIn words) (viewAt o i)

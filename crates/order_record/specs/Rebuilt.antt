@@ -30,10 +30,10 @@ newRecord removal words i r = withView r i (newView removal words (viewAt r i))
 pub record Placed (s : List ℕ) (x : Site) (words removal : List ℕ) : Type 0 where
   pub value : Record
   pub reads : read s ≡ got value []
-  pub view : ℕ
-  pub at : SiteOf value s view x
+  pub place : ℕ
+  pub at : SiteOf value s place x
   pub rising : Rising removal
-  pub keeps : Keeps removal words (viewAt value view .index)
+  pub keeps : Keeps removal words (viewAt value place .index)
 
 -- m says how long the blocks of view i and the record r become
 pub record SizesOf (r : Record) (i : ℕ) (words removal : List ℕ) (m : Sizes) : Type 0 where
@@ -48,7 +48,7 @@ pub record Measured (s : List ℕ) (x : Site) (words removal : List ℕ) (m : Si
 
 pub record RebuildRoom (s : List ℕ) (x : Site) (words removal : List ℕ) (m : Sizes) (out : List ℕ) : Type 0 where
   pub placed : Placed s x words removal
-  pub sizes : SizesOf (placed .value) (placed .view) words removal m
+  pub sizes : SizesOf (placed .value) (placed .place) words removal m
   pub small : m .bytes ≤ 32768
   pub room : m .bytes ≤ length out
 

@@ -8,6 +8,7 @@ use mathlib.Core.List.{List}
 use Rattle.outcome.specs.Refusals.{otherCount}
 use Rattle.format.specs.Places.{viewAt, count}
 use Rattle.format.specs.declared.Scale.{Scale}
+use Rattle.format.specs.declared.ViewName.{ViewName}
 use Rattle.orders.specs.Act.{Act}
 use Rattle.orders.specs.Order.{Order, ordered, order}
 use Rattle.orders.specs.Pairs.{PairsCall}
@@ -20,32 +21,32 @@ use Rattle.find_parts.specs.declared.site.Site.{Site}
 use Rattle.find_view.specs.Found.{Stands, Refuses}
 use Rattle.order_view.specs.Named.{Named, NotNamed}
 
-abbrev naming : (view n : ℕ) → Act → Order
+abbrev naming : (view : ViewName) (n : ℕ) → Act → Order
 naming view n a = record { view = view; count = n; act = a }
 
-abbrev listing : (view n : ℕ) → List ℕ → ℕ → PairsCall
+abbrev listing : (view : ViewName) (n : ℕ) → List ℕ → ℕ → PairsCall
 listing view n list lent = record { view = view; count = n; list = list; lent = lent }
 
-module _ {s : List ℕ} {view : ℕ} (n : ℕ) where
+module _ {s : List ℕ} {view : ViewName} (n : ℕ) where
   pub not-found : {e p : ℕ} → Refuses s view e p → NotNamed s view n e p
   unfolding order
-  not-found h = record { order = λ a. h .is (λ i. ordered (naming view n a)); pairs = λ list lent. pairs-view (listing view n list lent) s (h .is) }
+  not-found h = record { order = λ a. h .is (ordered (naming view n a)); pairs = λ list lent. pairs-view (listing view n list lent) s (h .is) }
 
   module _ {c : Scale} {x : Blocks} (h : Stands s view c x) where
     pub site-there : SiteThere s x (c .widths)
-    site-there = record { value = h .value; reads = h .reads; widths = ap (λ (y : Scale). y .widths) (h .scale); view = view; blocks = h .blocks }
+    site-there = record { value = h .value; reads = h .reads; widths = ap (λ (y : Scale). y .widths) (h .scale); place = h .place; blocks = h .blocks }
 
     module _ {y : Site} (F : SiteFound s x (c .widths) y) where
-      site-of : SiteOf (h .value) s view y
-      site-of = F .is (h .value) view (ap (λ (y : Scale). y .widths) (h .scale)) (h .there) (h .blocks)
+      site-of : SiteOf (h .value) s (h .place) y
+      site-of = F .is (h .value) (h .place) (ap (λ (y : Scale). y .widths) (h .scale)) (h .means .there) (h .blocks)
 
       pub is-named : y .lines ≡ n → Named s view n y
-      is-named e = record { value = h .value; reads = h .reads; at = site-of; count = e }
+      is-named e = record { value = h .value; reads = h .reads; place = h .place; means = h .means; at = site-of; count = e }
 
       pub other-count : y .lines ≢ n → NotNamed s view n otherCount 0
       other-count d =
-          let k : count (viewAt (h .value) view) ≢ n = λ z. d (site-of .count ∙ z) in
+          let k : count (viewAt (h .value) (h .place)) ≢ n = λ z. d (site-of .count ∙ z) in
           record {
-            order = λ a. order-refused (naming view n a) s (h .reads) (h .there) otherCount (verdict-count (naming view n a) (h .value) k) (omega arith);
-            pairs = λ list lent. pairs-count (listing view n list lent) s (h .reads) (h .there) k;
+            order = λ a. order-refused (naming view n a) s (h .reads) (h .means) otherCount (verdict-count (naming view n a) (h .place) (h .value) k) (omega arith);
+            pairs = λ list lent. pairs-count (listing view n list lent) s (h .reads) (h .means) k;
           }

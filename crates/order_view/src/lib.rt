@@ -1,9 +1,10 @@
-// The view that an order names, by its place and the line count that the order was made for, whatever else it orders.
+// The view that an order names, and the line count that the order was made for, whatever else it orders.
 ghost use Rattle.order_view.specs.Named.{ViewNamed};
 use find_parts::site::Site;
 use find_parts::site::site_at;
 use find_view::FoundView;
 use find_view::find_view;
+use format::ViewName;
 use outcome::Refusal;
 
 // Where the view stands that an order names and was made for; or the number and the place of the refusal.
@@ -13,7 +14,7 @@ pub enum NamedView {
 }
 
 // The view of any bytes: 1 to 13, 14.
-pub fn named_view(bytes: &[u8], view: usize, count: usize) -> NamedView
+pub fn named_view(bytes: &[u8], view: ViewName, count: usize) -> NamedView
     ensures { λ r. ⌜ ViewNamed (now (bytes .entry)) view count r ⌝ }
 {
     match find_view(bytes, view) {

@@ -12,7 +12,7 @@ use Rattle.orders.specs.Survive.{elem}
 use Rattle.orders.specs.Act.{Word, insert, delete, change, after}
 use Rattle.orders.specs.Order.{Pass, tests, edited}
 use Rattle.orders.specs.Listed.{words}
-use Rattle.orders.specs.Called.{pairAct, wordOrder}
+use Rattle.orders.specs.Called.{wordAct}
 use Rattle.orders.specs.History.{said}
 
 -- ---- the words of a list
@@ -36,12 +36,12 @@ heardIn list = heard (words list) (length list / 6)
 
 abbrev pub viewAfter : List Word → View → View
 viewAfter [] v = v
-viewAfter (w ∷ hs) v = after (pairAct (w .joins) (w .one) (w .other)) (viewAfter hs v)
+viewAfter (w ∷ hs) v = after (wordAct w) (viewAfter hs v)
 
--- the view has place `view`, and the orders were made for `count` lines
-abbrev pub recordAfter : (view count : ℕ) → List Word → Record → Record
-recordAfter view count [] r = r
-recordAfter view count (w ∷ hs) r = edited (wordOrder view count w) (recordAfter view count hs r)
+-- the view has place i
+abbrev pub recordAfter : ℕ → List Word → Record → Record
+recordAfter i [] r = r
+recordAfter i (w ∷ hs) r = edited i (wordAct w) (recordAfter i hs r)
 
 -- the list of the higher line gets the lower one, or loses it
 abbrev pub wordLists : Word → List (List ℕ) → List (List ℕ)
@@ -54,7 +54,7 @@ listsAfter (w ∷ hs) ls = wordLists w (listsAfter hs ls)
 -- each has passed its own tests, on the view that those before it left
 abbrev pub Passed : List Word → View → Type 0
 Passed [] v = Unit {0}
-Passed (w ∷ hs) v = Pass (tests (pairAct (w .joins) (w .one) (w .other)) (viewAfter hs v)) × Passed hs v
+Passed (w ∷ hs) v = Pass (tests (wordAct w) (viewAfter hs v)) × Passed hs v
 
 -- ---- by the words alone
 

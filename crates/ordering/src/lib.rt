@@ -8,6 +8,7 @@ ghost use Rattle.orders.specs.Called.{removalOrder, pairOrder};
 ghost use Rattle.orders.specs.Pairs.{pairsCall, pairs};
 ghost use Rattle.ordering.specs.Orders.{PairsThere, PairsDone};
 use find_parts::site::Site;
+use format::ViewName;
 use order_carry::carry_out;
 use order_pairs::judge::Judged;
 use order_pairs::judge::judge_list;
@@ -23,7 +24,7 @@ use outcome::refuse;
 use outcome::refuse_at;
 
 // Lines removed: the numbers of `removal`, two bytes each, high byte first. 15, 16 are its own.
-pub fn remove(bytes: &[u8], view: usize, count: usize, removal: &[u8], out: &mut [u8]) -> Answer
+pub fn remove(bytes: &[u8], view: ViewName, count: usize, removal: &[u8], out: &mut [u8]) -> Answer
     ensures { λ r. ⌜ Answers (order (removalOrder view count (now (removal .entry))) (now (bytes .entry))) (now (out .entry)) (now (out .exit)) r ⌝ }
 {
     match named_view(bytes, view, count) {
@@ -57,7 +58,7 @@ fn pairs_at(bytes: &[u8], site: Site, list: &[u8], out: &mut [u8]) -> Answer
 
 fn pair(
     bytes: &[u8],
-    view: usize,
+    view: ViewName,
     count: usize,
     a: usize,
     b: usize,
@@ -85,14 +86,28 @@ fn pair(
 }
 
 // Lines a and b made neighbours.
-pub fn join(bytes: &[u8], view: usize, count: usize, a: usize, b: usize, out: &mut [u8]) -> Answer
+pub fn join(
+    bytes: &[u8],
+    view: ViewName,
+    count: usize,
+    a: usize,
+    b: usize,
+    out: &mut [u8],
+) -> Answer
     ensures { λ r. ⌜ Answers (order (pairOrder view count a b true) (now (bytes .entry))) (now (out .entry)) (now (out .exit)) r ⌝ }
 {
     pair(bytes, view, count, a, b, true, out)
 }
 
 // Lines a and b made neighbours no more.
-pub fn part(bytes: &[u8], view: usize, count: usize, a: usize, b: usize, out: &mut [u8]) -> Answer
+pub fn part(
+    bytes: &[u8],
+    view: ViewName,
+    count: usize,
+    a: usize,
+    b: usize,
+    out: &mut [u8],
+) -> Answer
     ensures { λ r. ⌜ Answers (order (pairOrder view count a b false) (now (bytes .entry))) (now (out .entry)) (now (out .exit)) r ⌝ }
 {
     pair(bytes, view, count, a, b, false, out)
@@ -100,7 +115,7 @@ pub fn part(bytes: &[u8], view: usize, count: usize, a: usize, b: usize, out: &m
 
 // The orders of the list, one after another: three numbers of two bytes each, high byte first: 0 join or 1 part, and two lines. 17 and
 // 25 come first.
-pub fn pairs(bytes: &[u8], view: usize, count: usize, list: &[u8], out: &mut [u8]) -> Answer
+pub fn pairs(bytes: &[u8], view: ViewName, count: usize, list: &[u8], out: &mut [u8]) -> Answer
     ensures { λ r. ⌜ Answers (pairs (pairsCall view count (now (list .entry)) (now (out .entry))) (now (bytes .entry))) (now (out .entry)) (now (out .exit)) r ⌝ }
 {
     match named_view(bytes, view, count) {

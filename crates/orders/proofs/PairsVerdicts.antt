@@ -15,7 +15,9 @@ use Rattle.format.specs.Index.{index, indexBlock}
 use Rattle.format.specs.Segments.{segment, segments}
 use Rattle.format.specs.View.{view, viewHeader}
 use Rattle.format.specs.Record.{header, views, recordOf, read, size, write}
+use Rattle.format.specs.Named.{named}
 use Rattle.format.specs.Call.{onRecord, onView}
+use Rattle.format.specs.declared.ViewName.{ViewName}
 use Rattle.format.specs.Sample.{sampleA}
 use Rattle.orders.specs.Least.{leastWidth}
 use Rattle.orders.specs.Act.{near, after}
@@ -66,20 +68,20 @@ pub record Row : Type 0 where
   pub bytes : List ℕ
   pub gives : Outcome ℕ
 
-abbrev rowOf : (view count lent : ℕ) → List ℕ → List ℕ → Outcome ℕ → Row
+abbrev rowOf : ViewName → (count lent : ℕ) → List ℕ → List ℕ → Outcome ℕ → Row
 rowOf view count lent orders bytes o =
     record { call = record { view = view; count = count; list = orders; lent = lent }; bytes = bytes; gives = o }
 
--- on view 0 of two lines, with room for so many bytes
+-- on A's view, which is the first of finger 2, for a count of two lines, with room for so many bytes
 abbrev row : ℕ → List ℕ → List ℕ → Outcome ℕ → Row
-row = rowOf 0 2
+row = rowOf (named 2 0) 2
 
 abbrev table : List Row
 table =
     -- the record's own refusal first, with its place
     row 99 [] (set sampleA 17 3) (refused 5 136)
     -- 13, 14, 17, each before the next ones and before 25
-    ∷ rowOf 1 3 99 [] sampleA (refused 13 0) ∷ rowOf 0 3 99 [] noIndex (refused 14 0) ∷ row 99 [] noIndex (refused 17 0)
+    ∷ rowOf (named 0 2) 3 99 [] sampleA (refused 13 0) ∷ rowOf (named 2 0) 3 99 [] noIndex (refused 14 0) ∷ row 99 [] noIndex (refused 17 0)
     ∷ row 99 (joined 0 2) noIndex (refused 17 0)
     -- 25: empty; a byte short, a byte over; a first number above 1, also by its high byte; in the last order, where an earlier one
     -- would be refused; without room

@@ -14,7 +14,9 @@ use Rattle.format.specs.Index.{index, indexBlock}
 use Rattle.format.specs.Segments.{segment, segments}
 use Rattle.format.specs.View.{view, viewHeader}
 use Rattle.format.specs.Record.{header, views, recordOf, read, size, write}
+use Rattle.format.specs.Named.{named}
 use Rattle.format.specs.Call.{onRecord, onView}
+use Rattle.format.specs.declared.ViewName.{ViewName}
 use Rattle.format.specs.Sample.{sampleA, headerA, viewHeaderA, linesA, wide, wider}
 use Rattle.orders.specs.Least.{leastWidth}
 use Rattle.orders.specs.Act.{Act, remove, join, part, near, after}
@@ -35,9 +37,12 @@ pub record Row : Type 0 where
   pub bytes : List ℕ
   pub gives : Outcome ℕ
 
--- on view 0 of two lines
+abbrev rowOf : ViewName → (count : ℕ) → Act → List ℕ → Outcome ℕ → Row
+rowOf view count a bytes o = record { order = record { view = view; count = count; act = a }; bytes = bytes; gives = o }
+
+-- on A's view, which is the first of finger 2, for a count of two lines
 abbrev row : Act → List ℕ → Outcome ℕ → Row
-row a bytes o = record { order = record { view = 0; count = 2; act = a }; bytes = bytes; gives = o }
+row a bytes o = rowOf (named 2 0) 2 a bytes o
 
 abbrev parted : List ℕ
 parted = twoLines 56 (indexed 0x00) none
@@ -66,9 +71,10 @@ abbrev table : List Row
 table =
     -- the record's own refusal first, with its place
     row (remove (0 ∷ [])) (set sampleA 17 3) (refused 5 136)
-    -- 13, 14
-    ∷ record { order = record { view = 1; count = 0; act = remove [] }; bytes = sampleA; gives = refused 13 0 }
-    ∷ record { order = record { view = 0; count = 3; act = remove [] }; bytes = sampleA; gives = refused 14 0 }
+    -- 13: another finger, another number, the two exchanged, and numbers of more than 8 bits; 14
+    ∷ rowOf (named 1 0) 0 (remove []) sampleA (refused 13 0) ∷ rowOf (named 2 1) 0 (remove []) sampleA (refused 13 0)
+    ∷ rowOf (named 0 2) 0 (remove []) sampleA (refused 13 0) ∷ rowOf (named 258 0) 0 (remove []) sampleA (refused 13 0)
+    ∷ rowOf (named 2 256) 0 (remove []) sampleA (refused 13 0) ∷ rowOf (named 2 0) 3 (remove []) sampleA (refused 14 0)
     -- 15, also before 16
     ∷ row (remove []) (withSegments (ofType 0x00 0x04)) (refused 15 0) ∷ row (remove (2 ∷ [])) sampleA (refused 15 0)
     ∷ row (remove (0 ∷ 0 ∷ [])) sampleA (refused 15 0) ∷ row (remove (1 ∷ 0 ∷ [])) sampleA (refused 15 0)
@@ -100,7 +106,7 @@ table =
     ∷ row (remove (1 ∷ [])) (withSegments cells)
     (given (headerA 56 8 ++ viewHeaderA 8 ++ linesA 1 ++ indexed 0x00 ++ 0x00 ∷ 0x08 ∷ cells))
     -- a removal that lengthens the index
-    ∷ record { order = record { view = 0; count = 31; act = remove (15 ∷ []) }; bytes = wide; gives = given wider }
+    ∷ rowOf (named 2 0) 31 (remove (15 ∷ [])) wide (given wider)
     ∷ []
 
 abbrev computed : Row → Outcome ℕ

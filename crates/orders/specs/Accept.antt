@@ -1,13 +1,14 @@
 -- When a call for an order is accepted: its number is 0 exactly where this holds. And when a list of pairs is refused with 25.
 use mathlib.Core.Path.{_≡_}
-use Prim.Native.Nat.{ℕ, _≤_, _<_}
+use Prim.Native.Nat.{ℕ, _≤_}
 use mathlib.Core.Bool.{not}
 use mathlib.Core.List.{List, []}
-use lib.ListN.{length}
 use lib.Dec.{T}
 use Rattle.bits.specs.Codec.{got}
 use Rattle.format.specs.Record.{Record, read, size}
 use Rattle.format.specs.Places.{viewAt, count}
+use Rattle.format.specs.Named.{Means}
+use Rattle.format.specs.declared.ViewName.{ViewName}
 use Rattle.orders.specs.Act.{indexed?}
 use Rattle.orders.specs.Listed.{shapeOk}
 use Rattle.orders.specs.Order.{edited, Accepted}
@@ -18,19 +19,21 @@ use Rattle.orders.specs.History.{Call}
 pub record AcceptedCall (c : Call) (bytes : List ℕ) : Type 0 where
   pub value : Record
   pub reads : read bytes ≡ got value []
-  pub order : Accepted (c .order) value
-  pub room : size (edited (c .order) value) ≤ c .lent
+  pub place : ℕ
+  pub order : Accepted (c .order) place value
+  pub room : size (edited place (c .order .act) value) ≤ c .lent
 
 -- ---- a list of pairs
 
 -- its view is there, and has the count and an index
-pub record ReadyView (view n : ℕ) (r : Record) : Type 0 where
-  pub place : view < length (r .views)
-  pub count : count (viewAt r view) ≡ n
-  pub indexed : T (indexed? (viewAt r view))
+pub record ReadyView (view : ViewName) (n : ℕ) (r : Record) : Type 0 where
+  pub place : ℕ
+  pub means : Means view r place
+  pub count : count (viewAt r place) ≡ n
+  pub indexed : T (indexed? (viewAt r place))
 
 -- the bytes read as a record that has such a view, and the list is empty or has another shape
-pub record BrokenPairs (view n : ℕ) (list bytes : List ℕ) : Type 0 where
+pub record BrokenPairs (view : ViewName) (n : ℕ) (list bytes : List ℕ) : Type 0 where
   pub value : Record
   pub reads : read bytes ≡ got value []
   pub ready : ReadyView view n value

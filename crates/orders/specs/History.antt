@@ -12,6 +12,8 @@ use Rattle.outcome.specs.Outcome.{Outcome, refused, given, room, numberOf}
 use Rattle.format.specs.Index.{Index}
 use Rattle.format.specs.View.{View}
 use Rattle.format.specs.Places.{count, lineAt}
+use Rattle.format.specs.Named.{sameName}
+use Rattle.format.specs.declared.ViewName.{ViewName}
 use Rattle.orders.specs.Survive.{at, upFrom, survivors, RisesFrom}
 use Rattle.orders.specs.Least.{leastWidth}
 use Rattle.orders.specs.Act.{Act, remove, join, part, Word, near, indexed?}
@@ -54,12 +56,12 @@ tell (remove rs) h = record { left = map (at (h .left)) (survivors (length (h .l
 tell (join a b) h = record { left = h .left; words = record { one = at (h .left) a; other = at (h .left) b; joins = true } ∷ h .words; accepted = suc (h .accepted) }
 tell (part a b) h = record { left = h .left; words = record { one = at (h .left) a; other = at (h .left) b; joins = false } ∷ h .words; accepted = suc (h .accepted) }
 
--- the history of view i through a sequence
-abbrev pub history : ℕ → List Call → List ℕ → History → History
-history i [] bytes h = h
-history i (c ∷ cs) bytes h =
+-- the history of the view with that name through a sequence
+abbrev pub history : ViewName → List Call → List ℕ → History → History
+history view [] bytes h = h
+history view (c ∷ cs) bytes h =
     let o : Outcome ℕ = outcome c bytes in
-    history i cs (nowHolds bytes o) (pick (eqb (numberOf o) 0 && eqb (c .order .view) i) (tell (c .order .act) h) h)
+    history view cs (nowHolds bytes o) (pick (eqb (numberOf o) 0 && sameName (c .order .view) view) (tell (c .order .act) h) h)
 
 -- ---- what a view is that follows its history
 

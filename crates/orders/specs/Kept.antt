@@ -10,8 +10,14 @@ use Rattle.bits.specs.Bytes.{Byte}
 use Rattle.bits.specs.Codec.{got}
 use Rattle.format.specs.Record.{Record, read, write, Allowed}
 use Rattle.format.specs.Places.{viewAt}
-use Rattle.orders.specs.History.{Call, fresh, history, Follows}
+use Rattle.format.specs.Named.{nameOf, placeIn}
+use Rattle.format.specs.declared.ViewName.{ViewName}
+use Rattle.orders.specs.History.{Call, History, fresh, history, Follows}
 use Rattle.orders.specs.Bytes.{viewPart, viewHeaderPart, extendedPart}
+
+-- the history of view i, by its name
+abbrev pub historyOf : ℕ → List Call → Record → List ℕ → History
+historyOf i cs r start = history (nameOf (viewAt r i)) cs start (fresh (viewAt r i))
 
 -- start are the bytes of the record r; they are lent to the first of the orders cs, and each result to the next; now are the bytes
 -- that hold at the end.
@@ -25,12 +31,14 @@ pub record Kept (cs : List Call) (r : Record) (start now : List ℕ) : Type 0 wh
   -- in values: the header and the number of views stay, and each view is what the accepted orders on it say
   pub head : last .head ≡ r .head
   pub count : length (last .views) ≡ length (r .views)
-  pub follows : (i : ℕ) → i < length (r .views) → Follows (viewAt r i) (viewAt last i) (history i cs start (fresh (viewAt r i)))
+  pub follows : (i : ℕ) → i < length (r .views) → Follows (viewAt r i) (viewAt last i) (historyOf i cs r start)
+  -- a name means the place that it meant
+  pub places : (view : ViewName) → placeIn view (last .views) ≡ placeIn view (r .views)
   -- in bytes: the record's header stays, bytes 0 to 7 and 12 to 23, but for the record length between them
   pub front : slice 0 8 now ≡ slice 0 8 start
   pub fields : slice 12 24 now ≡ slice 12 24 start
   -- a view on which no order was accepted keeps all its bytes
-  pub spared : (i : ℕ) → i < length (r .views) → history i cs start (fresh (viewAt r i)) .accepted ≡ 0 → viewPart last i now ≡ viewPart r i start
+  pub spared : (i : ℕ) → i < length (r .views) → historyOf i cs r start .accepted ≡ 0 → viewPart last i now ≡ viewPart r i start
   -- and every view those of its header, but for the skeleton length
   pub headers : (i : ℕ) → i < length (r .views) → viewHeaderPart last i now ≡ viewHeaderPart r i start
   -- and those of its extended length and segments, to the byte; also a view whose lines were removed, with its segments of local

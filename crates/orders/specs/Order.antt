@@ -1,7 +1,8 @@
 -- An order on a record: when it is refused (14 to 19; 13 is for the view that it names), the record it leaves, the outcome of the
--- call, and the record that then holds. "An order names a view by its place (from 0) and the line count it was made for."
+-- call, and the record that then holds. An order names "the view by finger position and view number", and "the line count it was made
+-- for". What it is about is told by the place of that view.
 use mathlib.Core.Path.{_≡_}
-use Prim.Native.Nat.{ℕ, suc, _≤_, _<_}
+use Prim.Native.Nat.{ℕ, suc, _≤_}
 use mathlib.Core.Bool.{Bool, true, not, _&&_}
 use mathlib.Core.List.{List, [], _∷_, _++_}
 use lib.ListN.{length, take}
@@ -15,18 +16,20 @@ use Rattle.format.specs.Segments.{Segment, isQuality}
 use Rattle.format.specs.View.{View}
 use Rattle.format.specs.Record.{Record, write, size}
 use Rattle.format.specs.Places.{viewAt, withView, count}
+use Rattle.format.specs.Named.{Means}
 use Rattle.format.specs.Call.{onView}
+use Rattle.format.specs.declared.ViewName.{ViewName}
 use Rattle.orders.specs.Act.{Act, remove, join, part, indexed?, near, after}
 
 pub record Order : Type 0 where
-  pub view : ℕ
+  pub view : ViewName
   pub count : ℕ
   pub act : Act
 
--- ---- the record that an order leaves
+-- ---- the record that an order on view i leaves
 
-unfoldable pub edited : Order → Record → Record
-edited o r = withView r (o .view) (after (o .act) (viewAt r (o .view)))
+unfoldable pub edited : ℕ → Act → Record → Record
+edited i a r = withView r i (after a (viewAt r i))
 
 -- ---- when it is refused
 
@@ -55,33 +58,33 @@ tests (join a b) v = (indexed? v, noIndex) ∷ (ltb a (count v) && ltb b (count 
 tests (part a b) v = (indexed? v, noIndex) ∷ (ltb a (count v) && ltb b (count v), badLines) ∷ (near v a b, alreadySo) ∷ []
 
 -- "Orders: 13, 14, then removal 15, 16; pair 17, 15, 18; then 19"; 13 is for the view
-unfoldable pub allTests : Order → Record → List (Bool × ℕ)
-allTests o r =
-    (eqb (count (viewAt r (o .view))) (o .count), otherCount) ∷ tests (o .act) (viewAt r (o .view)) ++ (leb (size (edited o r)) mostBytes, tooLong) ∷ []
+unfoldable pub allTests : Order → ℕ → Record → List (Bool × ℕ)
+allTests o i r =
+    (eqb (count (viewAt r i)) (o .count), otherCount) ∷ tests (o .act) (viewAt r i) ++ (leb (size (edited i (o .act) r)) mostBytes, tooLong) ∷ []
 
-unfoldable pub verdict : Order → Record → ℕ
-verdict o r = firstBad (allTests o r)
+unfoldable pub verdict : Order → ℕ → Record → ℕ
+verdict o i r = firstBad (allTests o i r)
 
 -- ---- when it is accepted
 
 abbrev pub Pass : List (Bool × ℕ) → Type 0
 Pass = All (λ t. T (t .0))
 
--- its view is there and has the count that it was made for, its own tests pass, and the new record is not too long
-pub record Accepted (o : Order) (r : Record) : Type 0 where
-  pub place : o .view < length (r .views)
-  pub count : count (viewAt r (o .view)) ≡ o .count
-  pub passes : Pass (tests (o .act) (viewAt r (o .view)))
-  pub small : size (edited o r) ≤ mostBytes
+-- its view is view i and has the count that it was made for, its own tests pass, and the new record is not too long
+pub record Accepted (o : Order) (i : ℕ) (r : Record) : Type 0 where
+  pub means : Means (o .view) r i
+  pub count : count (viewAt r i) ≡ o .count
+  pub passes : Pass (tests (o .act) (viewAt r i))
+  pub small : size (edited i (o .act) r) ≤ mostBytes
 
 -- ---- the call
 
-abbrev pub ordered : Order → Record → Outcome ℕ
-ordered o r = pick (eqb (verdict o r) 0) (given (write (edited o r))) (refused (verdict o r) 0)
+abbrev pub ordered : Order → ℕ → Record → Outcome ℕ
+ordered o i r = pick (eqb (verdict o i r) 0) (given (write (edited i (o .act) r))) (refused (verdict o i r) 0)
 
 -- 13 where the view is not there; 20 comes with the room that is lent
 unfoldable pub order : Order → List ℕ → Outcome ℕ
-order o = onView (o .view) (λ i. ordered o)
+order o = onView (o .view) (ordered o)
 
 -- "the second buffer's first bytes if the number is 0 and the length fits it, else the whole old record"
 abbrev pub secondHolds : List ℕ → ℕ → ℕ → Bool

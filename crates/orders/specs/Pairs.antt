@@ -12,6 +12,7 @@ use Rattle.format.specs.View.{View}
 use Rattle.format.specs.Record.{Record}
 use Rattle.format.specs.Places.{viewAt, count}
 use Rattle.format.specs.Call.{onView}
+use Rattle.format.specs.declared.ViewName.{ViewName}
 use Rattle.orders.specs.Act.{Word, indexed?}
 use Rattle.orders.specs.Order.{firstBad}
 use Rattle.orders.specs.Listed.{words, shapeOk}
@@ -20,19 +21,19 @@ use Rattle.orders.specs.History.{Call, outcome}
 
 -- list: the bytes of the list; lent: the length of the second buffer
 pub record PairsCall : Type 0 where
-  pub view : ℕ
+  pub view : ViewName
   pub count : ℕ
   pub list : List ℕ
   pub lent : ℕ
 
 -- the call as it is made, with these bytes in the second buffer
-abbrev pub pairsCall : (view count : ℕ) → (list before : List ℕ) → PairsCall
+abbrev pub pairsCall : (view : ViewName) → (count : ℕ) → (list before : List ℕ) → PairsCall
 pairsCall view count list before = record { view = view; count = count; list = list; lent = length before }
 
 -- ---- the orders of the list, given singly
 
 -- each is lent the same room
-abbrev pub wordCall : (view count lent : ℕ) → Word → Call
+abbrev pub wordCall : (view : ViewName) → (count lent : ℕ) → Word → Call
 wordCall view count lent w = record { order = wordOrder view count w; lent = lent }
 
 abbrev pub singly : PairsCall → List Call
@@ -56,13 +57,13 @@ inTurn i (c ∷ cs) bytes = onward i (outcome c bytes) (inTurn (suc i) cs)
 unfoldable pub pairsTests : PairsCall → View → List (Bool × ℕ)
 pairsTests m v = (eqb (count v) (m .count), otherCount) ∷ (indexed? v, noIndex) ∷ (shapeOk (m .list), badPairs) ∷ []
 
-unfoldable pub pairsVerdict : PairsCall → Record → ℕ
-pairsVerdict m r = firstBad (pairsTests m (viewAt r (m .view)))
+unfoldable pub pairsVerdict : PairsCall → ℕ → Record → ℕ
+pairsVerdict m i r = firstBad (pairsTests m (viewAt r i))
 
--- r is the record that the bytes are
-abbrev pub pairsOn : PairsCall → List ℕ → Record → Outcome ℕ
-pairsOn m bytes r = pick (eqb (pairsVerdict m r) 0) (inTurn 0 (singly m) bytes) (refused (pairsVerdict m r) 0)
+-- r is the record that the bytes are, and the view's place is i
+abbrev pub pairsOn : PairsCall → List ℕ → ℕ → Record → Outcome ℕ
+pairsOn m bytes i r = pick (eqb (pairsVerdict m i r) 0) (inTurn 0 (singly m) bytes) (refused (pairsVerdict m i r) 0)
 
 -- 13 where the view is not there
 unfoldable pub pairs : PairsCall → List ℕ → Outcome ℕ
-pairs m bytes = onView (m .view) (λ i. pairsOn m bytes) bytes
+pairs m bytes = onView (m .view) (pairsOn m bytes) bytes

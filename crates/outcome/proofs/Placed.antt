@@ -8,10 +8,10 @@ use mathlib.Core.List.{List}
 use lib.Dec.{T, leb, eqb, le→leb}
 use Rattle.bits.specs.Choice.{within}
 use Rattle.bits.specs.ChoiceLaws.{pick-case}
-use Rattle.outcome.specs.Outcome.{Outcome, refused, given, room, AnswersAs, told}
+use Rattle.outcome.specs.Outcome.{Outcome, refused, given, AnswersAs, told}
 use Rattle.outcome.specs.Placed.{Placed}
 use Rattle.outcome.specs.declared.Answer.{Answer}
-use Rattle.outcome.proofs.Refused.{Refused, room-refused, refused-shown}
+use Rattle.outcome.proofs.Refused.{Refused, refused-answer}
 
 -- every number can have the place 0
 pub no-place : (bits number : ℕ) → Placed bits number 0
@@ -21,8 +21,7 @@ module _ (bits : ℕ) where
   -- a call that writes
   pub answer-place : {A B : Type 0} {form : List A → List B} {lent : ℕ} {o : Outcome A} {before after : List B} {a : Answer}
       → Refused (Placed bits) o → AnswersAs form lent o before after a → Placed bits (a .number) (a .place)
-  answer-place {lent = lent} {o = o} h k =
-      rw (k .number, k .place) (refused-shown (Placed bits) tt (room lent o) (room-refused (Placed bits) tt lent o h))
+  answer-place = refused-answer (Placed bits) tt tt
 
   -- a call that says where something stands, where it is refused
   pub told-place : {A : Type 0} (p : ℕ) (o : Outcome A) → Refused (Placed bits) o → told p o .number ≢ 0

@@ -6,7 +6,8 @@ use lib.ListN.{length}
 use lib.Dec.{leb}
 use Rattle.bits.specs.ChoiceLaws.{pick-case}
 use Rattle.outcome.specs.Refusals.{noRoom}
-use Rattle.outcome.specs.Outcome.{Outcome, refused, given, room, numberOf, placeOf}
+use Rattle.outcome.specs.Outcome.{Outcome, refused, given, room, numberOf, placeOf, AnswersAs, told}
+use Rattle.outcome.specs.declared.Answer.{Answer}
 
 -- P holds of a refusal's number and place; of what is given nothing is said
 abbrev pub Refused : {A : Type 0} → (ℕ → ℕ → Type 0) → Outcome A → Type 0
@@ -33,3 +34,13 @@ module _ (P : ℕ → ℕ → Type 0) {A : Type 0} where
   pub refused-shown : P 0 0 → (o : Outcome A) → Refused P o → P (numberOf o) (placeOf o)
   refused-shown z (refused e p) h = h
   refused-shown z (given xs) h = z
+
+  -- a call that writes
+  pub refused-answer : {B : Type 0} {form : List A → List B} {lent : ℕ} {o : Outcome A} {before after : List B} {a : Answer}
+      → P noRoom 0 → P 0 0 → Refused P o → AnswersAs form lent o before after a → P (a .number) (a .place)
+  refused-answer {lent = lent} {o = o} t z r h = rw (h .number, h .place) (refused-shown z (room lent o) (room-refused t lent o r))
+
+-- a call that says where something stands: its number
+pub refused-told : (P : ℕ → Type 0) {A : Type 0} (p : ℕ) (o : Outcome A) → P 0 → Refused (λ e q. P e) o → P (told p o .number)
+refused-told P p (refused e q) z h = h
+refused-told P p (given xs) z h = z

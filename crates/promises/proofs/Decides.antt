@@ -17,6 +17,8 @@ use Rattle.outcome.specs.declared.Answer.{Answer}
 use Rattle.format.specs.Record.{Record, read}
 use Rattle.format.specs.Call.{fromRead, onRecord, inView, onView, inSegment, onSegment}
 use Rattle.format.specs.Places.{viewAt, count}
+use Rattle.format.specs.Named.{placeIn}
+use Rattle.format.specs.declared.ViewName.{ViewName}
 use Rattle.format.proofs.Laws.Record.{read-is}
 use Rattle.places.specs.Reach.{reach, Agree, AnsweredAlike}
 use Rattle.places.proofs.Laws.Calls.{Other, Own, Shows, answer-shows, told-shows, answered-alike}
@@ -32,57 +34,60 @@ use Rattle.orders.proofs.Laws.Pairs.{unread, pairs-view}
 use Rattle.orders.proofs.Laws.PairsNumbers.{pairs-own}
 
 -- a call on a view
-view-alike : {A : Type 0} (view : ℕ) (f : ℕ → Record → Outcome A) → ((r : Record) → Own (f view r)) → (a b : List ℕ) {x y : Answer}
+view-alike : {A : Type 0} (view : ViewName) (f : ℕ → Record → Outcome A) → ((i : ℕ) (r : Record) → Own (f i r)) → (a b : List ℕ) {x y : Answer}
     → Shows (onView view f a) x → Shows (onView view f b) y → T (within 2 12 (x .number)) → Agree (x .place + reach (x .number)) a b → AnsweredAlike x y
 unfolding onView
-view-alike view f own = answered-alike (inView view f) λ r. pick-case Own (ltb view (length (r .views))) _ _ (λ t. own r) (λ t. tt)
+view-alike view f own =
+    answered-alike (inView view f) λ r.
+    let i : ℕ = placeIn view (r .views) in
+    pick-case Own (ltb i (length (r .views))) _ _ (λ t. own i r) (λ t. tt)
 
 -- on a segment
-segment-alike : {A : Type 0} (view place : ℕ) (f : ℕ → Record → Outcome A) → ((r : Record) → Own (f view r)) → (a b : List ℕ) {x y : Answer}
+segment-alike : {A : Type 0} (view : ViewName) (place : ℕ) (f : ℕ → Record → Outcome A) → ((i : ℕ) (r : Record) → Own (f i r)) → (a b : List ℕ) {x y : Answer}
     → Shows (onSegment view place f a) x → Shows (onSegment view place f b) y → T (within 2 12 (x .number)) → Agree (x .place + reach (x .number)) a b
     → AnsweredAlike x y
 unfolding onSegment
 segment-alike view place f own =
-    view-alike view (inSegment place f) λ r. pick-case Own (ltb place (length (viewAt r view .segments))) _ _ (λ t. own r) (λ t. tt)
+    view-alike view (inSegment place f) λ i r. pick-case Own (ltb place (length (viewAt r i .segments))) _ _ (λ t. own i r) (λ t. tt)
 
 pub read-decided : (a b : List ℕ) {before after before₂ after₂ : List ℕ} {x y : Answer} → Answers (reading a) before after x → Answers (reading b) before₂ after₂ y
     → T (within 2 12 (x .number)) → Agree (x .place + reach (x .number)) a b → AnsweredAlike x y
 unfolding reading
 read-decided a b h k = answered-alike (λ r. given (sheetOf r)) (λ r. tt) a b (answer-shows h) (answer-shows k)
 
-pub trail-decided : {B : Type 0} {form : List ℕ → List B} {lent lent₂ : ℕ} {before after before₂ after₂ : List B} {x y : Answer} (view line : ℕ) (a b : List ℕ)
+pub trail-decided : {B : Type 0} {form : List ℕ → List B} {lent lent₂ : ℕ} {before after before₂ after₂ : List B} {x y : Answer} (view : ViewName) (line : ℕ) (a b : List ℕ)
     → AnswersAs form lent (trailing view line a) before after x → AnswersAs form lent₂ (trailing view line b) before₂ after₂ y
     → T (within 2 12 (x .number)) → Agree (x .place + reach (x .number)) a b → AnsweredAlike x y
 unfolding trailing
 trail-decided view line a b h k =
-    view-alike view (trailIn line) (λ r. pick-case Own (ltb line (count (viewAt r view))) _ _ (λ t. tt) (λ t. tt)) a b (answer-shows h) (answer-shows k)
+    view-alike view (trailIn line) (λ i r. pick-case Own (ltb line (count (viewAt r i))) _ _ (λ t. tt) (λ t. tt)) a b (answer-shows h) (answer-shows k)
 
-pub segment-decided : (view place : ℕ) (a b : List ℕ) {x y : Answer} → x ≡ segmentAnswer view place a → y ≡ segmentAnswer view place b
+pub segment-decided : (view : ViewName) (place : ℕ) (a b : List ℕ) {x y : Answer} → x ≡ segmentAnswer view place a → y ≡ segmentAnswer view place b
     → T (within 2 12 (x .number)) → Agree (x .place + reach (x .number)) a b → AnsweredAlike x y
 unfolding segmentAnswer payload
 segment-decided view place a b h k =
-    segment-alike view place (payloadIn place) (λ r. tt) a b
+    segment-alike view place (payloadIn place) (λ i r. tt) a b
     (told-shows (firstBitRead view place (read a)) (payload view place a) h) (told-shows (firstBitRead view place (read b)) (payload view place b) k)
 
 pub order-decided : (o : Order) (a b : List ℕ) {before after before₂ after₂ : List ℕ} {x y : Answer} → Answers (order o a) before after x
     → Answers (order o b) before₂ after₂ y → T (within 2 12 (x .number)) → Agree (x .place + reach (x .number)) a b → AnsweredAlike x y
 unfolding order
 order-decided o a b h k =
-    view-alike (o .view) (λ i. ordered o) (λ r. pick-case Own (eqb (verdict o r) 0) _ _ (λ t. tt) (λ t. verdict-above o r (eqb-no t))) a b
+    view-alike (o .view) (ordered o) (λ i r. pick-case Own (eqb (verdict o i r) 0) _ _ (λ t. tt) (λ t. verdict-above o i r (eqb-no t))) a b
     (answer-shows h) (answer-shows k)
 
-pub quality-decided : (view place : ℕ) (a b : List ℕ) {before after before₂ after₂ : List ℕ} {x y : Answer} → Answers (quality view place a) before after x
+pub quality-decided : (view : ViewName) (place : ℕ) (a b : List ℕ) {before after before₂ after₂ : List ℕ} {x y : Answer} → Answers (quality view place a) before after x
     → Answers (quality view place b) before₂ after₂ y → T (within 2 12 (x .number)) → Agree (x .place + reach (x .number)) a b → AnsweredAlike x y
 unfolding quality
 quality-decided view place a b h k =
-    segment-alike view place (qualityIn place) (quality-refused Other tt place view) a b (answer-shows h) (answer-shows k)
+    segment-alike view place (qualityIn place) (quality-refused Other tt place) a b (answer-shows h) (answer-shows k)
 
-pub setting-decided : (view place : ℕ) (vs a b : List ℕ) {before after before₂ after₂ : List ℕ} {x y : Answer}
+pub setting-decided : (view : ViewName) (place : ℕ) (vs a b : List ℕ) {before after before₂ after₂ : List ℕ} {x y : Answer}
     → Answers (setQuality view place vs a) before after x → Answers (setQuality view place vs b) before₂ after₂ y → T (within 2 12 (x .number))
     → Agree (x .place + reach (x .number)) a b → AnsweredAlike x y
 unfolding setQuality
 setting-decided view place vs a b h k =
-    segment-alike view place (setQualityIn place vs) (setting-refused Other tt tt place vs view) a b (answer-shows h) (answer-shows k)
+    segment-alike view place (setQualityIn place vs) (setting-refused Other tt tt place vs) a b (answer-shows h) (answer-shows k)
 
 -- ---- a list of pairs
 
@@ -124,7 +129,7 @@ module _ (m : PairsCall) (bytes : List ℕ) {before after : List ℕ} {x : Answe
       go (C.got r rest) q = on-read r (q ∙ ap (C.got r) (read-is bytes r rest q .3))
       go (C.refused e left) q = on-refused e left q
 
-pub pairs-decided : (view n : ℕ) (orders a b : List ℕ) {before after before₂ after₂ : List ℕ} {x y : Answer}
+pub pairs-decided : (view : ViewName) (n : ℕ) (orders a b : List ℕ) {before after before₂ after₂ : List ℕ} {x y : Answer}
     → Answers (pairs (pairsCall view n orders before) a) before after x
     → Answers (pairs (pairsCall view n orders before₂) b) before₂ after₂ y → T (within 2 12 (x .number)) → Agree (x .place + reach (x .number)) a b → AnsweredAlike x y
 pairs-decided view n orders a b {before} {before₂ = before₂} h k =

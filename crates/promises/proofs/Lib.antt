@@ -2,6 +2,7 @@ pub mod Calls
 pub mod Samples
 pub mod Placed
 pub mod Decides
+pub mod Unnamed
 pub mod Promises
 pub mod PromisesCalls
 pub mod PromisesQuality

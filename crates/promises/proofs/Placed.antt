@@ -16,6 +16,7 @@ use Rattle.outcome.proofs.Refused.{Refused}
 use Rattle.outcome.proofs.Placed.{no-place, answer-place, told-place}
 use Rattle.format.specs.Record.{Record, read, write}
 use Rattle.format.specs.Places.{viewAt, count}
+use Rattle.format.specs.declared.ViewName.{ViewName}
 use Rattle.format.proofs.Laws.Numbers.{record-placed, view-placed, segment-placed}
 use Rattle.sheet.specs.Sheet.{sheetOf, readSheet, writes, reading, writing}
 use Rattle.trail.specs.Trail.{trailIn, trailing}
@@ -37,19 +38,19 @@ write-place {before} sheet h = h .place ∙ go (readSheet sheet)
     go (C.got r rest) = pick-case (λ (o : Outcome ℕ). placeOf o ≡ 0) (leb (length (write r)) (length before)) _ _ (λ t. refl) (λ t. refl)
     go (C.refused e left) = refl
 
-pub trail-place : {B : Type 0} {form : List ℕ → List B} {lent : ℕ} {before after : List B} {a : Answer} (view line : ℕ) (bytes : List ℕ)
+pub trail-place : {B : Type 0} {form : List ℕ → List B} {lent : ℕ} {before after : List B} {a : Answer} (view : ViewName) (line : ℕ) (bytes : List ℕ)
     → AnswersAs form lent (trailing view line bytes) before after a → Placed (8 * length bytes) (a .number) (a .place)
 unfolding trailing
 trail-place view line bytes =
     answer-place (8 * length bytes)
-    (view-placed bytes view (trailIn line) λ r.
-    pick-case (Refused (Placed (8 * length bytes))) (ltb line (count (viewAt r view))) _ _ (λ t. tt) (λ t. tt))
+    (view-placed bytes view (trailIn line) λ i r.
+    pick-case (Refused (Placed (8 * length bytes))) (ltb line (count (viewAt r i))) _ _ (λ t. tt) (λ t. tt))
 
-payload-placed : (view place : ℕ) (bytes : List ℕ) → Refused (Placed (8 * length bytes)) (payload view place bytes)
+payload-placed : (view : ViewName) (place : ℕ) (bytes : List ℕ) → Refused (Placed (8 * length bytes)) (payload view place bytes)
 unfolding payload
-payload-placed view place bytes = segment-placed bytes view place (payloadIn place) (λ r. tt)
+payload-placed view place bytes = segment-placed bytes view place (payloadIn place) (λ i r. tt)
 
-pub segment-place : {a : Answer} (view place : ℕ) (bytes : List ℕ) → a ≡ segmentAnswer view place bytes → a .number ≢ 0
+pub segment-place : {a : Answer} (view : ViewName) (place : ℕ) (bytes : List ℕ) → a ≡ segmentAnswer view place bytes → a .number ≢ 0
     → Placed (8 * length bytes) (a .number) (a .place)
 unfolding segmentAnswer
 segment-place view place bytes e n =
@@ -60,17 +61,17 @@ pub order-place : (o : Order) (bytes : List ℕ) {before after : List ℕ} {a : 
 unfolding order
 order-place o bytes =
     answer-place (8 * length bytes)
-    (view-placed bytes (o .view) (λ i. ordered o) λ r.
-    pick-case (Refused (Placed (8 * length bytes))) (eqb (verdict o r) 0) _ _ (λ t. tt) (λ t. no-place (8 * length bytes) (verdict o r)))
+    (view-placed bytes (o .view) (ordered o) λ i r.
+    pick-case (Refused (Placed (8 * length bytes))) (eqb (verdict o i r) 0) _ _ (λ t. tt) (λ t. no-place (8 * length bytes) (verdict o i r)))
 
-pub quality-place : {before after : List ℕ} {a : Answer} (view place : ℕ) (bytes : List ℕ) → Answers (quality view place bytes) before after a
+pub quality-place : {before after : List ℕ} {a : Answer} (view : ViewName) (place : ℕ) (bytes : List ℕ) → Answers (quality view place bytes) before after a
     → Placed (8 * length bytes) (a .number) (a .place)
 unfolding quality
 quality-place view place bytes =
-    answer-place (8 * length bytes) (segment-placed bytes view place (qualityIn place) (quality-refused (Placed (8 * length bytes)) tt place view))
+    answer-place (8 * length bytes) (segment-placed bytes view place (qualityIn place) (quality-refused (Placed (8 * length bytes)) tt place))
 
-pub setting-place : {before after : List ℕ} {a : Answer} (view place : ℕ) (vs bytes : List ℕ) → Answers (setQuality view place vs bytes) before after a
+pub setting-place : {before after : List ℕ} {a : Answer} (view : ViewName) (place : ℕ) (vs bytes : List ℕ) → Answers (setQuality view place vs bytes) before after a
     → Placed (8 * length bytes) (a .number) (a .place)
 unfolding setQuality
 setting-place view place vs bytes =
-    answer-place (8 * length bytes) (segment-placed bytes view place (setQualityIn place vs) (setting-refused (Placed (8 * length bytes)) tt tt place vs view))
+    answer-place (8 * length bytes) (segment-placed bytes view place (setQualityIn place vs) (setting-refused (Placed (8 * length bytes)) tt tt place vs))

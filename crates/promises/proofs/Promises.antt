@@ -8,22 +8,23 @@
 --   outcome/specs/Outcome      Outcome, refused, given, numberOf, lengthOf, laid; AnswersAs, Answers, Gave
 --   format/specs/Parts         Record, FitsList, up
 --   format/specs/View, Places  view; viewAt
+--   format/specs/Named, Call   nameOf; onView
 --   format/specs/Record        read, write, Allowed
 --   sheet/specs/Sheet          readSheet, reading, writing
 --   trail/specs/Trail          nearest, Nearest, firstHeading
 --   segment/specs/Segment      segmentAnswer, payload, payloadOf
---   orders/specs/Act, Least    remove; leastWidth
+--   orders/specs/Act, Least    Act, remove; leastWidth
 --   orders/specs/Order         Order, Accepted, edited, order, holds
 --   orders/specs/History       Call, nowHolds, run
 --   orders/specs/AnyCall       AnyCall, one, outcomeOf, runAny, singles
 --   orders/specs/Kept, Made    Kept; MadeAll
 --   order_holds/specs/Held     held
 --   promises/specs/Samples     table, expected, computed
--- `Answer` and `Held` are structs of the code (outcome/src, order_holds/src), `length`, `take`, `T`, `eqb` and the signs the
+-- `Answer`, `Held` and `ViewName` are structs of the code (outcome/src, order_holds/src, format/src), `length`, `take`, `T`, `eqb` and the signs the
 -- toolchain's.
 use mathlib.Core.Path.{_≡_}
 use mathlib.Core.Logic.{_≢_, _⊎_}
-use Prim.Native.Nat.{ℕ, _-_, _*_, _%_, _^_, _≤_}
+use Prim.Native.Nat.{ℕ, _-_, _*_, _%_, _^_, _≤_, _<_}
 use mathlib.Core.Bool.{_||_}
 use mathlib.Core.List.{List, [], _∷_, _++_, map}
 use lib.ListN.{length, take}
@@ -42,8 +43,12 @@ use Rattle.format.specs.Parts.{Record, FitsList, up}
 use Rattle.format.specs.View.{view}
 use Rattle.format.specs.Record.{read, write, Allowed}
 use Rattle.format.specs.Places.{viewAt}
+use Rattle.format.specs.Named.{nameOf}
+use Rattle.format.specs.Call.{onView}
+use Rattle.format.specs.declared.ViewName.{ViewName}
 use Rattle.format.proofs.Laws.Record as RecordLaws
 use Rattle.format.proofs.Laws.Refuses as RecordRefusals
+use Rattle.format.proofs.Laws.Finger as FingerLaws
 use Rattle.sheet.specs.Sheet.{readSheet, reading, writing}
 use Rattle.sheet.proofs.Laws.Calls as SheetCalls
 use Rattle.sheet.proofs.Laws.BothWays as BothWays
@@ -53,7 +58,7 @@ use Rattle.trail.specs.Trail.{nearest, Nearest, firstHeading}
 use Rattle.trail.proofs.Laws as TrailLaws
 use Rattle.segment.specs.Segment.{payload, payloadOf, segmentAnswer}
 use Rattle.orders.specs.Least.{leastWidth}
-use Rattle.orders.specs.Act.{remove}
+use Rattle.orders.specs.Act.{Act, remove}
 use Rattle.orders.specs.Order.{Order, edited, Accepted, order, holds}
 use Rattle.orders.specs.History.{Call, nowHolds, run}
 use Rattle.orders.specs.AnyCall.{AnyCall, one, outcomeOf, runAny, singles}
@@ -132,17 +137,31 @@ first-heading = TrailLaws.first-nearest
 pub nearest-heading : (n b direction : ℕ) → Nearest (direction * (2 * n)) (2 ^ b) (nearest (direction * (2 * n)) (2 ^ b))
 nearest-heading = TrailLaws.heading-near
 
+-- ---- A VIEW BY FINGER: each call names a view by finger position and view number
+-- (that 13 is given exactly where no view has the pair, of each call: PromisesCalls, PromisesQuality, PromisesPairs)
+
+-- in an accepted record that pair is unique
+pub names-unique : (bytes : List ℕ) (r : Record) → read bytes ≡ Codec.got r [] → (i j : ℕ) → i < length (r .views) → j < length (r .views)
+    → nameOf (viewAt r i) ≡ nameOf (viewAt r j) → i ≡ j
+names-unique = FingerLaws.names-unique
+
+-- so naming by finger is naming by place: what a call asks of the view at a place, f, it is given when it names that view. Every call on a
+-- view is of this form (`trailing`, `payload`, `quality`, `setQuality`, `order`, `pairs`); so what is said of a place is said of a name
+pub by-finger : (bytes : List ℕ) (r : Record) → read bytes ≡ Codec.got r [] → {A : Type 0} (f : ℕ → Record → Outcome A) (i : ℕ) → i < length (r .views)
+    → onView (nameOf (viewAt r i)) f bytes ≡ f i r
+by-finger = FingerLaws.by-finger
+
 -- ---- DEMAND 3: orders
 -- (that an order is refused for the numbered causes alone: PromisesCalls; that a list of pairs is its orders, given singly:
 -- PromisesPairs)
 
--- an accepted order leaves an allowed record
-pub order-keeps : (o : Order) (r : Record) → Allowed r → Accepted o r → Allowed (edited o r)
+-- an accepted order, on the view at place i, leaves an allowed record
+pub order-keeps : (o : Order) (i : ℕ) (r : Record) → Allowed r → Accepted o i r → Allowed (edited i (o .act) r)
 order-keeps = KeepLaws.order-keeps
 
--- and every view that it does not name keeps its bits, whatever positions stand before it
-pub others-keep-their-bits : (o : Order) (r : Record) (i : ℕ) (s t : List ℕ) → i ≢ o .view
-    → view (edited o r .head .scale .widths) s .enc (viewAt (edited o r) i) ≡ view (r .head .scale .widths) t .enc (viewAt r i)
+-- and every other view keeps its bits, whatever positions stand before it
+pub others-keep-their-bits : (i : ℕ) (a : Act) (r : Record) (j : ℕ) (s t : List ℕ) → j ≢ i
+    → view (edited i a r .head .scale .widths) s .enc (viewAt (edited i a r) j) ≡ view (r .head .scale .widths) t .enc (viewAt r j)
 others-keep-their-bits = KeepLaws.edited-bits
 
 -- an edited view's width holds every count and difference (it is allowed), and no smaller one does
@@ -154,7 +173,8 @@ pub refused-stays : (q : AnyCall) (bytes : List ℕ) → numberOf (outcomeOf q b
 refused-stays = AnyLaws.refused-stays
 
 -- THE SEQUENCE: from any accepted record, any orders, each result fed to the next: the bytes that hold at the end are those of an
--- allowed record with the header and as many views, and each view is what the accepted orders on it say, through all renumbering.
+-- allowed record with the header and as many views, and each view is what the accepted orders on it say, through all renumbering. The
+-- orders on a view are those with its name, which no order touches.
 -- In bytes: all stays but for the record length and, in a view with an accepted order, the skeleton and index blocks with their
 -- lengths; so a removal carries segments of local quality along as they stand, well formed or not
 pub orders-follow : (cs : List Call) (bytes : List ℕ) (r : Record) → All Byte bytes → read bytes ≡ Codec.got r [] → Kept cs r bytes (run cs bytes)
@@ -215,11 +235,11 @@ pub one-answer : {A B : Type 0} {form : List A → List B} {lent : ℕ} {o : Out
 one-answer = OutcomeLaws.one-answer
 
 -- the calls whose statement is an equation: a segment's answer
-pub one-segment : (view place : ℕ) (bytes : List ℕ) {a b : Answer} → a ≡ segmentAnswer view place bytes → b ≡ segmentAnswer view place bytes → a ≡ b
+pub one-segment : (view : ViewName) (place : ℕ) (bytes : List ℕ) {a b : Answer} → a ≡ segmentAnswer view place bytes → b ≡ segmentAnswer view place bytes → a ≡ b
 one-segment view place bytes = OutcomeLaws.one-value
 
 -- a segment's payload, a part handed back: its bytes are determined
-pub one-payload : (view place : ℕ) (bytes : List ℕ) {x y : List ℕ} → x ≡ payloadOf (payload view place bytes) → y ≡ payloadOf (payload view place bytes)
+pub one-payload : (view : ViewName) (place : ℕ) (bytes : List ℕ) {x y : List ℕ} → x ≡ payloadOf (payload view place bytes) → y ≡ payloadOf (payload view place bytes)
     → x ≡ y
 one-payload view place bytes = OutcomeLaws.one-value
 

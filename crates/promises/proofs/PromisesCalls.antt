@@ -2,8 +2,9 @@
 -- call's contract allows, which the statement names (`Answers (reading bytes)`, ..). Promises is the front page; the calls of local
 -- quality stand in PromisesQuality, the call for a list of pairs in PromisesPairs. The names in statements stand in specs/:
 --   outcome/specs/Numbers      Gives; readNumbers, writeNumbers, trailNumbers, segmentNumbers, removalNumbers, pairNumbers
---   outcome/specs/Placed       Placed
+--   outcome/specs/Refusals, Placed   noView; Placed
 --   outcome/specs/Outcome      numberOf, AnswersAs, Answers
+--   format/specs/Named         NoViewNamed
 --   places/specs/Reach         reach, Agree, AnsweredAlike
 --   sheet/specs/Sheet          reading, writing
 --   sheet/specs/Accepted       AcceptedReading, AcceptedWriting
@@ -13,7 +14,7 @@
 --   orders/specs/History       Call, outcome
 --   orders/specs/Accept        AcceptedCall
 --   bits/specs/Choice, Lists, Bytes   within; All; Byte
--- `Answer` is the struct of outcome/src, `length`, `T` and the signs are the toolchain's.
+-- `Answer` is the struct of outcome/src, `ViewName` that of format/src, `length`, `T` and the signs are the toolchain's.
 use mathlib.Core.Path.{_≡_}
 use mathlib.Core.Logic.{_≢_}
 use Prim.Native.Nat.{ℕ, _+_, _*_}
@@ -24,9 +25,12 @@ use Rattle.bits.specs.Choice.{within}
 use Rattle.bits.specs.Lists.{All}
 use Rattle.bits.specs.Bytes.{Byte}
 use Rattle.outcome.specs.Numbers.{Gives, readNumbers, writeNumbers, trailNumbers, segmentNumbers, removalNumbers, pairNumbers}
+use Rattle.outcome.specs.Refusals.{noView}
 use Rattle.outcome.specs.Placed.{Placed}
 use Rattle.outcome.specs.Outcome.{numberOf, AnswersAs, Answers}
 use Rattle.outcome.specs.declared.Answer.{Answer}
+use Rattle.format.specs.Named.{NoViewNamed}
+use Rattle.format.specs.declared.ViewName.{ViewName}
 use Rattle.places.specs.Reach.{reach, Agree, AnsweredAlike}
 use Rattle.sheet.specs.Sheet.{reading, writing}
 use Rattle.sheet.specs.Accepted.{AcceptedReading, AcceptedWriting}
@@ -43,6 +47,7 @@ use Rattle.orders.proofs.Laws.Numbers as OrderNumbers
 use Rattle.orders.proofs.Laws.AcceptCall as AcceptCall
 use Rattle.promises.proofs.Placed as Placing
 use Rattle.promises.proofs.Decides as Decides
+use Rattle.promises.proofs.Unnamed as Unnamed
 
 -- ---- "No number is given otherwise": of each call, the numbers that its contract allows besides 0
 
@@ -53,11 +58,11 @@ pub write-numbers : {before after : List ℕ} {a : Answer} (sheet : List ℕ) �
 write-numbers = SheetNumbers.writing-numbers
 
 -- as 16-bit numbers or as bytes
-pub trail-numbers : {B : Type 0} {form : List ℕ → List B} {lent : ℕ} {before after : List B} {a : Answer} (view line : ℕ) (bytes : List ℕ)
+pub trail-numbers : {B : Type 0} {form : List ℕ → List B} {lent : ℕ} {before after : List B} {a : Answer} (view : ViewName) (line : ℕ) (bytes : List ℕ)
     → AnswersAs form lent (trailing view line bytes) before after a → Gives trailNumbers (a .number)
 trail-numbers = TrailNumbers.trailing-numbers
 
-pub segment-numbers : {a : Answer} (view place : ℕ) (bytes : List ℕ) → a ≡ segmentAnswer view place bytes → Gives segmentNumbers (a .number)
+pub segment-numbers : {a : Answer} (view : ViewName) (place : ℕ) (bytes : List ℕ) → a ≡ segmentAnswer view place bytes → Gives segmentNumbers (a .number)
 segment-numbers = SegmentNumbers.segment-numbers
 
 pub removal-numbers : (o : Order) (bytes : List ℕ) {before after : List ℕ} {a : Answer} → Answers (order o bytes) before after a
@@ -78,12 +83,12 @@ pub read-place : {before after : List ℕ} {a : Answer} (bytes : List ℕ) → A
     → Placed (8 * length bytes) (a .number) (a .place)
 read-place = Placing.read-place
 
-pub trail-place : {B : Type 0} {form : List ℕ → List B} {lent : ℕ} {before after : List B} {a : Answer} (view line : ℕ) (bytes : List ℕ)
+pub trail-place : {B : Type 0} {form : List ℕ → List B} {lent : ℕ} {before after : List B} {a : Answer} (view : ViewName) (line : ℕ) (bytes : List ℕ)
     → AnswersAs form lent (trailing view line bytes) before after a → Placed (8 * length bytes) (a .number) (a .place)
 trail-place = Placing.trail-place
 
 -- an accepted one has its payload's first bit there (segmentAnswer)
-pub segment-place : {a : Answer} (view place : ℕ) (bytes : List ℕ) → a ≡ segmentAnswer view place bytes → a .number ≢ 0
+pub segment-place : {a : Answer} (view : ViewName) (place : ℕ) (bytes : List ℕ) → a ≡ segmentAnswer view place bytes → a .number ≢ 0
     → Placed (8 * length bytes) (a .number) (a .place)
 segment-place = Placing.segment-place
 
@@ -104,18 +109,33 @@ pub read-decided : (a b : List ℕ) {before after before₂ after₂ : List ℕ}
 read-decided = Decides.read-decided
 
 pub trail-decided : {B : Type 0} {form : List ℕ → List B} {lent lent₂ : ℕ} {before after before₂ after₂ : List B} {x y : Answer}
-    (view line : ℕ) (a b : List ℕ) → AnswersAs form lent (trailing view line a) before after x
+    (view : ViewName) (line : ℕ) (a b : List ℕ) → AnswersAs form lent (trailing view line a) before after x
     → AnswersAs form lent₂ (trailing view line b) before₂ after₂ y → T (within 2 12 (x .number)) → Agree (x .place + reach (x .number)) a b
     → AnsweredAlike x y
 trail-decided = Decides.trail-decided
 
-pub segment-decided : (view place : ℕ) (a b : List ℕ) {x y : Answer} → x ≡ segmentAnswer view place a → y ≡ segmentAnswer view place b
+pub segment-decided : (view : ViewName) (place : ℕ) (a b : List ℕ) {x y : Answer} → x ≡ segmentAnswer view place a → y ≡ segmentAnswer view place b
     → T (within 2 12 (x .number)) → Agree (x .place + reach (x .number)) a b → AnsweredAlike x y
 segment-decided = Decides.segment-decided
 
 pub order-decided : (o : Order) (a b : List ℕ) {before after before₂ after₂ : List ℕ} {x y : Answer} → Answers (order o a) before after x
     → Answers (order o b) before₂ after₂ y → T (within 2 12 (x .number)) → Agree (x .place + reach (x .number)) a b → AnsweredAlike x y
 order-decided = Decides.order-decided
+
+-- ---- 13, exactly where the bytes read as a record of which no view has that finger position and view number
+
+pub trail-unnamed : {B : Type 0} {form : List ℕ → List B} {lent : ℕ} {before after : List B} {a : Answer} (view : ViewName) (line : ℕ) (bytes : List ℕ)
+    → AnswersAs form lent (trailing view line bytes) before after a
+    → (a .number ≡ noView → NoViewNamed view bytes) × (NoViewNamed view bytes → a .number ≡ noView)
+trail-unnamed = Unnamed.trail-unnamed
+
+pub segment-unnamed : {a : Answer} (view : ViewName) (place : ℕ) (bytes : List ℕ) → a ≡ segmentAnswer view place bytes
+    → (a .number ≡ noView → NoViewNamed view bytes) × (NoViewNamed view bytes → a .number ≡ noView)
+segment-unnamed = Unnamed.segment-answer-unnamed
+
+pub order-unnamed : (o : Order) (bytes : List ℕ) {before after : List ℕ} {a : Answer} → Answers (order o bytes) before after a
+    → (a .number ≡ noView → NoViewNamed (o .view) bytes) × (NoViewNamed (o .view) bytes → a .number ≡ noView)
+order-unnamed = Unnamed.order-unnamed
 
 -- ---- reading and writing: the number is 0 exactly where the bytes, or the sheet, are an allowed record's and there is room
 

@@ -1,16 +1,16 @@
 -- WHAT THE LIBRARY PROMISES OF LOCAL QUALITY, the payload of a view's segments of type 0x0003: reading its values, and rewriting a
 -- payload from values. Promises is the front page. The names in statements stand in specs/:
 --   bits/specs/Choice, Lists, Bytes, Codec   within; All; Byte; got
---   outcome/specs/Refusals, Numbers, Placed  badQuality; Gives, qualityNumbers, setQualityNumbers; Placed
+--   outcome/specs/Refusals, Numbers, Placed  noView, badQuality; Gives, qualityNumbers, setQualityNumbers; Placed
 --   outcome/specs/Outcome      given, Answers, Gave
 --   format/specs/Record        Record, read
---   format/specs/Places        viewAt, imageOf
+--   format/specs/Places, Named  viewAt, imageOf; NoViewNamed, Means
 --   rewrite/specs/Bytes        Rewrites
 --   quality/specs/Parts, Payload   valuesRight; qualityBlock
 --   quality/specs/Quality      quality, setQuality, payloadFor
 --   quality/specs/Accepted     AcceptedQuality, AcceptedSetting, BrokenQuality, BrokenSetting
 --   places/specs/Reach         reach, Agree, AnsweredAlike
--- `Answer` is the struct of outcome/src, `Image` that of format/src, `length`, `take`, `T` and the signs are the toolchain's. That a
+-- `Answer` is the struct of outcome/src, `Image` and `ViewName` those of format/src, `length`, `take`, `T` and the signs are the toolchain's. That a
 -- refusal writes nothing, and that the contracts allow one answer and one buffer alone, is said of every call on the front page
 -- (`refusal-writes-nothing`, `one-answer`).
 use mathlib.Core.Path.{_≡_}
@@ -23,14 +23,16 @@ use Rattle.bits.specs.Lists.{All}
 use Rattle.bits.specs.Bits.{Bits}
 use Rattle.bits.specs.Bytes.{Byte, bitsOf}
 use Rattle.bits.specs.Codec.{got}
-use Rattle.outcome.specs.Refusals.{badQuality}
+use Rattle.outcome.specs.Refusals.{noView, badQuality}
 use Rattle.outcome.specs.Numbers.{Gives, qualityNumbers, setQualityNumbers}
 use Rattle.outcome.specs.Placed.{Placed}
 use Rattle.outcome.specs.Outcome.{given, Answers, Gave}
 use Rattle.outcome.specs.declared.Answer.{Answer}
 use Rattle.format.specs.Record.{Record, read}
 use Rattle.format.specs.Places.{viewAt, imageOf}
+use Rattle.format.specs.Named.{NoViewNamed, Means}
 use Rattle.format.specs.declared.Image.{Image}
+use Rattle.format.specs.declared.ViewName.{ViewName}
 use Rattle.rewrite.specs.Bytes.{Rewrites}
 use Rattle.quality.specs.Parts.{valuesRight}
 use Rattle.quality.specs.Payload.{qualityBlock}
@@ -45,6 +47,7 @@ use Rattle.quality.proofs.Laws.Room as QualityRoom
 use Rattle.places.specs.Reach.{reach, Agree, AnsweredAlike}
 use Rattle.promises.proofs.Placed as Placing
 use Rattle.promises.proofs.Decides as Decides
+use Rattle.promises.proofs.Unnamed as Unnamed
 
 -- ---- THE FORMAT: a payload and its values give each other back
 
@@ -58,96 +61,108 @@ values-right = BothWays.payload-back
 -- ---- READING AND REWRITING
 
 -- rewriting what was read gives the record back
-pub set-after-read : (view place : ℕ) (values bytes : List ℕ) → All Byte bytes → quality view place bytes ≡ given values
+pub set-after-read : (view : ViewName) (place : ℕ) (values bytes : List ℕ) → All Byte bytes → quality view place bytes ≡ given values
     → setQuality view place values bytes ≡ given bytes
 set-after-read = BothWays.set-after-read
 
 -- reading what was rewritten gives the values
-pub read-after-set : (view place : ℕ) (values bytes : List ℕ) → All Byte bytes → (new : List ℕ) → setQuality view place values bytes ≡ given new
+pub read-after-set : (view : ViewName) (place : ℕ) (values bytes : List ℕ) → All Byte bytes → (new : List ℕ) → setQuality view place values bytes ≡ given new
     → quality view place new ≡ given values
 read-after-set = BothWays.read-after-set
 
 -- what is rewritten is an allowed record, and all of it but the payload, its segment's length, the extended length and the record
 -- length keeps its bytes
-pub set-rewrites : (view place : ℕ) (values bytes : List ℕ) → All Byte bytes → {P : Type 0} (new : List ℕ) → setQuality view place values bytes ≡ given new
-    → ((r : Record) → read bytes ≡ got r [] → Rewrites view place (payloadFor (imageOf (viewAt r view)) values) r bytes new → P) → P
+pub set-rewrites : (view : ViewName) (place : ℕ) (values bytes : List ℕ) → All Byte bytes → {P : Type 0} (new : List ℕ) → setQuality view place values bytes ≡ given new
+    → ((r : Record) (i : ℕ) → read bytes ≡ got r [] → Means view r i → Rewrites i place (payloadFor (imageOf (viewAt r i)) values) r bytes new → P) → P
 set-rewrites = BothWays.set-rewrites
 
 -- the calls themselves: where the first answers 0, and the second is lent what it wrote and room enough, the second gives back what
 -- the first was lent
-pub quality-back : (view place : ℕ) {before after before₂ after₂ : List ℕ} {a b : Answer} (bytes : List ℕ) → All Byte bytes
+pub quality-back : (view : ViewName) (place : ℕ) {before after before₂ after₂ : List ℕ} {a b : Answer} (bytes : List ℕ) → All Byte bytes
     → Answers (quality view place bytes) before after a → a .number ≡ 0
     → Answers (setQuality view place (take (a .length) after) bytes) before₂ after₂ b → length bytes ≤ length before₂ → Gave bytes after₂ b
 quality-back = QualityCalls.quality-back
 
-pub setting-back : (view place : ℕ) {before after before₂ after₂ : List ℕ} {a b : Answer} (bytes : List ℕ) → All Byte bytes → (values : List ℕ)
+pub setting-back : (view : ViewName) (place : ℕ) {before after before₂ after₂ : List ℕ} {a b : Answer} (bytes : List ℕ) → All Byte bytes → (values : List ℕ)
     → Answers (setQuality view place values bytes) before after a → a .number ≡ 0
     → Answers (quality view place (take (a .length) after)) before₂ after₂ b → length values ≤ length before₂ → Gave values after₂ b
 setting-back = QualityCalls.setting-back
 
 -- eight times a record's length is room for the values
-pub quality-room : (view place : ℕ) (bytes values : List ℕ) → All Byte bytes → quality view place bytes ≡ given values → length values ≤ 8 * length bytes
+pub quality-room : (view : ViewName) (place : ℕ) (bytes values : List ℕ) → All Byte bytes → quality view place bytes ≡ given values → length values ≤ 8 * length bytes
 quality-room = QualityRoom.quality-room
 
 -- ---- NUMBERS AND PLACES
 
-pub quality-numbers : {before after : List ℕ} {a : Answer} (view place : ℕ) (bytes : List ℕ) → Answers (quality view place bytes) before after a
+pub quality-numbers : {before after : List ℕ} {a : Answer} (view : ViewName) (place : ℕ) (bytes : List ℕ) → Answers (quality view place bytes) before after a
     → Gives qualityNumbers (a .number)
 quality-numbers = QualityNumbers.quality-numbers
 
-pub setting-numbers : {before after : List ℕ} {a : Answer} (view place : ℕ) (values bytes : List ℕ)
+pub setting-numbers : {before after : List ℕ} {a : Answer} (view : ViewName) (place : ℕ) (values bytes : List ℕ)
     → Answers (setQuality view place values bytes) before after a → Gives setQualityNumbers (a .number)
 setting-numbers = QualityNumbers.setting-numbers
 
-pub quality-place : {before after : List ℕ} {a : Answer} (view place : ℕ) (bytes : List ℕ) → Answers (quality view place bytes) before after a
+pub quality-place : {before after : List ℕ} {a : Answer} (view : ViewName) (place : ℕ) (bytes : List ℕ) → Answers (quality view place bytes) before after a
     → Placed (8 * length bytes) (a .number) (a .place)
 quality-place = Placing.quality-place
 
-pub setting-place : {before after : List ℕ} {a : Answer} (view place : ℕ) (values bytes : List ℕ)
+pub setting-place : {before after : List ℕ} {a : Answer} (view : ViewName) (place : ℕ) (values bytes : List ℕ)
     → Answers (setQuality view place values bytes) before after a → Placed (8 * length bytes) (a .number) (a .place)
 setting-place = Placing.setting-place
 
-pub quality-decided : (view place : ℕ) (a b : List ℕ) {before after before₂ after₂ : List ℕ} {x y : Answer} → Answers (quality view place a) before after x
+pub quality-decided : (view : ViewName) (place : ℕ) (a b : List ℕ) {before after before₂ after₂ : List ℕ} {x y : Answer} → Answers (quality view place a) before after x
     → Answers (quality view place b) before₂ after₂ y → T (within 2 12 (x .number)) → Agree (x .place + reach (x .number)) a b → AnsweredAlike x y
 quality-decided = Decides.quality-decided
 
-pub setting-decided : (view place : ℕ) (values a b : List ℕ) {before after before₂ after₂ : List ℕ} {x y : Answer}
+pub setting-decided : (view : ViewName) (place : ℕ) (values a b : List ℕ) {before after before₂ after₂ : List ℕ} {x y : Answer}
     → Answers (setQuality view place values a) before after x → Answers (setQuality view place values b) before₂ after₂ y → T (within 2 12 (x .number))
     → Agree (x .place + reach (x .number)) a b → AnsweredAlike x y
 setting-decided = Decides.setting-decided
 
 -- ---- ACCEPTED: 0 exactly where the segment is there and of this type, its payload or the values are right, and there is room
 
-pub quality-accepted : (view place : ℕ) (bytes : List ℕ) {before after : List ℕ} {a : Answer} → Answers (quality view place bytes) before after a
+pub quality-accepted : (view : ViewName) (place : ℕ) (bytes : List ℕ) {before after : List ℕ} {a : Answer} → Answers (quality view place bytes) before after a
     → All Byte bytes → a .number ≡ 0 → AcceptedQuality view place bytes (length before)
 quality-accepted = QualityAccept.quality-accepted
 
-pub accepted-quality : (view place : ℕ) (bytes : List ℕ) {before after : List ℕ} {a : Answer} → Answers (quality view place bytes) before after a
+pub accepted-quality : (view : ViewName) (place : ℕ) (bytes : List ℕ) {before after : List ℕ} {a : Answer} → Answers (quality view place bytes) before after a
     → AcceptedQuality view place bytes (length before) → a .number ≡ 0
 accepted-quality = QualityAccept.accepted-quality
 
-pub setting-accepted : (view place : ℕ) (bytes : List ℕ) {before after : List ℕ} {a : Answer} (values : List ℕ)
+pub setting-accepted : (view : ViewName) (place : ℕ) (bytes : List ℕ) {before after : List ℕ} {a : Answer} (values : List ℕ)
     → Answers (setQuality view place values bytes) before after a → All Byte bytes → a .number ≡ 0 → AcceptedSetting view place values bytes (length before)
 setting-accepted = QualityAccept.setting-accepted
 
-pub accepted-setting : (view place : ℕ) (bytes : List ℕ) {before after : List ℕ} {a : Answer} (values : List ℕ)
+pub accepted-setting : (view : ViewName) (place : ℕ) (bytes : List ℕ) {before after : List ℕ} {a : Answer} (values : List ℕ)
     → Answers (setQuality view place values bytes) before after a → AcceptedSetting view place values bytes (length before) → a .number ≡ 0
 accepted-setting = QualityAccept.accepted-setting
 
+-- ---- UNNAMED: 13 exactly where the bytes read as a record of which no view has that finger position and view number
+
+pub quality-unnamed : (view : ViewName) (place : ℕ) (bytes : List ℕ) {before after : List ℕ} {a : Answer}
+    → Answers (quality view place bytes) before after a
+    → (a .number ≡ noView → NoViewNamed view bytes) × (NoViewNamed view bytes → a .number ≡ noView)
+quality-unnamed = Unnamed.quality-unnamed
+
+pub setting-unnamed : (view : ViewName) (place : ℕ) (values bytes : List ℕ) {before after : List ℕ} {a : Answer}
+    → Answers (setQuality view place values bytes) before after a
+    → (a .number ≡ noView → NoViewNamed view bytes) × (NoViewNamed view bytes → a .number ≡ noView)
+setting-unnamed = Unnamed.setting-unnamed
+
 -- ---- BROKEN: 24 exactly where the segment is there, and has another type, or its payload or the values break the rules
 
-pub quality-broken : (view place : ℕ) (bytes : List ℕ) {before after : List ℕ} {a : Answer} → Answers (quality view place bytes) before after a
+pub quality-broken : (view : ViewName) (place : ℕ) (bytes : List ℕ) {before after : List ℕ} {a : Answer} → Answers (quality view place bytes) before after a
     → a .number ≡ badQuality → BrokenQuality view place bytes
 quality-broken = QualityBroken.quality-broken
 
-pub broken-quality : (view place : ℕ) (bytes : List ℕ) {before after : List ℕ} {a : Answer} → Answers (quality view place bytes) before after a
+pub broken-quality : (view : ViewName) (place : ℕ) (bytes : List ℕ) {before after : List ℕ} {a : Answer} → Answers (quality view place bytes) before after a
     → All Byte bytes → BrokenQuality view place bytes → a .number ≡ badQuality
 broken-quality = QualityBroken.broken-quality
 
-pub setting-broken : (view place : ℕ) (bytes : List ℕ) {before after : List ℕ} {a : Answer} (values : List ℕ)
+pub setting-broken : (view : ViewName) (place : ℕ) (bytes : List ℕ) {before after : List ℕ} {a : Answer} (values : List ℕ)
     → Answers (setQuality view place values bytes) before after a → a .number ≡ badQuality → BrokenSetting view place values bytes
 setting-broken = QualityBroken.setting-broken
 
-pub broken-setting : (view place : ℕ) (bytes : List ℕ) {before after : List ℕ} {a : Answer} (values : List ℕ)
+pub broken-setting : (view : ViewName) (place : ℕ) (bytes : List ℕ) {before after : List ℕ} {a : Answer} (values : List ℕ)
     → Answers (setQuality view place values bytes) before after a → BrokenSetting view place values bytes → a .number ≡ badQuality
 broken-setting = QualityBroken.broken-setting

@@ -5,7 +5,9 @@ use mathlib.Core.List.{List, [], _∷_, _++_}
 use Rattle.outcome.specs.Refusals.{badHeader, past, otherCount, alreadySo}
 use Rattle.outcome.specs.Outcome.{Outcome, refused, given, lengthOf}
 use Rattle.format.specs.Record.{write}
+use Rattle.format.specs.Named.{named}
 use Rattle.format.specs.Call.{onRecord}
+use Rattle.format.specs.declared.ViewName.{ViewName}
 use Rattle.format.specs.Sample.{sampleA, headerA, viewHeaderA, linesA, bare, wide, wider}
 use Rattle.sheet.specs.Sheet.{reading, writing}
 use Rattle.sheet.specs.Sample.{sheetA}
@@ -21,7 +23,7 @@ pub data Job : Type 0 where
   reads : List ℕ → Job
   writes : List ℕ → Job
   -- view, line, record
-  trails : ℕ → ℕ → List ℕ → Job
+  trails : ViewName → ℕ → List ℕ → Job
   orders : Order → List ℕ → Job
 
 unfoldable pub result : Job → Outcome ℕ
@@ -63,8 +65,12 @@ computed r = (result (r .job), lengthOf (result (r .job)))
 abbrev row : Job → Outcome ℕ → ℕ → Row
 row j o n = record { job = j; gives = o; length = n }
 
+-- A's view: the first of finger 2
+abbrev viewA : ViewName
+viewA = named 2 0
+
 abbrev removeLineZero : Order
-removeLineZero = record { view = 0; count = 2; act = remove (0 ∷ []) }
+removeLineZero = record { view = viewA; count = 2; act = remove (0 ∷ []) }
 
 abbrev pub table : List Row
 table =
@@ -73,14 +79,14 @@ table =
     ∷ row (reads sampleA) (given sheetA) 67
     ∷ row (writes sheetA) (given sampleA) 56
     -- P2
-    ∷ row (trails 0 0 sampleA) (given (36 ∷ [])) 1
+    ∷ row (trails viewA 0 sampleA) (given (36 ∷ [])) 1
     -- P3
     ∷ row (orders removeLineZero sampleA) (given afterP3) 48
     -- P4
     ∷ row (orders removeLineZero afterP3) (refused otherCount 0) 0
     -- P5
-    ∷ row (orders (record { view = 0; count = 2; act = join 0 1 }) sampleA) (refused alreadySo 0) 0
-    ∷ row (orders (record { view = 0; count = 2; act = join 0 0 }) sampleA) (given afterP5) 56
+    ∷ row (orders (record { view = viewA; count = 2; act = join 0 1 }) sampleA) (refused alreadySo 0) 0
+    ∷ row (orders (record { view = viewA; count = 2; act = join 0 0 }) sampleA) (given afterP5) 56
     -- P6
     ∷ row (judges (bare 8)) (given (bare 8)) 38
     -- P7
@@ -89,9 +95,9 @@ table =
     ∷ row (judges (bare 3)) (refused badHeader 136) 0
     ∷ row (judges (bare 4)) (given (bare 4)) 38
     -- P9: heading 16 - 7 at level 1
-    ∷ row (trails 0 0 levelLine) (given (19 ∷ [])) 1
+    ∷ row (trails viewA 0 levelLine) (given (19 ∷ [])) 1
     -- P10, changed by request [2]: heading 1, then 3
-    ∷ row (trails 0 0 directionThree) (given (2 ∷ 6 ∷ [])) 2
+    ∷ row (trails viewA 0 directionThree) (given (2 ∷ 6 ∷ [])) 2
     -- P11
-    ∷ row (orders (record { view = 0; count = 31; act = remove (15 ∷ []) }) wide) (given wider) 299
+    ∷ row (orders (record { view = viewA; count = 31; act = remove (15 ∷ []) }) wide) (given wider) 299
     ∷ []

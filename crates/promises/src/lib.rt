@@ -2,6 +2,7 @@
 // make calls one behind the other, as demands 2 and 3 have them, so that it is proved of what runs.
 ghost use Rattle.orders.specs.Called.{removalOrder};
 ghost use Rattle.promises.specs.Calls.{RecordBack, SheetBack, OnlyOnce};
+use format::ViewName;
 use order_holds::now_holds;
 use ordering::remove;
 use outcome::Answer;
@@ -35,7 +36,7 @@ pub fn write_then_read(sheet: &[u8], bytes: &mut [u8], again: &mut [u8]) -> Answ
 // The repeated hour: a removal, the record that then holds, and the same removal on it.
 pub fn remove_twice(
     bytes: &[u8],
-    view: usize,
+    view: ViewName,
     count: usize,
     lines: &[u8],
     second: &mut [u8],

@@ -15,6 +15,7 @@ use Rattle.format.specs.Index.{index, indexBlock}
 use Rattle.format.specs.Segments.{segment, segments}
 use Rattle.format.specs.View.{view, viewHeader}
 use Rattle.format.specs.Record.{header, views, recordOf, read, size, write}
+use Rattle.format.specs.Named.{named}
 use Rattle.format.specs.Call.{onRecord, onView, onSegment}
 use Rattle.format.specs.Sample.{headerA}
 use Rattle.rewrite.specs.Rewrite.{rewritten, rewriting}
@@ -75,7 +76,7 @@ table =
     ∷ []
 
 abbrev computed : Row → Outcome ℕ
-computed r = quality 0 (r .place) (r .bytes)
+computed r = quality (named 2 0) (r .place) (r .bytes)
 
 abbrev expected : Row → Outcome ℕ
 expected r = r .gives
@@ -125,7 +126,7 @@ rewritings =
     ∷ []
 
 abbrev rewrote : Rewriting → Outcome ℕ
-rewrote r = setQuality 0 (r .place) (r .values) (r .old)
+rewrote r = setQuality (named 2 0) (r .place) (r .values) (r .old)
 
 abbrev left : Rewriting → Outcome ℕ
 left r = r .new

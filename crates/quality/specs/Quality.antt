@@ -14,6 +14,7 @@ use Rattle.format.specs.Record.{Record}
 use Rattle.format.specs.Places.{viewAt, segmentAt, imageOf}
 use Rattle.format.specs.Call.{onSegment}
 use Rattle.format.specs.declared.Image.{Image}
+use Rattle.format.specs.declared.ViewName.{ViewName}
 use Rattle.rewrite.specs.Rewrite.{rewriting}
 use Rattle.quality.specs.Parts.{valuesRight}
 use Rattle.quality.specs.Payload.{qualityBlock}
@@ -29,10 +30,11 @@ valuesRead (C.refused e left) = refused badQuality 0
 abbrev pub qualityOf : Image → Segment → Outcome ℕ
 qualityOf image g = pick (isQuality g) (valuesRead (qualityBlock image .dec (bitsOf (g .payload)))) (refused badQuality 0)
 
-abbrev pub qualityIn : (place view : ℕ) → Record → Outcome ℕ
-qualityIn place view r = qualityOf (imageOf (viewAt r view)) (segmentAt (viewAt r view) place)
+-- of view i
+abbrev pub qualityIn : (place i : ℕ) → Record → Outcome ℕ
+qualityIn place i r = qualityOf (imageOf (viewAt r i)) (segmentAt (viewAt r i) place)
 
-unfoldable pub quality : (view place : ℕ) → List ℕ → Outcome ℕ
+unfoldable pub quality : ViewName → (place : ℕ) → List ℕ → Outcome ℕ
 quality view place = onSegment view place (qualityIn place)
 
 -- ---- rewriting: the segment's type and the new values are judged, and not the payload that is stored
@@ -41,11 +43,11 @@ quality view place = onSegment view place (qualityIn place)
 abbrev pub payloadFor : Image → List ℕ → List ℕ
 payloadFor image vs = inBytes (qualityBlock image .enc vs)
 
-abbrev pub setQualityIn : (place : ℕ) → (values : List ℕ) → (view : ℕ) → Record → Outcome ℕ
-setQualityIn place values view r =
-    pick (isQuality (segmentAt (viewAt r view) place) && valuesRight (imageOf (viewAt r view)) values)
-    (rewriting view place (payloadFor (imageOf (viewAt r view)) values) r)
+abbrev pub setQualityIn : (place : ℕ) → (values : List ℕ) → (i : ℕ) → Record → Outcome ℕ
+setQualityIn place values i r =
+    pick (isQuality (segmentAt (viewAt r i) place) && valuesRight (imageOf (viewAt r i)) values)
+    (rewriting i place (payloadFor (imageOf (viewAt r i)) values) r)
     (refused badQuality 0)
 
-unfoldable pub setQuality : (view place : ℕ) → (values : List ℕ) → List ℕ → Outcome ℕ
+unfoldable pub setQuality : ViewName → (place : ℕ) → (values : List ℕ) → List ℕ → Outcome ℕ
 setQuality view place values = onSegment view place (setQualityIn place values)

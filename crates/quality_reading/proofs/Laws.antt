@@ -17,6 +17,7 @@ use Rattle.outcome.proofs.Laws.{answer-refused, answer-full, answer-given}
 use Rattle.format.specs.Segments.{localQuality, isQuality}
 use Rattle.format.specs.Places.{viewAt, segmentAt}
 use Rattle.format.specs.declared.Image.{Image}
+use Rattle.format.specs.declared.ViewName.{ViewName}
 use Rattle.format.proofs.Laws.Call.{on-segment}
 use Rattle.find_segment.specs.Found.{SegmentStands, SegmentRefuses, SpotThere}
 use Rattle.find_segment.specs.declared.Spot.{Spot}
@@ -30,7 +31,7 @@ use Rattle.quality_reading.specs.Reading.{ValuesGiven}
 
 -- ---- refused before a segment is found
 
-pub not-found : {s : List ℕ} {view place e p : ℕ} (before : List ℕ) → SegmentRefuses s view place e p
+pub not-found : {s : List ℕ} {view : ViewName} {place e p : ℕ} (before : List ℕ) → SegmentRefuses s view place e p
     → Answers (quality view place s) before before (record { number = e; place = p; length = 0 })
 unfolding quality
 not-found {place = place} before h = answer-refused (λ xs. xs) (length before) before (h .is (qualityIn place))
@@ -59,18 +60,18 @@ module _ {s : List ℕ} {x : Spot} where
           is = λ view place h.
               let a = h .at in
               answer-refused (λ xs. xs) (length before) before
-              (on-segment view place (qualityIn place) s (h .reads) (a .there) (a .below)
-              ∙ pick-no (isQuality (segmentAt (viewAt (h .value) view) place)) _ _ (no-eqb (λ e. n (a .kind ∙ e))));
+              (on-segment view place (qualityIn place) s (h .reads) (h .means) (a .below)
+              ∙ pick-no (isQuality (segmentAt (viewAt (h .value) (h .i)) place)) _ _ (no-eqb (λ e. n (a .kind ∙ e))));
         }
 
     module _ (k : x .kind ≡ localQuality) where
       -- the outcome is what its payload reads as
-      reads-as : {view place : ℕ} → SegmentStands s view place x → quality view place s ≡ valuesRead (qualityBlock (x .image) .dec (bitsOf (payload s x)))
+      reads-as : {view : ViewName} {place : ℕ} → SegmentStands s view place x → quality view place s ≡ valuesRead (qualityBlock (x .image) .dec (bitsOf (payload s x)))
       unfolding quality
       reads-as {view} {place} h =
           let a = h .at in
-          on-segment view place (qualityIn place) s (h .reads) (a .there) (a .below)
-          ∙ pick-yes (isQuality (segmentAt (viewAt (h .value) view) place)) _ _ (yes-eqb (sym (a .kind) ∙ k))
+          on-segment view place (qualityIn place) s (h .reads) (h .means) (a .below)
+          ∙ pick-yes (isQuality (segmentAt (viewAt (h .value) (h .i)) place)) _ _ (yes-eqb (sym (a .kind) ∙ k))
           ∙ ap₂ (λ (i : Image) (p : List ℕ). valuesRead (qualityBlock i .dec (bitsOf p))) (sym (a .image)) (sym (a .is))
 
       pub broken : valuesRead (qualityBlock (x .image) .dec (bitsOf (payload s x))) ≡ refused badQuality 0
@@ -78,7 +79,7 @@ module _ {s : List ℕ} {x : Spot} where
       broken e = record { is = λ view place h. answer-refused (λ xs. xs) (length before) before (reads-as h ∙ e) }
 
       module _ {g : Grid} (R : RightPayload (x .image) (payload s x) g) (bytes : All Byte s) where
-        gives : {view place : ℕ} → SegmentStands s view place x → quality view place s ≡ given (R .values)
+        gives : {view : ViewName} {place : ℕ} → SegmentStands s view place x → quality view place s ≡ given (R .values)
         gives h = reads-as h ∙ ap valuesRead (R .reads)
 
         pub no-room : length before < 3 + g .cells → ValuesGiven s x before before (record { number = noRoom; place = 0; length = 0 })

@@ -8,6 +8,7 @@ use find_segment::FoundSegment;
 use find_segment::Spot;
 use find_segment::find_segment;
 use format::SegmentType;
+use format::ViewName;
 use outcome::Answer;
 use outcome::Refusal;
 use outcome::accept;
@@ -39,7 +40,7 @@ fn values_at(bytes: &[u8], spot: Spot, out: &mut [u8]) -> Answer
 }
 
 // The payload's first three bytes and a byte per cell, of any bytes: 1 to 13, 23, 24, 20.
-pub fn quality(bytes: &[u8], view: usize, place: usize, out: &mut [u8]) -> Answer
+pub fn quality(bytes: &[u8], view: ViewName, place: usize, out: &mut [u8]) -> Answer
     ensures { λ r. ⌜ Answers (quality view place (now (bytes .entry))) (now (out .entry)) (now (out .exit)) r ⌝ }
 {
     match find_segment(bytes, view, place) {

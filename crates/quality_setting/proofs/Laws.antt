@@ -26,6 +26,7 @@ use Rattle.format.specs.Segments.{localQuality, isQuality}
 use Rattle.format.specs.Record.{Record, size, write, Allowed}
 use Rattle.format.specs.Places.{viewAt, imageOf, segmentAt}
 use Rattle.format.specs.declared.Image.{Image}
+use Rattle.format.specs.declared.ViewName.{ViewName}
 use Rattle.format.proofs.Laws.Call.{on-segment}
 use Rattle.format.proofs.Laws.Record.{read-back}
 use Rattle.format.proofs.Laws.Size.{write-long}
@@ -66,7 +67,7 @@ few {g = g} h =
 
 -- ---- refused before a segment is found
 
-pub not-found : (vs before : List ℕ) {s : List ℕ} {view place e p : ℕ} → SegmentRefuses s view place e p
+pub not-found : (vs before : List ℕ) {s : List ℕ} {view : ViewName} {place e p : ℕ} → SegmentRefuses s view place e p
     → Answers (setQuality view place vs s) before before (record { number = e; place = p; length = 0 })
 unfolding setQuality
 not-found vs before {place = place} h = answer-refused (λ xs. xs) (length before) before (h .is (setQualityIn place vs))
@@ -78,23 +79,23 @@ image-small t = let (w, h) = small-image (t .stands) in record { width = w; heig
 
 module _ {s : List ℕ} {x : Spot} (vs before : List ℕ) where
   -- refused, by the type or by the values
-  wrong : ((view place : ℕ) (h : SegmentStands s view place x) → T (isQuality (segmentAt (viewAt (h .value) view) place))
-      → T (valuesRight (imageOf (viewAt (h .value) view)) vs) → ⊥)
+  wrong : ((view : ViewName) (place : ℕ) (h : SegmentStands s view place x) → T (isQuality (segmentAt (viewAt (h .value) (h .i)) place))
+      → T (valuesRight (imageOf (viewAt (h .value) (h .i))) vs) → ⊥)
       → PayloadSet s x vs before before (record { number = badQuality; place = 0; length = 0 })
   unfolding setQuality
   wrong n =
       record {
         is = λ view place h.
             let a = h .at in
-            let kind : Bool = isQuality (segmentAt (viewAt (h .value) view) place) in
-            let right : Bool = valuesRight (imageOf (viewAt (h .value) view)) vs in
+            let kind : Bool = isQuality (segmentAt (viewAt (h .value) (h .i)) place) in
+            let right : Bool = valuesRight (imageOf (viewAt (h .value) (h .i))) vs in
             answer-refused (λ xs. xs) (length before) before
-            (on-segment view place (setQualityIn place vs) s (h .reads) (a .there) (a .below)
+            (on-segment view place (setQualityIn place vs) s (h .reads) (h .means) (a .below)
             ∙ pick-no (kind && right) _ _ (not-T (kind && right) λ t. let (p, q) = and-yes kind right t in n view place h p q));
       }
 
   pub other-type : x .kind ≢ localQuality → PayloadSet s x vs before before (record { number = badQuality; place = 0; length = 0 })
-  other-type n = wrong λ view place h p q. n (h .at .kind ∙ eqb→eq (segmentAt (viewAt (h .value) view) place .kind) localQuality p)
+  other-type n = wrong λ view place h p q. n (h .at .kind ∙ eqb→eq (segmentAt (viewAt (h .value) (h .i)) place .kind) localQuality p)
 
   pub broken : T (not (valuesRight (x .image) vs)) → PayloadSet s x vs before before (record { number = badQuality; place = 0; length = 0 })
   broken t = wrong λ view place h p q. T-not (valuesRight (x .image) vs) (subst (λ (i : Image). T (valuesRight i vs)) (sym (h .at .image)) q) t
@@ -102,17 +103,17 @@ module _ {s : List ℕ} {x : Spot} (vs before : List ℕ) where
   -- ---- accepted so far: the type is right, and the values are
 
   module _ {g : Grid} {k : ℕ} (q : x .kind ≡ localQuality) (R : RightValues (x .image) vs g) (z : k ≡ 3 + (g .cells * g .bits + 7) / 8) (bytes : All Byte s) where
-    goes-on : {view place : ℕ} (h : SegmentStands s view place x) → setQuality view place vs s ≡ rewriting view place (payloadFor (x .image) vs) (h .value)
+    goes-on : {view : ViewName} {place : ℕ} (h : SegmentStands s view place x) → setQuality view place vs s ≡ rewriting (h .i) place (payloadFor (x .image) vs) (h .value)
     unfolding setQuality
     goes-on {view} {place} h =
         let a = h .at in
-        on-segment view place (setQualityIn place vs) s (h .reads) (a .there) (a .below)
-        ∙ pick-yes (isQuality (segmentAt (viewAt (h .value) view) place) && valuesRight (imageOf (viewAt (h .value) view)) vs) _ _
-        (yes-and (isQuality (segmentAt (viewAt (h .value) view) place)) (valuesRight (imageOf (viewAt (h .value) view)) vs) (yes-eqb (sym (a .kind) ∙ q)) (subst (λ (i : Image). T (valuesRight i vs)) (a .image) (R .right)))
-        ∙ ap (λ (i : Image). rewriting view place (payloadFor i vs) (h .value)) (sym (a .image))
+        on-segment view place (setQualityIn place vs) s (h .reads) (h .means) (a .below)
+        ∙ pick-yes (isQuality (segmentAt (viewAt (h .value) (h .i)) place) && valuesRight (imageOf (viewAt (h .value) (h .i))) vs) _ _
+        (yes-and (isQuality (segmentAt (viewAt (h .value) (h .i)) place)) (valuesRight (imageOf (viewAt (h .value) (h .i))) vs) (yes-eqb (sym (a .kind) ∙ q)) (subst (λ (i : Image). T (valuesRight i vs)) (a .image) (R .right)))
+        ∙ ap (λ (i : Image). rewriting (h .i) place (payloadFor i vs) (h .value)) (sym (a .image))
 
     -- how long the new record is
-    long : {view place : ℕ} (h : SegmentStands s view place x) → size (rewritten view place (payloadFor (x .image) vs) (h .value)) ≡ newLength s x k
+    long : {view : ViewName} {place : ℕ} (h : SegmentStands s view place x) → size (rewritten (h .i) place (payloadFor (x .image) vs) (h .value)) ≡ newLength s x k
     long h = size-is h bytes (payloadFor (x .image) vs) ∙ ap (newLength s x) (payload-size R ∙ sym z)
 
     pub too-long : 32768 < newLength s x k → PayloadSet s x vs before before (record { number = tooLong; place = 0; length = 0 })
@@ -120,19 +121,19 @@ module _ {s : List ℕ} {x : Spot} (vs before : List ℕ) where
     too-long l =
         record {
           is = λ view place h.
-              answer-refused (λ xs. xs) (length before) before (goes-on h ∙ rewriting-long view place (payloadFor (x .image) vs) (h .value) (omega (arith, long h)));
+              answer-refused (λ xs. xs) (length before) before (goes-on h ∙ rewriting-long (h .i) place (payloadFor (x .image) vs) (h .value) (omega (arith, long h)));
         }
 
     module _ (small : newLength s x k ≤ 32768) where
-      gives : {view place : ℕ} (h : SegmentStands s view place x) → setQuality view place vs s ≡ given (write (rewritten view place (payloadFor (x .image) vs) (h .value)))
+      gives : {view : ViewName} {place : ℕ} (h : SegmentStands s view place x) → setQuality view place vs s ≡ given (write (rewritten (h .i) place (payloadFor (x .image) vs) (h .value)))
       unfolding mostBytes
-      gives {view} {place} h = goes-on h ∙ given-rewriting view place (payloadFor (x .image) vs) (h .value) (omega (arith, long h))
+      gives {view} {place} h = goes-on h ∙ given-rewriting (h .i) place (payloadFor (x .image) vs) (h .value) (omega (arith, long h))
 
       pub no-room : length before < newLength s x k → PayloadSet s x vs before before (record { number = noRoom; place = 0; length = 0 })
       no-room l =
           record {
             is = λ view place h.
-                answer-full (λ xs. xs) (length before) before (gives h) (omega (arith, write-long (rewritten view place (payloadFor (x .image) vs) (h .value)), long h));
+                answer-full (λ xs. xs) (length before) before (gives h) (omega (arith, write-long (rewritten (h .i) place (payloadFor (x .image) vs) (h .value)), long h));
           }
 
       pub put : {after : List ℕ} {n : ℕ} → newLength s x k ≤ length before → RecordPut s x vs before after n
@@ -144,9 +145,9 @@ module _ {s : List ℕ} {x : Spot} (vs before : List ℕ) where
                 let a = h .at in
                 let r : Record = h .value in
                 let (old, _, _) = read-back s r [] bytes (h .reads) in
-                let ok : Allowed (rewritten view place (payloadFor (x .image) vs) r) = rewritten-allowed view place (payloadFor (x .image) vs) r (a .there) (a .below) (payload-bytes (x .image) vs) (omega (arith, long h)) old in
-                let L : Laid (write (rewritten view place (payloadFor (x .image) vs) r)) before after n = subst (λ (xs : List ℕ). Laid xs before after n) (bytes-are h bytes (payloadFor (x .image) vs) ok) D in
-                answer-given (λ xs. xs) (length before) before (gives h) after n (omega (arith, write-long (rewritten view place (payloadFor (x .image) vs) r), long h)) (L .count) (L .is);
+                let ok : Allowed (rewritten (h .i) place (payloadFor (x .image) vs) r) = rewritten-allowed (h .i) place (payloadFor (x .image) vs) r (a .there) (a .below) (payload-bytes (x .image) vs) (omega (arith, long h)) old in
+                let L : Laid (write (rewritten (h .i) place (payloadFor (x .image) vs) r)) before after n = subst (λ (xs : List ℕ). Laid xs before after n) (bytes-are h bytes (payloadFor (x .image) vs) ok) D in
+                answer-given (λ xs. xs) (length before) before (gives h) after n (omega (arith, write-long (rewritten (h .i) place (payloadFor (x .image) vs) r), long h)) (L .count) (L .is);
           }
 
 -- ---- the new record, part by part

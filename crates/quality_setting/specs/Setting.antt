@@ -6,6 +6,7 @@ use lib.ListN.{length, drop}
 use Rattle.put_bytes.specs.Laid.{Laid}
 use Rattle.outcome.specs.Outcome.{Answers}
 use Rattle.outcome.specs.declared.Answer.{Answer}
+use Rattle.format.specs.declared.ViewName.{ViewName}
 use Rattle.find_segment.specs.Found.{SegmentStands}
 use Rattle.find_segment.specs.declared.Spot.{Spot}
 use Rattle.quality.specs.Quality.{payloadFor, setQuality}
@@ -29,4 +30,4 @@ RecordPut s x vs before after n =
 -- ---- the call
 
 pub record PayloadSet (s : List ℕ) (x : Spot) (vs before after : List ℕ) (a : Answer) : Type 0 where
-  pub is : (view place : ℕ) → SegmentStands s view place x → Answers (setQuality view place vs s) before after a
+  pub is : (view : ViewName) (place : ℕ) → SegmentStands s view place x → Answers (setQuality view place vs s) before after a

@@ -10,6 +10,7 @@ use find_segment::Spot;
 use find_segment::find_segment;
 use format::Header;
 use format::SegmentType;
+use format::ViewName;
 use outcome::Answer;
 use outcome::Refusal;
 use outcome::accept;
@@ -66,7 +67,13 @@ fn set_at(bytes: &[u8], spot: Spot, values: &[u8], out: &mut [u8]) -> Answer
 }
 
 // The record with that payload, of any bytes: 1 to 13, 23, 24, 19, 20.
-pub fn set_quality(bytes: &[u8], view: usize, place: usize, values: &[u8], out: &mut [u8]) -> Answer
+pub fn set_quality(
+    bytes: &[u8],
+    view: ViewName,
+    place: usize,
+    values: &[u8],
+    out: &mut [u8],
+) -> Answer
     ensures { λ r. ⌜ Answers (setQuality view place (now (values .entry)) (now (bytes .entry))) (now (out .entry)) (now (out .exit)) r ⌝ }
 {
     match find_segment(bytes, view, place) {

@@ -16,10 +16,11 @@ abbrev pub withPayload : (place : ℕ) → List ℕ → View → View
 withPayload place payload v =
     record { head = v .head; lines = v .lines; index = v .index; segments = set (v .segments) place (record { kind = segmentAt v place .kind; payload = payload }) }
 
-unfoldable pub rewritten : (view place : ℕ) → List ℕ → Record → Record
-rewritten view place payload r = withView r view (withPayload place payload (viewAt r view))
+-- of view i
+unfoldable pub rewritten : (i place : ℕ) → List ℕ → Record → Record
+rewritten i place payload r = withView r i (withPayload place payload (viewAt r i))
 
 -- "result over 32,768 bytes": 19; else the record's bytes
-unfoldable pub rewriting : (view place : ℕ) → List ℕ → Record → Outcome ℕ
-rewriting view place payload r =
-    pick (leb (size (rewritten view place payload r)) mostBytes) (given (write (rewritten view place payload r))) (refused tooLong 0)
+unfoldable pub rewriting : (i place : ℕ) → List ℕ → Record → Outcome ℕ
+rewriting i place payload r =
+    pick (leb (size (rewritten i place payload r)) mostBytes) (given (write (rewritten i place payload r))) (refused tooLong 0)

@@ -14,6 +14,7 @@ use Rattle.put_bytes.proofs.Laws.{laid-same, lent}
 use Rattle.format.specs.Segments.{Segment, segments}
 use Rattle.format.specs.Record.{Record, size, write, Allowed}
 use Rattle.format.specs.Places.{viewAt, segmentAt}
+use Rattle.format.specs.declared.ViewName.{ViewName}
 use Rattle.format.proofs.Laws.Record.{read-back}
 use Rattle.format.proofs.Laws.Size.{write-long}
 use Rattle.find_parts.proofs.Laws.Blocks.{block-bits, block-long}
@@ -27,7 +28,7 @@ use Rattle.find_segment.specs.Found.{SegmentStands}
 use Rattle.find_segment.specs.declared.Spot.{Spot}
 use Rattle.rewrite_put.specs.Front.{newLength, newExtended, frontOf, SpotIn, FrontRoom}
 
-module _ {s : List ℕ} {view place : ℕ} {x : Spot} (h : SegmentStands s view place x) where
+module _ {s : List ℕ} {view : ViewName} {place : ℕ} {x : Spot} (h : SegmentStands s view place x) where
   pub spot-in : SpotIn s x
   spot-in =
       let a = h .at in
@@ -45,31 +46,31 @@ module _ {s : List ℕ} {view place : ℕ} {x : Spot} (h : SegmentStands s view 
     abbrev r : Record
     r = h .value
 
-    pub size-is : size (rewritten view place payload r) ≡ newLength s x (length payload)
+    pub size-is : size (rewritten (h .i) place payload r) ≡ newLength s x (length payload)
     size-is =
         let a = h .at in
         let (_, w, _) = read-back s r [] bytes (h .reads) in
-        omega (arith, rewritten-size view place payload r (a .there) (a .below), ap length w, write-long r, a .end, spot-in .order, spot-in .inside, spot-in .within)
+        omega (arith, rewritten-size (h .i) place payload r (a .there) (a .below), ap length w, write-long r, a .end, spot-in .order, spot-in .inside, spot-in .within)
 
     -- in a record of n bytes, with an extended length of m
     abbrev put : (n m from count end : ℕ) → List ℕ
     put n m from count end =
         ((((headOf s (x .extended .from - 2) n ++ two m) ++ part s from count) ++ two (4 + length payload)) ++ payload) ++ drop end s
 
-    pub bytes-are : Allowed (rewritten view place payload r) → (frontOf s x (length payload) ++ payload) ++ drop (x .payload .to) s ≡ write (rewritten view place payload r)
+    pub bytes-are : Allowed (rewritten (h .i) place payload r) → (frontOf s x (length payload) ++ payload) ++ drop (x .payload .to) s ≡ write (rewritten (h .i) place payload r)
     bytes-are ok =
         let a = h .at in
         let (old, _, _) = read-back s r [] bytes (h .reads) in
         let e : ℕ = x .extended .from - 2 in
         let z : e + 2 ≡ x .extended .from = omega (arith, spot-in .from) in
-        let others : List Segment = set (viewAt r view .segments) place (record { kind = segmentAt (viewAt r view) place .kind; payload = payload }) in
-        let m = extended-size view place payload r (a .there) (a .below) in
+        let others : List Segment = set (viewAt r (h .i) .segments) place (record { kind = segmentAt (viewAt r (h .i)) place .kind; payload = payload }) in
+        let m = extended-size (h .i) place payload r (a .there) (a .below) in
         let n : length (inBytes (segments .enc others)) ≡ newExtended x (length payload) =
-        omega (arith, m, block-bits (a .extended), block-long segments (viewAt r view .segments), a .end, spot-in .order, spot-in .inside, spot-in .first) in
-        let i : x .payload .from + length (segmentAt (viewAt r view) place .payload) ≡ x .payload .to = omega (arith, a .end) in
-        let b = rewritten-bytes view place payload r (a .there) (a .below) old ok e (x .payload .from) (is-stored bytes (h .reads)) (ap (λ (n : ℕ). 8 * n) z ∙ a .before) (a .first) in
-        sym (written (rewritten view place payload r) ok ∙ b
-        ∙ ap₂ (λ (g m : ℕ). put g m (e + 2) (x .payload .from - 2 - (e + 2)) (x .payload .from + length (segmentAt (viewAt r view) place .payload))) size-is n
+        omega (arith, m, block-bits (a .extended), block-long segments (viewAt r (h .i) .segments), a .end, spot-in .order, spot-in .inside, spot-in .first) in
+        let i : x .payload .from + length (segmentAt (viewAt r (h .i)) place .payload) ≡ x .payload .to = omega (arith, a .end) in
+        let b = rewritten-bytes (h .i) place payload r (a .there) (a .below) old ok e (x .payload .from) (is-stored bytes (h .reads)) (ap (λ (n : ℕ). 8 * n) z ∙ a .before) (a .first) in
+        sym (written (rewritten (h .i) place payload r) ok ∙ b
+        ∙ ap₂ (λ (g m : ℕ). put g m (e + 2) (x .payload .from - 2 - (e + 2)) (x .payload .from + length (segmentAt (viewAt r (h .i)) place .payload))) size-is n
         ∙ ap₂ (λ (d g : ℕ). put (newLength s x (length payload)) (newExtended x (length payload)) d (x .payload .from - 2 - d) g) z i)
 
 -- ---- the bytes up to the payload, part by part

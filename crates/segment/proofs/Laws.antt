@@ -1,6 +1,6 @@
 -- A segment that is found, or refused, and what the two calls then give.
 use mathlib.Core.Path.{_≡_, sym, ap, ap₂, _∙_}
-use Prim.Native.Nat.{ℕ, _-_, _*_, _≤_}
+use Prim.Native.Nat.{ℕ, _-_, _*_}
 use native.Mathlib.Omega.{arith}
 use mathlib.Core.List.{List, []}
 use lib.ListN.{length}
@@ -8,13 +8,15 @@ use Rattle.bits.proofs.Laws.Parts.{part, part-length}
 use Rattle.outcome.specs.Outcome.{refused, given}
 use Rattle.outcome.proofs.Laws.{told-refused, told-given}
 use Rattle.format.specs.Record.{read}
+use Rattle.format.specs.Places.{firstBit}
+use Rattle.format.specs.declared.ViewName.{ViewName}
 use Rattle.format.proofs.Laws.Call.{on-segment}
 use Rattle.find_segment.specs.Found.{SegmentStands, SegmentRefuses}
 use Rattle.find_segment.specs.declared.Spot.{Spot}
 use Rattle.find_segment.proofs.Laws.{bounds}
 use Rattle.segment.specs.Segment.{payloadIn, payload, firstBitRead, payloadOf, segmentAnswer}
 
-module _ (view place : ℕ) (s : List ℕ) where
+module _ (view : ViewName) (place : ℕ) (s : List ℕ) where
   module _ {e p : ℕ} (h : SegmentRefuses s view place e p) where
     no-payload : payload view place s ≡ refused e p
     unfolding payload
@@ -30,14 +32,15 @@ module _ (view place : ℕ) (s : List ℕ) where
   module _ {x : Spot} (h : SegmentStands s view place x) where
     a-payload : payload view place s ≡ given (part s (x .payload .from) (x .payload .to - x .payload .from))
     unfolding payload
-    a-payload = on-segment view place (payloadIn place) s (h .reads) (h .at .there) (h .at .below) ∙ ap given (sym (h .at .is))
+    a-payload = on-segment view place (payloadIn place) s (h .reads) (h .means) (h .at .below) ∙ ap given (sym (h .at .is))
 
     pub answer-at : record { number = 0; place = 8 * x .payload .from; length = x .payload .to - x .payload .from } ≡ segmentAnswer view place s
     unfolding segmentAnswer
     answer-at =
         let l : length (part s (x .payload .from) (x .payload .to - x .payload .from)) ≡ x .payload .to - x .payload .from =
         part-length s (x .payload .from) (x .payload .to - x .payload .from) (omega (arith, bounds h)) in
-        let f : 8 * x .payload .from ≡ firstBitRead view place (read s) = h .at .first ∙ sym (ap (firstBitRead view place) (h .reads)) in
+        let f : 8 * x .payload .from ≡ firstBitRead view place (read s) =
+        h .at .first ∙ sym (ap (firstBitRead view place) (h .reads) ∙ ap (λ (i : ℕ). firstBit i place (h .value)) (h .means .is)) in
         ap₂ (λ (p n : ℕ). record { number = 0; place = p; length = n }) f (sym l) ∙ sym (told-given (firstBitRead view place (read s)) a-payload)
 
     pub part-given : part s (x .payload .from) (x .payload .to - x .payload .from) ≡ payloadOf (payload view place s)

@@ -9,11 +9,14 @@ use Rattle.outcome.specs.declared.Answer.{Answer}
 use Rattle.format.specs.Record.{Record, read}
 use Rattle.format.specs.Places.{viewAt, segmentAt, firstBit}
 use Rattle.format.specs.Call.{onSegment}
+use Rattle.format.specs.Named.{placeIn}
+use Rattle.format.specs.declared.ViewName.{ViewName}
 
-abbrev pub payloadIn : (place view : ℕ) → Record → Outcome ℕ
-payloadIn place view r = given (segmentAt (viewAt r view) place .payload)
+-- of view i
+abbrev pub payloadIn : (place i : ℕ) → Record → Outcome ℕ
+payloadIn place i r = given (segmentAt (viewAt r i) place .payload)
 
-unfoldable pub payload : (view place : ℕ) → List ℕ → Outcome ℕ
+unfoldable pub payload : ViewName → (place : ℕ) → List ℕ → Outcome ℕ
 payload view place = onSegment view place (payloadIn place)
 
 -- what comes back
@@ -23,10 +26,10 @@ payloadOf (refused e p) = []
 
 -- ---- where it stands
 
-abbrev pub firstBitRead : (view place : ℕ) → C.Read Bool Record → ℕ
-firstBitRead view place (C.got r rest) = firstBit view place r
+abbrev pub firstBitRead : ViewName → (place : ℕ) → C.Read Bool Record → ℕ
+firstBitRead view place (C.got r rest) = firstBit (placeIn view (r .views)) place r
 firstBitRead view place (C.refused e left) = 0
 
 -- the answer of the call of its own
-unfoldable pub segmentAnswer : (view place : ℕ) → List ℕ → Answer
+unfoldable pub segmentAnswer : ViewName → (place : ℕ) → List ℕ → Answer
 segmentAnswer view place s = told (firstBitRead view place (read s)) (payload view place s)

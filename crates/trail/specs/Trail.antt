@@ -14,6 +14,7 @@ use Rattle.format.specs.Record.{Record}
 use Rattle.format.specs.Places.{viewAt, count, lineAt}
 use Rattle.format.specs.Call.{onView}
 use Rattle.format.specs.declared.Scale.{Scale}
+use Rattle.format.specs.declared.ViewName.{ViewName}
 
 -- ---- the first heading
 
@@ -60,9 +61,10 @@ trail s l = follow (s .half) (s .widths .k) false (firstHeading (s .half) (s .wi
 
 -- ---- the call: "Trail: 13, 15, 20"
 
-abbrev pub trailIn : (line view : ℕ) → Record → Outcome ℕ
-trailIn line view r =
-    pick (ltb line (count (viewAt r view))) (given (trail (r .head .scale) (lineAt (viewAt r view) line))) (refused badLines 0)
+-- of view i
+abbrev pub trailIn : (line i : ℕ) → Record → Outcome ℕ
+trailIn line i r =
+    pick (ltb line (count (viewAt r i))) (given (trail (r .head .scale) (lineAt (viewAt r i) line))) (refused badLines 0)
 
-unfoldable pub trailing : (view line : ℕ) → List ℕ → Outcome ℕ
+unfoldable pub trailing : ViewName → (line : ℕ) → List ℕ → Outcome ℕ
 trailing view line = onView view (trailIn line)

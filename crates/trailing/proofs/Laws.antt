@@ -23,6 +23,7 @@ use Rattle.format.specs.View.{View}
 use Rattle.format.specs.Record.{Narrow}
 use Rattle.format.specs.Places.{viewAt, count, lineAt}
 use Rattle.format.specs.declared.Scale.{Scale}
+use Rattle.format.specs.declared.ViewName.{ViewName}
 use Rattle.format.proofs.Laws.Call.{on-view}
 use Rattle.trail.specs.Trail.{firstHeading, follow, trail, trailIn, trailing}
 use Rattle.trail.proofs.Laws.{first-small}
@@ -79,28 +80,28 @@ module _ (sc : Scale) {s : List ℕ} {p : ℕ} {l : Line} {q : ℕ} (h : Reads (
 -- ---- the outcome of the call on an accepted record
 
 -- N is from 1 to 255
-pub half-is : {s : List ℕ} {view : ℕ} {c : Scale} {x : Blocks} → Stands s view c x → (1 ≤ c .half) × (c .half ≤ 255)
+pub half-is : {s : List ℕ} {view : ViewName} {c : Scale} {x : Blocks} → Stands s view c x → (1 ≤ c .half) × (c .half ≤ 255)
 half-is {s} h =
     let n : ℕ = h .value .head .scale .half in
     let f = record-apart s (h .reads) .fits .scale .half .1 in
     rw (h .scale) (within-low 1 255 n f, within-high 1 255 n f)
 
-module _ {view : ℕ} (line : ℕ) {s : List ℕ} where
+module _ {view : ViewName} (line : ℕ) {s : List ℕ} where
   pub refused-is : {e p : ℕ} → Refuses s view e p → trailing view line s ≡ refused e p
   unfolding trailing
   refused-is h = h .is (trailIn line)
 
   module _ {c : Scale} {x : Blocks} (h : Stands s view c x) where
     abbrev v : View
-    v = viewAt (h .value) view
+    v = viewAt (h .value) (h .place)
 
     pub no-line : count v ≤ line → trailing view line s ≡ refused badLines 0
     unfolding trailing
-    no-line k = on-view view (trailIn line) s (h .reads) (h .there) ∙ pick-no (ltb line (count v)) _ _ (no-ltb {a = line} k)
+    no-line k = on-view view (trailIn line) s (h .reads) (h .means) ∙ pick-no (ltb line (count v)) _ _ (no-ltb {a = line} k)
 
     pub has-line : line < count v → trailing view line s ≡ given (trail (h .value .head .scale) (lineAt v line))
     unfolding trailing
-    has-line k = on-view view (trailIn line) s (h .reads) (h .there) ∙ pick-yes (ltb line (count v)) _ _ (yes-ltb {a = line} k)
+    has-line k = on-view view (trailIn line) s (h .reads) (h .means) ∙ pick-yes (ltb line (count v)) _ _ (yes-ltb {a = line} k)
 
 -- ---- what code answers, in whatever form the elements stand, each in so many places
 

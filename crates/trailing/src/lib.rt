@@ -11,6 +11,7 @@ use find_parts::view::Part;
 use find_view::FoundView;
 use find_view::find_view;
 use format::Scale;
+use format::ViewName;
 use outcome::Answer;
 use outcome::Refusal;
 use outcome::accept;
@@ -62,7 +63,7 @@ fn walk_at(block: &[u8], p: usize, scale: Scale) -> CodeWalk
 }
 
 // The line of any bytes. Lines are passed up to it; where fewer than eight bits are left, there is none.
-fn find(bytes: &[u8], view: usize, line: usize) -> FoundLine
+fn find(bytes: &[u8], view: ViewName, line: usize) -> FoundLine
     ensures { λ r. ⌜ LineFound (now (bytes .entry)) (trailing view line (now (bytes .entry))) r ⌝ }
 {
     match find_view(bytes, view) {
@@ -86,7 +87,7 @@ fn find(bytes: &[u8], view: usize, line: usize) -> FoundLine
 }
 
 // The trail of a line, as 16-bit numbers.
-pub fn trail(bytes: &[u8], view: usize, line: usize, out: &mut [u16]) -> Answer
+pub fn trail(bytes: &[u8], view: ViewName, line: usize, out: &mut [u16]) -> Answer
     ensures { λ r. ⌜ Answers (trailing view line (now (bytes .entry))) (now (out .entry)) (now (out .exit)) r ⌝ }
 {
     match find(bytes, view, line) {
@@ -113,7 +114,7 @@ pub fn trail(bytes: &[u8], view: usize, line: usize, out: &mut [u16]) -> Answer
 }
 
 // The same, as bytes: two for each number, high byte first. A byte over stays.
-pub fn trail_as_bytes(bytes: &[u8], view: usize, line: usize, out: &mut [u8]) -> Answer
+pub fn trail_as_bytes(bytes: &[u8], view: ViewName, line: usize, out: &mut [u8]) -> Answer
     ensures { λ r. ⌜ AnswersInBytes (trailing view line (now (bytes .entry))) (now (out .entry)) (now (out .exit)) r ⌝ }
 {
     match find(bytes, view, line) {

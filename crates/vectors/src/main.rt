@@ -1,10 +1,13 @@
 // Runs the library's calls on each file that an argument names, and prints what came of it: the listing, the place of a refusal, the
-// sheet's length, the trails of the first lines of each view, the lengths of its first segments and the values of their local quality.
+// sheet's length, and for each view, named by finger position and number, the trails of its first lines, the lengths of its first segments
+// and the values of their local quality.
 use format::Header;
+use format::ViewName;
 use judge::Verdict;
 use judge::judge;
 use list_text::number;
 use list_text::text;
+use outcome::Refusal;
 use quality_reading::quality;
 use reading::read;
 use segment::payload;
@@ -32,10 +35,12 @@ fn refused_at(bytes: &[u8]) {
     text(b"\n");
 }
 
-// How a line of its own starts: what it is of, the view and the place.
-fn start(name: &[u8], view: usize, place: usize) {
+// How a line of its own starts: what it is of, the view's finger position and number, and the place.
+fn start(name: &[u8], view: ViewName, place: usize) {
     text(name);
-    number(view);
+    number(view.finger as usize);
+    text(b" ");
+    number(view.number as usize);
     text(b" ");
     number(place);
     text(b":");
@@ -56,7 +61,7 @@ fn numbers(trail: &[u16], count: usize) {
 }
 
 // Whether the view has that line.
-fn trail_of(bytes: &[u8], view: usize, line: usize) -> bool {
+fn trail_of(bytes: &[u8], view: ViewName, line: usize) -> bool {
     let mut out = [0u16; 255];
     let answer = trail(bytes, view, line, &mut out);
     if answer.number != 0 {
@@ -83,7 +88,7 @@ fn values(out: &[u8], count: usize) {
 }
 
 // The values of local quality, where the segment has some.
-fn quality_of(bytes: &[u8], view: usize, place: usize) {
+fn quality_of(bytes: &[u8], view: ViewName, place: usize) {
     let mut out = [0u8; 256];
     let answer = quality(bytes, view, place, &mut out);
     if answer.number != 0 {
@@ -95,7 +100,7 @@ fn quality_of(bytes: &[u8], view: usize, place: usize) {
 }
 
 // Whether the view has that segment.
-fn segment_of(bytes: &[u8], view: usize, place: usize) -> bool {
+fn segment_of(bytes: &[u8], view: ViewName, place: usize) -> bool {
     let answer = segment(bytes, view, place);
     if answer.number != 0 {
         return false;
@@ -109,7 +114,12 @@ fn segment_of(bytes: &[u8], view: usize, place: usize) -> bool {
     true
 }
 
-fn parts_of(bytes: &[u8], view: usize) {
+// Whether there is such a view.
+fn parts_of(bytes: &[u8], view: ViewName) -> bool {
+    let first = segment(bytes, view, 0);
+    if first.number == Refusal::NO_VIEW {
+        return false;
+    }
     let mut line: usize = 0;
     while line < 8 && trail_of(bytes, view, line) {
         line += 1;
@@ -118,13 +128,22 @@ fn parts_of(bytes: &[u8], view: usize) {
     while place < 8 && segment_of(bytes, view, place) {
         place += 1;
     }
+    true
+}
+
+// The views of a finger, by their numbers.
+fn views_of(bytes: &[u8], finger: u32) {
+    let mut number: u32 = 0;
+    while number < 255 && parts_of(bytes, ViewName { finger, number }) {
+        number += 1;
+    }
 }
 
 fn of_record(bytes: &[u8]) {
     list_text::listing(bytes);
     let Verdict::Accepted {
         header: _,
-        views,
+        views: _,
         size: _,
     } = judge(bytes)
     else {
@@ -132,10 +151,10 @@ fn of_record(bytes: &[u8]) {
         return;
     };
     sheet(bytes);
-    let mut view: usize = 0;
-    while view < views {
-        parts_of(bytes, view);
-        view += 1;
+    let mut finger: u32 = 0;
+    while finger < 11 {
+        views_of(bytes, finger);
+        finger += 1;
     }
 }
 

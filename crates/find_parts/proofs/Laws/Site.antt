@@ -38,5 +38,5 @@ site-is P e l B =
 pub site-lines : {s : List ℕ} {x : Blocks} {w : Widths} → SiteThere s x w → LinesThere w (cut s (x .skeleton .from) (x .skeleton .to))
 site-lines {s} {x} {w} t =
     let a = record-apart s (t .reads) in
-    let h : BlockAt (skeleton w) s (x .skeleton .from) (x .skeleton .to) (viewAt (t .value) (t .view) .lines) = rw (t .widths) (t .blocks .lines) in
+    let h : BlockAt (skeleton w) s (x .skeleton .from) (x .skeleton .to) (viewAt (t .value) (t .place) .lines) = rw (t .widths) (t .blocks .lines) in
     lines-there (rw (t .widths) (narrow (a .fits))) (a .short) h

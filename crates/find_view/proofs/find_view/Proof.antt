@@ -5,7 +5,7 @@ use mathlib.Core.Path.{subst}
 use Rattle.judge.specs.Judge.{Judges}
 use Rattle.judge.specs.declared.Verdict.{Verdict}
 use Rattle.judge.specs.declared.Verdict.the-variants.{Accepted}
-use Rattle.find_view.proofs.Laws.{judged, not-there, view-there, its-blocks, stands}
+use Rattle.find_view.proofs.Laws.{judged, not-there, views-there, near-start, its-blocks, stands}
 use borrow.Author.Needs.{needs}
 use Rattle.find_view.proofs.find_view.Statement.{statement}
 use Rattle.find_view.proofs.find_view.Tie as tie
@@ -22,18 +22,17 @@ enum-known-number c = search needs
 enum-known-header : tie.Need-enum-known-header
 enum-known-header c = search needs
 
-view-at-requires : tie.Need-view-at-requires
-view-at-requires c κs =
-    view-there (c .before .before .before .before .before .before .args .view) (accepted (c .before .before)) (c .if1 .taken)
+view-named-requires : tie.Need-view-named-requires
+view-named-requires c κs =
+    views-there (c .before .before .before .before .before .args .view) (accepted (c .before))
 
 add-blocks-at : tie.Need-add-blocks-at
 add-blocks-at c =
-    let t = its-blocks (c .before .before .before .before .before .before .before .before .args .view) (accepted (c .before .before .before .before)) (c .before .before .if1 .taken) (c .before .view-at .ensures) in
-    omega (arith, t .short, t .blocks .lines .from, t .blocks .lines .within)
+    omega (arith, near-start (c .before .before .before .before .before .before .before .before .args .view) (accepted (c .before .before .before .before)) (c .before .before .view-named .ensures) (c .before .if1 .taken))
 
 blocks-at-requires : tie.Need-blocks-at-requires
 blocks-at-requires c κs =
-    its-blocks (c .before .before .before .before .before .before .before .before .args .view) (accepted (c .before .before .before .before)) (c .before .before .if1 .taken) (c .before .view-at .ensures)
+    its-blocks (c .before .before .before .before .before .before .before .before .args .view) (accepted (c .before .before .before .before)) (c .before .before .view-named .ensures) (c .before .if1 .taken)
 
 returns : tie.Need-returns
 returns c =
@@ -41,11 +40,11 @@ returns c =
 
 returns-2 : tie.Need-returns-2
 returns-2 c =
-    stands (c .before .before .before .before .before .before .before .before .before .args .view) (accepted (c .before .before .before .before .before)) (c .before .before .before .if1 .taken) (c .before .before .view-at .ensures) (c .blocks-at .ensures)
+    stands (c .before .before .before .before .before .before .before .before .before .args .view) (accepted (c .before .before .before .before .before)) (c .before .before .before .view-named .ensures) (c .before .before .if1 .taken) (c .blocks-at .ensures)
 
 returns-3 : tie.Need-returns-3
 returns-3 c =
-    not-there (c .before .before .before .before .before .before .args .view) (accepted (c .before .before)) (omega (arith, c .if1 .left))
+    not-there (c .before .before .before .before .before .before .before .args .view) (accepted (c .before .before .before)) (c .before .view-named .ensures) (omega (arith, c .if1 .left))
 
 pub find-view-spec : {M : Type 1} → statement M
 find-view-spec =
@@ -54,7 +53,7 @@ find-view-spec =
     judge-requires
     enum-known-number
     enum-known-header
-    view-at-requires
+    view-named-requires
     add-blocks-at
     blocks-at-requires
     returns

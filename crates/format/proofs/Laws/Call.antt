@@ -17,7 +17,10 @@ use Rattle.outcome.specs.Refusals.{noView, noSegment}
 use Rattle.outcome.specs.Outcome.{Outcome, refused, given}
 use Rattle.format.specs.Record.{Record, read}
 use Rattle.format.specs.Places.{viewAt}
+use Rattle.format.specs.Named.{placeIn, Means}
+use Rattle.format.specs.declared.ViewName.{ViewName}
 use Rattle.format.specs.Call.{fromRead, onRecord, inView, onView, inSegment, onSegment}
+use Rattle.format.proofs.Laws.Named.{here}
 use Rattle.format.proofs.Laws.Refuses.{read-refuses}
 
 pub on-record : {A : Type 0} (f : Record → Outcome A) (bytes : List ℕ) (r : Record) (rest : Bits) → read bytes ≡ C.got r rest → onRecord f bytes ≡ f r
@@ -35,60 +38,67 @@ given-record {A} {P} f bytes xs p k = go (read bytes) refl p
 
 -- ---- a call on a view
 
-module _ {A : Type 0} (view : ℕ) (f : ℕ → Record → Outcome A) (bytes : List ℕ) where
+module _ {A : Type 0} (view : ViewName) (f : ℕ → Record → Outcome A) (bytes : List ℕ) where
   module _ {r : Record} {rest : Bits} (p : read bytes ≡ C.got r rest) where
-    pub on-view : view < length (r .views) → onView view f bytes ≡ f view r
+    pub on-view : {i : ℕ} → Means view r i → onView view f bytes ≡ f i r
     unfolding onView
-    on-view l = on-record (inView view f) bytes r rest p ∙ pick-yes (ltb view (length (r .views))) _ _ (yes-ltb {a = view} l)
+    on-view m =
+        let k : ℕ = placeIn view (r .views) in
+        on-record (inView view f) bytes r rest p ∙ pick-yes (ltb k (length (r .views))) _ _ (yes-ltb {a = k} (omega (arith, m .is, m .there)))
+        ∙ ap (λ (i : ℕ). f i r) (m .is)
 
-    pub no-view : length (r .views) ≤ view → onView view f bytes ≡ refused noView 0
+    pub no-view : length (r .views) ≤ placeIn view (r .views) → onView view f bytes ≡ refused noView 0
     unfolding onView
-    no-view l = on-record (inView view f) bytes r rest p ∙ pick-no (ltb view (length (r .views))) _ _ (no-ltb {a = view} l)
+    no-view l =
+        let k : ℕ = placeIn view (r .views) in
+        on-record (inView view f) bytes r rest p ∙ pick-no (ltb k (length (r .views))) _ _ (no-ltb {a = k} l)
 
   pub given-view : {P : Type 0} (xs : List A) → onView view f bytes ≡ given xs
-      → ((r : Record) (rest : Bits) → read bytes ≡ C.got r rest → view < length (r .views) → f view r ≡ given xs → P) → P
+      → ((r : Record) (rest : Bits) (i : ℕ) → read bytes ≡ C.got r rest → Means view r i → f i r ≡ given xs → P) → P
   unfolding onView
   given-view xs h k =
       given-record (inView view f) bytes xs h λ r rest e g.
-      pick-split (ltb view (length (r .views))) _ _ g (λ t q. k r rest e (ltb→lt view (length (r .views)) t) q)
+      let i : ℕ = placeIn view (r .views) in
+      pick-split (ltb i (length (r .views))) _ _ g (λ t q. k r rest i e (here view r (ltb→lt i (length (r .views)) t)) q)
       (λ t q. let z : _≡_ {A = ℕ} 0 1 = cc in absurd (omega arith))
 
 -- ---- a call on a segment
 
-module _ {A : Type 0} (view place : ℕ) (f : ℕ → Record → Outcome A) (bytes : List ℕ) where
-  module _ {r : Record} {rest : Bits} (p : read bytes ≡ C.got r rest) (l : view < length (r .views)) where
-    pub on-segment : place < length (viewAt r view .segments) → onSegment view place f bytes ≡ f view r
+module _ {A : Type 0} (view : ViewName) (place : ℕ) (f : ℕ → Record → Outcome A) (bytes : List ℕ) where
+  module _ {r : Record} {rest : Bits} (p : read bytes ≡ C.got r rest) {i : ℕ} (m : Means view r i) where
+    pub on-segment : place < length (viewAt r i .segments) → onSegment view place f bytes ≡ f i r
     unfolding onSegment
-    on-segment k = on-view view (inSegment place f) bytes p l ∙ pick-yes (ltb place (length (viewAt r view .segments))) _ _ (yes-ltb {a = place} k)
+    on-segment k = on-view view (inSegment place f) bytes p m ∙ pick-yes (ltb place (length (viewAt r i .segments))) _ _ (yes-ltb {a = place} k)
 
-    pub no-segment : length (viewAt r view .segments) ≤ place → onSegment view place f bytes ≡ refused noSegment 0
+    pub no-segment : length (viewAt r i .segments) ≤ place → onSegment view place f bytes ≡ refused noSegment 0
     unfolding onSegment
-    no-segment k = on-view view (inSegment place f) bytes p l ∙ pick-no (ltb place (length (viewAt r view .segments))) _ _ (no-ltb {a = place} k)
+    no-segment k = on-view view (inSegment place f) bytes p m ∙ pick-no (ltb place (length (viewAt r i .segments))) _ _ (no-ltb {a = place} k)
 
   pub given-segment : {P : Type 0} (xs : List A) → onSegment view place f bytes ≡ given xs
-      → ((r : Record) (rest : Bits) → read bytes ≡ C.got r rest → view < length (r .views) → place < length (viewAt r view .segments)
-      → f view r ≡ given xs → P) → P
+      → ((r : Record) (rest : Bits) (i : ℕ) → read bytes ≡ C.got r rest → Means view r i → place < length (viewAt r i .segments)
+      → f i r ≡ given xs → P) → P
   unfolding onSegment
   given-segment xs h k =
-      given-view view (inSegment place f) bytes xs h λ r rest e l g.
-      pick-split (ltb place (length (viewAt r view .segments))) _ _ g (λ t q. k r rest e l (ltb→lt place (length (viewAt r view .segments)) t) q)
+      given-view view (inSegment place f) bytes xs h λ r rest i e m g.
+      pick-split (ltb place (length (viewAt r i .segments))) _ _ g (λ t q. k r rest i e m (ltb→lt place (length (viewAt r i .segments)) t) q)
       (λ t q. let z : _≡_ {A = ℕ} 0 1 = cc in absurd (omega arith))
 
   -- a refusal with another number than 1 to 13 and 23 is the call's own
   pub own-segment : {P : Type 0} (e p : ℕ) → 13 < e → e ≢ noSegment → onSegment view place f bytes ≡ refused e p
-      → ((r : Record) (rest : Bits) → read bytes ≡ C.got r rest → view < length (r .views) → place < length (viewAt r view .segments)
-      → f view r ≡ refused e p → P) → P
+      → ((r : Record) (rest : Bits) (i : ℕ) → read bytes ≡ C.got r rest → Means view r i → place < length (viewAt r i .segments)
+      → f i r ≡ refused e p → P) → P
   unfolding onRecord onView onSegment
   own-segment {P} e p l n h k = go (read bytes) refl h
     where
-      in-view : (r : Record) (rest : Bits) → read bytes ≡ C.got r rest → view < length (r .views) → inSegment place f view r ≡ refused e p → P
-      in-view r rest q v g =
-          pick-split (ltb place (length (viewAt r view .segments))) _ _ g (λ t y. k r rest q v (ltb→lt place (length (viewAt r view .segments)) t) y)
+      in-view : (r : Record) (rest : Bits) (i : ℕ) → read bytes ≡ C.got r rest → Means view r i → inSegment place f i r ≡ refused e p → P
+      in-view r rest i q m g =
+          pick-split (ltb place (length (viewAt r i .segments))) _ _ g (λ t y. k r rest i q m (ltb→lt place (length (viewAt r i .segments)) t) y)
           (λ t y. let z : noSegment ≡ e = cc in absurd (n (sym z)))
 
       go : (o : Read Bool Record) → read bytes ≡ o → fromRead (8 * length bytes) (inView view (inSegment place f)) o ≡ refused e p → P
       go (C.got r rest) q g =
-          pick-split (ltb view (length (r .views))) _ _ g (λ t y. in-view r rest q (ltb→lt view (length (r .views)) t) y)
+          let i : ℕ = placeIn view (r .views) in
+          pick-split (ltb i (length (r .views))) _ _ g (λ t y. in-view r rest i q (here view r (ltb→lt i (length (r .views)) t)) y)
           (λ t y. let z : noView ≡ e = cc in absurd (omega arith))
       go (C.refused m left) q g =
           let z : m ≡ e = cc in

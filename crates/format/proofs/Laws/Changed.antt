@@ -1,6 +1,6 @@
 -- A record with another view in the place of one of its views: it is allowed where the new view has the old one's header and fits, and
 -- the record is not too long. What is said of the other views is said of them in the old record.
-use mathlib.Core.Path.{_≡_}
+use mathlib.Core.Path.{_≡_, _∙_}
 use mathlib.Core.Logic.{_≢_}
 use Prim.Native.Nat.{ℕ, zero, suc, _*_, _≤_, _<_}
 use native.Mathlib.Omega.{arith}
@@ -13,8 +13,11 @@ use Rattle.format.specs.Limits.{mostBytes}
 use Rattle.format.specs.View.{View, view}
 use Rattle.format.specs.Record.{Record, tellSeen, size, Allowed}
 use Rattle.format.specs.Places.{noViewThere, viewAt, withView}
+use Rattle.format.specs.Named.{placeIn, Means}
 use Rattle.format.specs.declared.Widths.{Widths}
+use Rattle.format.specs.declared.ViewName.{ViewName}
 use Rattle.format.proofs.Laws.Size.{views-length}
+use Rattle.format.proofs.Laws.Named.{places-keep}
 
 -- u fits wherever v does, if it is not too long
 abbrev pub FitsAs : Widths → (u v : View) → Type 0
@@ -41,6 +44,14 @@ module _ (r : Record) (i : ℕ) (u : View) where
 
   pub changed-other : (j : ℕ) → j ≢ i → viewAt (withView r i u) j ≡ viewAt r j
   changed-other j n = getD-set-other (r .views) i j u noViewThere n
+
+  -- with the old header, it has the old name too: a name means the place that it meant
+  module _ (e : u .head ≡ viewAt r i .head) (view : ViewName) where
+    pub changed-place : placeIn view (withView r i u .views) ≡ placeIn view (r .views)
+    changed-place = places-keep view (r .views) i u e
+
+    pub changed-means : {j : ℕ} → Means view r j → Means view (withView r i u) j
+    changed-means m = record { is = changed-place ∙ m .is; there = omega (arith, changed-count, m .there) }
 
   pub changed-allowed : i < length (r .views) → u .head ≡ viewAt r i .head → FitsAs (r .head .scale .widths) u (viewAt r i)
       → size (withView r i u) ≤ mostBytes → Allowed r → Allowed (withView r i u)

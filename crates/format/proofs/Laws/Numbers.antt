@@ -18,6 +18,8 @@ use Rattle.outcome.proofs.Refused.{Refused}
 use Rattle.outcome.proofs.Numbers.{RefusedBy}
 use Rattle.format.specs.Record.{Record, read}
 use Rattle.format.specs.Places.{viewAt}
+use Rattle.format.specs.Named.{placeIn}
+use Rattle.format.specs.declared.ViewName.{ViewName}
 use Rattle.format.specs.Call.{fromRead, onRecord, inView, onView, inSegment, onSegment}
 use Rattle.format.proofs.Laws.Refuses.{read-refuses}
 
@@ -41,18 +43,19 @@ module _ (ranges : List (ℕ × ℕ)) {A : Type 0} where
       on-record-refused (λ e p. T (among ranges e)) bytes
       (λ e left q. let (t, _, _) = read-refuses bytes e left q in own e (within-low 1 12 e t) (within-high 1 12 e t)) f h
 
-  pub view-numbers : ((e : ℕ) → 1 ≤ e → e ≤ 13 → T (among ranges e)) → (view : ℕ) (f : ℕ → Record → Outcome A)
-      → ((r : Record) → RefusedBy ranges (f view r)) → (bytes : List ℕ) → RefusedBy ranges (onView view f bytes)
+  pub view-numbers : ((e : ℕ) → 1 ≤ e → e ≤ 13 → T (among ranges e)) → (view : ViewName) (f : ℕ → Record → Outcome A)
+      → ((i : ℕ) (r : Record) → RefusedBy ranges (f i r)) → (bytes : List ℕ) → RefusedBy ranges (onView view f bytes)
   unfolding onView
   view-numbers own view f h =
       record-numbers (λ e l k. own e l (omega arith)) (inView view f) λ r.
-      pick-case (RefusedBy ranges) (ltb view (length (r .views))) _ _ (λ u. h r) (λ u. own noView (omega arith) (omega arith))
+      pick-case (RefusedBy ranges) (ltb (placeIn view (r .views)) (length (r .views))) _ _ (λ u. h (placeIn view (r .views)) r)
+      (λ u. own noView (omega arith) (omega arith))
 
-  pub segment-numbers : ((e : ℕ) → 1 ≤ e → e ≤ 13 → T (among ranges e)) → T (among ranges noSegment) → (view place : ℕ) (f : ℕ → Record → Outcome A)
-      → ((r : Record) → RefusedBy ranges (f view r)) → (bytes : List ℕ) → RefusedBy ranges (onSegment view place f bytes)
+  pub segment-numbers : ((e : ℕ) → 1 ≤ e → e ≤ 13 → T (among ranges e)) → T (among ranges noSegment) → (view : ViewName) (place : ℕ) (f : ℕ → Record → Outcome A)
+      → ((i : ℕ) (r : Record) → RefusedBy ranges (f i r)) → (bytes : List ℕ) → RefusedBy ranges (onSegment view place f bytes)
   unfolding onSegment
   segment-numbers own none view place f h =
-      view-numbers own view (inSegment place f) λ r. pick-case (RefusedBy ranges) (ltb place (length (viewAt r view .segments))) _ _ (λ u. h r) (λ u. none)
+      view-numbers own view (inSegment place f) λ i r. pick-case (RefusedBy ranges) (ltb place (length (viewAt r i .segments))) _ _ (λ u. h i r) (λ u. none)
 
 -- ---- places
 
@@ -66,12 +69,15 @@ module _ (bytes : List ℕ) where
   pub record-placed : {A : Type 0} (f : Record → Outcome A) → ((r : Record) → Refused PlacedHere (f r)) → Refused PlacedHere (onRecord f bytes)
   record-placed f h = on-record-refused PlacedHere bytes at-record f h
 
-  pub view-placed : {A : Type 0} (view : ℕ) (f : ℕ → Record → Outcome A) → ((r : Record) → Refused PlacedHere (f view r)) → Refused PlacedHere (onView view f bytes)
+  pub view-placed : {A : Type 0} (view : ViewName) (f : ℕ → Record → Outcome A) → ((i : ℕ) (r : Record) → Refused PlacedHere (f i r))
+      → Refused PlacedHere (onView view f bytes)
   unfolding onView
-  view-placed view f h = record-placed (inView view f) λ r. pick-case (Refused PlacedHere) (ltb view (length (r .views))) _ _ (λ u. h r) (λ u. tt)
+  view-placed view f h =
+      record-placed (inView view f) λ r.
+      pick-case (Refused PlacedHere) (ltb (placeIn view (r .views)) (length (r .views))) _ _ (λ u. h (placeIn view (r .views)) r) (λ u. tt)
 
-  pub segment-placed : {A : Type 0} (view place : ℕ) (f : ℕ → Record → Outcome A) → ((r : Record) → Refused PlacedHere (f view r))
+  pub segment-placed : {A : Type 0} (view : ViewName) (place : ℕ) (f : ℕ → Record → Outcome A) → ((i : ℕ) (r : Record) → Refused PlacedHere (f i r))
       → Refused PlacedHere (onSegment view place f bytes)
   unfolding onSegment
   segment-placed view place f h =
-      view-placed view (inSegment place f) λ r. pick-case (Refused PlacedHere) (ltb place (length (viewAt r view .segments))) _ _ (λ u. h r) (λ u. tt)
+      view-placed view (inSegment place f) λ i r. pick-case (Refused PlacedHere) (ltb place (length (viewAt r i .segments))) _ _ (λ u. h i r) (λ u. tt)

@@ -26,7 +26,7 @@ put-requires : tie.Need-put-requires
 put-requires c κs =
     let p = c .before .before .before .before .before .before .before .before .pre in
     let z = size-zero _ _ (sym (c .before .before .size-number .ensures) ∙ c .before .if1 .left) in
-    record { placed = p; sizes = c .before .before .before .measure .ensures .is (p .value) (p .view) (p .reads) (p .at); small = omega (arith, z .0); room = omega (arith, z .1) }
+    record { placed = p; sizes = c .before .before .before .measure .ensures .is (p .value) (p .place) (p .reads) (p .at); small = omega (arith, z .0); room = omega (arith, z .1) }
 
 accept-requires : tie.Need-accept-requires
 accept-requires c κs = search needs

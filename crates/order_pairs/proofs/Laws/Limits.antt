@@ -29,14 +29,14 @@ module _ {s : List ℕ} {x : Site} {words : List ℕ} where
   pub words-placed : SizeThere s x words → Placed s x words []
   words-placed t =
       let I = t .there in
-      let few : count (viewAt (I .value) (I .view)) ≤ 1024 = omega (arith, I .at .count, site-few (I .reads) (I .at)) in
+      let few : count (viewAt (I .value) (I .place)) ≤ 1024 = omega (arith, I .at .count, site-few (I .reads) (I .at)) in
       record {
         value = I .value;
         reads = I .reads;
-        view = I .view;
+        place = I .place;
         at = I .at;
         rising = record { even = refl; rises = tt };
-        keeps = words-keeps words (viewAt (I .value) (I .view)) (site-right (I .reads) (I .at)) (t .passed) few;
+        keeps = words-keeps words (viewAt (I .value) (I .place)) (site-right (I .reads) (I .at)) (t .passed) few;
       }
 
   pub size-measured : {m : Sizes} {k lent : ℕ} → Measured s x words [] m → k ≡ sizeNumber lent (m .bytes) → SizeSeen s x words lent k

@@ -18,6 +18,8 @@ use Rattle.format.specs.Limits.{mostBytes}
 use Rattle.format.specs.View.{View}
 use Rattle.format.specs.Record.{Record, read, write, size, Allowed}
 use Rattle.format.specs.Places.{viewAt, count}
+use Rattle.format.specs.Named.{Means}
+use Rattle.format.specs.declared.ViewName.{ViewName}
 use Rattle.format.proofs.Laws.Record.{read-there, read-back}
 use Rattle.orders.specs.Act.{Word}
 use Rattle.orders.specs.Order.{Order, Pass, firstBad, tests, verdict}
@@ -31,7 +33,7 @@ use Rattle.orders.proofs.Laws.Pairs.{word-tests}
 use Rattle.orders.proofs.Laws.Keep.{order-keeps}
 use Rattle.order_words.specs.After.{noWord, wordAt, heard, viewAfter, recordAfter, Passed}
 use Rattle.order_words.proofs.Laws.After.{count-words}
-use Rattle.order_words.proofs.Laws.Record.{record-count, record-view}
+use Rattle.order_words.proofs.Laws.Record.{record-means, record-view}
 use Rattle.order_carry.specs.Carried.{sizeNumber, heldTo}
 use Rattle.order_carry.proofs.Laws.Held.{size-zero, held-given, held-refused}
 use Rattle.order_carry.proofs.Laws.Ordered.{outcome-held}
@@ -46,9 +48,9 @@ fault-first ((true, k) ∷ ts) us h = fault-first ts us h
 fault-first ((false, k) ∷ ts) us h = refl
 
 -- an order whose own tests fail
-verdict-fault : (o : Order) (r : Record) → count (viewAt r (o .view)) ≡ o .count → firstBad (tests (o .act) (viewAt r (o .view))) ≢ 0
-    → verdict o r ≡ firstBad (tests (o .act) (viewAt r (o .view)))
-verdict-fault o r c h = verdict-behind o r c ∙ fault-first (tests (o .act) (viewAt r (o .view))) _ h
+verdict-fault : (o : Order) (i : ℕ) (r : Record) → count (viewAt r i) ≡ o .count → firstBad (tests (o .act) (viewAt r i)) ≢ 0
+    → verdict o i r ≡ firstBad (tests (o .act) (viewAt r i))
+verdict-fault o i r c h = verdict-behind o i r c ∙ fault-first (tests (o .act) (viewAt r i)) _ h
 
 -- and one whose own tests pass
 pair-pass : (joins : Bool) (a b : ℕ) (v : View) → firstBad (tests (pairAct joins a b) v) ≡ 0 → Pass (tests (pairAct joins a b) v)
@@ -67,47 +69,47 @@ last-held i lent new = go (eqb (sizeNumber lent (size new)) 0)
 
 -- ---- the list on the record r, whose bytes are s, after its first i orders
 
-abbrev pub called : (view n : ℕ) → List ℕ → ℕ → PairsCall
+abbrev pub called : (view : ViewName) (n : ℕ) → List ℕ → ℕ → PairsCall
 called view n list lent = record { view = view; count = n; list = list; lent = lent }
 
 -- they are accepted, and what comes of the list is what comes of the others on the record that they left
-pub record Turn (s : List ℕ) (view n : ℕ) (list : List ℕ) (lent : ℕ) (r : Record) (i : ℕ) : Type 0 where
-  pub passed : Passed (heard (words list) i) (viewAt r view)
-  pub allowed : Allowed (recordAfter view n (heard (words list) i) r)
+pub record Turn (s : List ℕ) (view : ViewName) (n : ℕ) (list : List ℕ) (lent : ℕ) (r : Record) (place i : ℕ) : Type 0 where
+  pub passed : Passed (heard (words list) i) (viewAt r place)
+  pub allowed : Allowed (recordAfter place (heard (words list) i) r)
   pub is : inTurn 0 (singly (called view n list lent)) s
-      ≡ inTurn i (map (wordCall view n lent) (drop i (words list))) (write (recordAfter view n (heard (words list) i) r))
+      ≡ inTurn i (map (wordCall view n lent) (drop i (words list))) (write (recordAfter place (heard (words list) i) r))
 
-pub turn-start : {s : List ℕ} (view n : ℕ) (list : List ℕ) (lent : ℕ) {r : Record} → All Byte s → read s ≡ got r []
-    → Turn s view n list lent r 0
+pub turn-start : {s : List ℕ} (view : ViewName) (n : ℕ) (list : List ℕ) (lent : ℕ) {r : Record} {place : ℕ} → All Byte s → read s ≡ got r []
+    → Turn s view n list lent r place 0
 turn-start {s} view n list lent {r} f e =
     let (a, b, _) = read-back s r [] f e in
     record { passed = tt; allowed = a; is = ap (inTurn 0 (singly (called view n list lent))) b }
 
-module _ {s : List ℕ} {view n : ℕ} {list : List ℕ} {lent : ℕ} {r : Record} {i : ℕ} (t : Turn s view n list lent r i)
-    (there : view < length (r .views)) (counted : count (viewAt r view) ≡ n) (more : i < length (words list)) where
+module _ {s : List ℕ} {view : ViewName} {n : ℕ} {list : List ℕ} {lent : ℕ} {r : Record} {place i : ℕ} (t : Turn s view n list lent r place i)
+    (means : Means view r place) (counted : count (viewAt r place) ≡ n) (more : i < length (words list)) where
   abbrev word : Word
   word = wordAt (words list) i
 
   abbrev old : Record
-  old = recordAfter view n (heard (words list) i) r
+  old = recordAfter place (heard (words list) i) r
 
   abbrev new : Record
-  new = recordAfter view n (heard (words list) (suc i)) r
+  new = recordAfter place (heard (words list) (suc i)) r
 
   abbrev own : ℕ
-  own = firstBad (tests (actAt list i) (viewAfter (heard (words list) i) (viewAt r view)))
+  own = firstBad (tests (actAt list i) (viewAfter (heard (words list) i) (viewAt r place)))
 
   abbrev others : List ℕ → Outcome ℕ
   others = inTurn (suc i) (map (wordCall view n lent) (drop (suc i) (words list)))
 
-  old-view : viewAt old view ≡ viewAfter (heard (words list) i) (viewAt r view)
-  old-view = record-view view n r there (heard (words list) i)
+  old-view : viewAt old place ≡ viewAfter (heard (words list) i) (viewAt r place)
+  old-view = record-view place r (means .there) (heard (words list) i)
 
-  old-there : view < length (old .views)
-  old-there = rw (record-count view n (heard (words list) i) r) there
+  old-means : Means view old place
+  old-means = record-means place (heard (words list) i) r means
 
-  old-count : count (viewAt old view) ≡ n
-  old-count = ap count old-view ∙ count-words (heard (words list) i) (viewAt r view) ∙ counted
+  old-count : count (viewAt old place) ≡ n
+  old-count = ap count old-view ∙ count-words (heard (words list) i) (viewAt r place) ∙ counted
 
   old-reads : read (write old) ≡ got old []
   old-reads = read-there old (t .allowed)
@@ -119,28 +121,28 @@ module _ {s : List ℕ} {view n : ℕ} {list : List ℕ} {lent : ℕ} {r : Recor
   pub turn-refused : {k : ℕ} → k ≡ own → k ≢ 0 → inTurn 0 (singly (called view n list lent)) s ≡ refused k i
   unfolding outcome
   turn-refused {k} e d =
-      let z : firstBad (tests (actAt list i) (viewAt old view)) ≡ k = ap (λ (v : View). firstBad (tests (actAt list i) v)) old-view ∙ sym e in
-      let y : verdict (wordOrder view n word) old ≡ k = verdict-fault (wordOrder view n word) old old-count (λ q. d (sym z ∙ q)) ∙ z in
+      let z : firstBad (tests (actAt list i) (viewAt old place)) ≡ k = ap (λ (v : View). firstBad (tests (actAt list i) v)) old-view ∙ sym e in
+      let y : verdict (wordOrder view n word) place old ≡ k = verdict-fault (wordOrder view n word) place old old-count (λ q. d (sym z ∙ q)) ∙ z in
       this-one
-      ∙ ap (λ (x : Outcome ℕ). onward i (room lent x) others) (order-refused (wordOrder view n word) (write old) old-reads old-there k y (omega (arith, d)))
+      ∙ ap (λ (x : Outcome ℕ). onward i (room lent x) others) (order-refused (wordOrder view n word) (write old) old-reads old-means k y (omega (arith, d)))
 
   -- they do not
   module _ (e : own ≡ 0) where
-    passes : Pass (tests (actAt list i) (viewAfter (heard (words list) i) (viewAt r view)))
-    passes = pair-pass (word .joins) (word .one) (word .other) (viewAfter (heard (words list) i) (viewAt r view)) e
+    passes : Pass (tests (actAt list i) (viewAfter (heard (words list) i) (viewAt r place)))
+    passes = pair-pass (word .joins) (word .one) (word .other) (viewAfter (heard (words list) i) (viewAt r place)) e
 
-    pub turn-passed : Passed (heard (words list) (suc i)) (viewAt r view)
+    pub turn-passed : Passed (heard (words list) (suc i)) (viewAt r place)
     turn-passed = (passes, t .passed)
 
-    old-passes : Pass (tests (actAt list i) (viewAt old view))
+    old-passes : Pass (tests (actAt list i) (viewAt old place))
     old-passes = rw old-view passes
 
     pub turn-allowed : size new ≤ mostBytes → Allowed new
     turn-allowed l =
-        order-keeps (wordOrder view n word) old (t .allowed) (record { place = old-there; count = old-count; passes = old-passes; small = l })
+        order-keeps (wordOrder view n word) place old (t .allowed) (record { means = old-means; count = old-count; passes = old-passes; small = l })
 
     held : outcome (wordCall view n lent word) (write old) ≡ heldTo 0 lent new
-    held = outcome-held (wordCall view n lent word) (write old) old-reads old-there old-count old-passes
+    held = outcome-held (wordCall view n lent word) (write old) old-reads old-means old-count old-passes
 
     on : inTurn 0 (singly (called view n list lent)) s ≡ onward i (heldTo 0 lent new) others
     on = this-one ∙ ap (λ (x : Outcome ℕ). onward i x others) held
@@ -149,7 +151,7 @@ module _ {s : List ℕ} {view n : ℕ} {list : List ℕ} {lent : ℕ} {r : Recor
     pub turn-long : {k : ℕ} → k ≡ sizeNumber lent (size new) → k ≢ 0 → inTurn 0 (singly (called view n list lent)) s ≡ refused k i
     turn-long q d = on ∙ ap (λ (x : Outcome ℕ). onward i x others) (held-refused 0 lent new q d)
 
-    pub turn-next : sizeNumber lent (size new) ≡ 0 → Turn s view n list lent r (suc i)
+    pub turn-next : sizeNumber lent (size new) ≡ 0 → Turn s view n list lent r place (suc i)
     unfolding mostBytes
     turn-next q =
         record {

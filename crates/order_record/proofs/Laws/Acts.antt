@@ -19,7 +19,7 @@ use Rattle.orders.specs.Listed.{removalLines}
 use Rattle.orders.specs.Least.{indexOf}
 use Rattle.orders.specs.Act.{Word, remove, lists, newLists, after}
 use Rattle.orders.specs.Order.{edited, tests, Pass}
-use Rattle.orders.specs.Called.{removalOrder}
+use Rattle.orders.specs.Called.{wordAct}
 use Rattle.orders.proofs.Laws.Survive.{survivors-le}
 use Rattle.orders.proofs.Laws.Near.{head-after, segments-after, lines-after, index-after, lists-after}
 use Rattle.orders.proofs.Laws.Right.{RightLists, Right, after-right}
@@ -27,7 +27,7 @@ use Rattle.order_removal.specs.Rank.{Rising}
 use Rattle.order_removal.proofs.Laws.Kept.{kept-all}
 use Rattle.order_words.specs.After.{heardIn, viewAfter, recordAfter, listsAfter, Passed}
 use Rattle.order_words.proofs.Laws.Listed.{heard-none, heard-count}
-use Rattle.order_words.proofs.Laws.After.{wordAct, head-words, segments-words, lines-words, lists-words, right-lists}
+use Rattle.order_words.proofs.Laws.After.{head-words, segments-words, lines-words, lists-words, right-lists}
 use Rattle.order_words.proofs.Laws.Record.{record-words}
 use Rattle.order_lists.specs.Lists.{newFrom}
 use Rattle.order_lists.specs.Index.{left}
@@ -84,9 +84,10 @@ module _ (removal : List ℕ) (h : Rising removal) (v : View) (r : Right v) wher
       omega (arith, ap length (lines-after (remove rs) v), length-map (survivors (count v) rs) (lineAt v), survivors-le (count v) rs) in
       subst Kept (sym (removal-left i e)) (lists-kept g k)
 
-pub record-removed : (view n : ℕ) (removal : List ℕ) (r : Record) → Rising removal → Right (viewAt r view) → newRecord removal [] view r ≡ edited (removalOrder view n removal) r
+pub record-removed : (i : ℕ) (removal : List ℕ) (r : Record) → Rising removal → Right (viewAt r i)
+    → newRecord removal [] i r ≡ edited i (remove (removalLines removal)) r
 unfolding newRecord edited
-record-removed view n removal r h k = ap (withView r view) (removal-view removal h (viewAt r view) k)
+record-removed i removal r h k = ap (withView r i) (removal-view removal h (viewAt r i) k)
 
 -- ---- words
 
@@ -111,12 +112,12 @@ module _ (words : List ℕ) (v : View) (r : Right v) (p : Passed (heardIn words)
   pub words-keeps : count v ≤ 1024 → Keeps [] words (v .index)
   words-keeps few i e = subst Kept (sym (words-left i e)) (lists-kept (right-lists v (i .lists) (lists-of v e) r (heardIn words) p) few)
 
-pub record-worded : (view n : ℕ) (words : List ℕ) (r : Record) → view < length (r .views) → Right (viewAt r view) → Passed (heardIn words) (viewAt r view) → 6 ≤ length words
-    → newRecord [] words view r ≡ recordAfter view n (heardIn words) r
+pub record-worded : (i : ℕ) (words : List ℕ) (r : Record) → i < length (r .views) → Right (viewAt r i) → Passed (heardIn words) (viewAt r i) → 6 ≤ length words
+    → newRecord [] words i r ≡ recordAfter i (heardIn words) r
 unfolding newRecord
-record-worded view n words r t k p l =
-    ap (withView r view) (words-view words (viewAt r view) k p l) ∙ sym (go (heardIn words) (omega (arith, heard-count words)))
+record-worded i words r t k p l =
+    ap (withView r i) (words-view words (viewAt r i) k p l) ∙ sym (go (heardIn words) (omega (arith, heard-count words)))
   where
-    go : (hs : List Word) → 0 < length hs → recordAfter view n hs r ≡ withView r view (viewAfter hs (viewAt r view))
+    go : (hs : List Word) → 0 < length hs → recordAfter i hs r ≡ withView r i (viewAfter hs (viewAt r i))
     go [] m = absurd (omega arith)
-    go (w ∷ hs) m = record-words view n r t w hs
+    go (w ∷ hs) m = record-words i r t w hs

@@ -56,7 +56,7 @@ module _ {s : List ℕ} {x : Site} {words removal : List ℕ} {m : Sizes} {out :
   pub skeleton-end : {o o1 : List ℕ} {a : ℕ} → SkeletonLaid (x .widths) (cut s (x .skeleton .from) (x .skeleton .to)) removal o o1 a → a ≡ 2 + m .skeleton
   skeleton-end h =
       let a = t .placed .at in
-      let v = viewAt (t .placed .value) (t .placed .view) in
+      let v = viewAt (t .placed .value) (t .placed .place) in
       let z : m .skeleton ≡ length (keptBlock (x .widths) removal (v .lines)) = rw (a .widths) (t .sizes .skeleton) in
       omega (arith, h .is (v .lines) (a .lines .value) .count, z)
 
@@ -67,7 +67,7 @@ module _ {s : List ℕ} {x : Site} {words removal : List ℕ} {m : Sizes} {out :
   pub index-end : {o o1 : List ℕ} {a : ℕ} → IndexLaid (cut s (x .index .from) (x .index .to)) (x .lines) words removal o o1 a → a ≡ 2 + m .index
   index-end h =
       let a = t .placed .at in
-      let v = viewAt (t .placed .value) (t .placed .view) in
+      let v = viewAt (t .placed .value) (t .placed .place) in
       omega (arith, h .is (v .index) (a .index .value) .count, t .sizes .index .bytes)
 
   -- there is room for what is left of the record behind its blocks
@@ -76,7 +76,7 @@ module _ {s : List ℕ} {x : Site} {words removal : List ℕ} {m : Sizes} {out :
       → length (part s (x .index .to) (length s - x .index .to)) ≤ length (lent (back (back o1 a o2) (a + b) o3) (a + b + c))
   rest-fits {o1} {o2} {o3} {a} {b} {c} H K I =
       let p = t .placed .at in
-      let v = viewAt (t .placed .value) (t .placed .view) in
+      let v = viewAt (t .placed .value) (t .placed .place) in
       let L = laid-next (laid-next H (K .is (v .lines) (p .lines .value))) (I .is (v .index) (p .index .value)) in
       let r : length s - x .index .to + (a + b + c) ≤ length out = omega (arith, t .room, in-all, head-end H, skeleton-end K, index-end I) in
       rest-into s (back (back o1 a o2) (a + b) o3) (x .index .to) (a + b + c) (omega (arith, r, laid-same L (omega (arith, r))))
@@ -85,7 +85,7 @@ module _ {s : List ℕ} {x : Site} {words removal : List ℕ} {m : Sizes} {out :
   pub whole : {after : List ℕ} {n : ℕ} → Rebuilt s x words removal m out after n → (n ≡ m .bytes) × (length after ≡ length out)
   whole R =
       let p = t .placed in
-      let L = R .is (p .value) (p .view) (p .reads) (p .at) (t .sizes) in
+      let L = R .is (p .value) (p .place) (p .reads) (p .at) (t .sizes) in
       let e : _ ≡ m .bytes = L .count ∙ stored-long _ ∙ sym (t .sizes .bytes) in
       (e, laid-same L (omega (arith, e, t .room)))
 

@@ -30,7 +30,7 @@ module _ {s : List ℕ} {x : Site} {words removal : List ℕ} (t : Placed s x wo
         bytes = part-bytes s (x .skeleton .from) (x .skeleton .to - x .skeleton .from) f;
         short = omega (arith, short, cut-long (t .at .lines), t .at .lines .within);
         rising = t .rising;
-        value = viewAt (t .value) (t .view) .lines;
+        value = viewAt (t .value) (t .place) .lines;
         reads = t .at .lines .value;
         count = t .at .count;
       }
@@ -41,7 +41,7 @@ module _ {s : List ℕ} {x : Site} {words removal : List ℕ} (t : Placed s x wo
         short = omega (arith, short, cut-long (t .at .index), t .at .index .within);
         rising = t .rising;
         few = few;
-        value = viewAt (t .value) (t .view) .index;
+        value = viewAt (t .value) (t .place) .index;
         reads = t .at .index .value;
         keeps = t .keeps;
       }

@@ -11,9 +11,9 @@ use lib.Dec.{T}
 use Rattle.bits.specs.Choice.{pick}
 use Rattle.format.specs.View.{View}
 use Rattle.format.specs.Places.{count}
-use Rattle.orders.specs.Act.{Act, Word, lists, indexed?, near, insert, delete, change, newLists, newLines, after}
+use Rattle.orders.specs.Act.{Word, lists, indexed?, near, insert, delete, change, newLists, newLines, after}
 use Rattle.orders.specs.Order.{Pass, tests}
-use Rattle.orders.specs.Called.{pairAct}
+use Rattle.orders.specs.Called.{pairAct, wordAct}
 use Rattle.orders.specs.History.{about, said}
 use Rattle.orders.proofs.Laws.Near.{head-after, segments-after, lines-after, lists-after, indexed-after, near-join, near-part}
 use Rattle.orders.proofs.Laws.Accept.{both-lines}
@@ -21,9 +21,6 @@ use Rattle.orders.proofs.Laws.Right.{RightLists, Right, after-right}
 use Rattle.order_words.specs.After.{viewAfter, wordLists, listsAfter, Passed}
 
 -- ---- one word
-
-abbrev pub wordAct : Word → Act
-wordAct w = pairAct (w .joins) (w .one) (w .other)
 
 module _ (w : Word) where
   word-lists : (n : ℕ) (ls : List (List ℕ)) → newLists (wordAct w) n ls ≡ wordLists w ls

@@ -14,6 +14,7 @@ use Rattle.outcome.specs.declared.Answer.{Answer}
 use Rattle.outcome.proofs.Laws.{room-answers, answer-refused}
 use Rattle.format.specs.View.{View}
 use Rattle.format.specs.Places.{viewAt, count}
+use Rattle.format.specs.declared.ViewName.{ViewName}
 use Rattle.orders.specs.Act.{Word, indexed?}
 use Rattle.orders.specs.Listed.{shapeOk}
 use Rattle.orders.specs.Order.{order}
@@ -40,7 +41,7 @@ use Rattle.ordering.proofs.Laws.View.{counted, right, few, not-indexed,
 module _ {s : List ℕ} {x : Site} {list : List ℕ} (t : PairsThere s x list) where
   abbrev pub list-there : OrdersThere s x list
   list-there =
-      record { there = record { value = t .named .value; reads = t .named .reads; view = t .view; at = t .named .at; index = t .index }; shape = t .shape }
+      record { there = record { value = t .named .value; reads = t .named .reads; place = t .named .place; at = t .named .at; index = t .index }; shape = t .shape }
 
   pub list-refused : {before : List ℕ} {e p : ℕ} → OneRefused s x list (length before) e p → PairsDone s x list before before (record { number = e; place = p; length = 0 })
   list-refused {before} R = record { is = λ view n F. answer-refused (λ xs. xs) (length before) before (R .is view n F) }
@@ -55,15 +56,15 @@ module _ {s : List ℕ} {x : Site} {list : List ℕ} (t : PairsThere s x list) w
       record {
         is = λ view n F.
             let S = shaped list (t .shape) in
-            let z : newRecord [] list view (F .value) ≡ recordAfter view n (heardIn list) (F .value) =
-            record-worded view n list (F .value) (F .at .there) (right F) (A .passed view n F) (omega (arith, S .whole, S .some)) in
-            let h = C .is (F .value) view (F .reads) (F .at) (λ l. rw z (A .allowed view n F (rw z at l))) in
+            let z : newRecord [] list (F .place) (F .value) ≡ recordAfter (F .place) (heardIn list) (F .value) =
+            record-worded (F .place) list (F .value) (F .at .there) (right F) (A .passed view n F) (omega (arith, S .whole, S .some)) in
+            let h = C .is (F .value) (F .place) (F .reads) (F .at) (λ l. rw z (A .allowed view n F (rw z at l))) in
             subst (λ (u : Outcome ℕ). Answers u before after a) (ap (heldTo last (length before)) z ∙ sym (A .is view n F)) h;
       }
 
-module _ {s : List ℕ} {view n : ℕ} {x : Site} (F : Named s view n x) where
+module _ {s : List ℕ} {view : ViewName} {n : ℕ} {x : Site} (F : Named s view n x) where
   abbrev v : View
-  v = viewAt (F .value) view
+  v = viewAt (F .value) (F .place)
 
   pub there : {list : List ℕ} → x .index .from < x .index .to → T (shapeOk list) → PairsThere s x list
   there l h = record { view = view; count = n; named = F; index = l; shape = h }
@@ -72,15 +73,15 @@ module _ {s : List ℕ} {view n : ℕ} {x : Site} (F : Named s view n x) where
 
   module _ (list before : List ℕ) where
     pub pairs-no-index : x .index .to ≤ x .index .from → pairs (pairsCall view n list before) s ≡ refused noIndex 0
-    pairs-no-index l = pairs-index (pairsCall view n list before) s (F .reads) (F .at .there) (counted F) (not-indexed F l)
+    pairs-no-index l = pairs-index (pairsCall view n list before) s (F .reads) (F .means) (counted F) (not-indexed F l)
 
     module _ (l : x .index .from < x .index .to) where
       pub pairs-no-shape : T (not (shapeOk list)) → pairs (pairsCall view n list before) s ≡ refused badPairs 0
-      pairs-no-shape h = pairs-shape (pairsCall view n list before) s (F .reads) (F .at .there) (counted F) (is-indexed F l) h
+      pairs-no-shape h = pairs-shape (pairsCall view n list before) s (F .reads) (F .means) (counted F) (is-indexed F l) h
 
       pub pairs-done : {after : List ℕ} {a : Answer} → T (shapeOk list) → PairsDone s x list before after a → Answers (pairs (pairsCall view n list before) s) before after a
       pairs-done {after} {a} h D =
-          subst (λ (u : Outcome ℕ). Answers u before after a) (sym (pairs-turn (pairsCall view n list before) s (F .reads) (F .at .there) (counted F) (is-indexed F l) h)) (D .is view n F)
+          subst (λ (u : Outcome ℕ). Answers u before after a) (sym (pairs-turn (pairsCall view n list before) s (F .reads) (F .means) (counted F) (is-indexed F l) h)) (D .is view n F)
 
   -- ---- one order
 

@@ -12,6 +12,7 @@ use Rattle.outcome.specs.declared.Answer.{Answer}
 use Rattle.format.specs.Record.{Record}
 use Rattle.format.specs.View.{View}
 use Rattle.format.specs.Places.{viewAt, count}
+use Rattle.format.specs.declared.ViewName.{ViewName}
 use Rattle.orders.specs.Listed.{removalLines}
 use Rattle.orders.specs.Act.{Act, remove}
 use Rattle.orders.specs.Order.{Order, edited, linesOk, onlyQuality, tests, order, Pass}
@@ -29,9 +30,9 @@ use Rattle.order_carry.specs.Carried.{heldTo, CarriedOut}
 use Rattle.order_carry.proofs.Laws.Ordered.{order-answers}
 use Rattle.ordering.proofs.Laws.View.{counted, allowed, right, few, own-refused}
 
-module _ {s : List ℕ} {view n : ℕ} {x : Site} (F : Named s view n x) (lines : List ℕ) where
+module _ {s : List ℕ} {view : ViewName} {n : ℕ} {x : Site} (F : Named s view n x) (lines : List ℕ) where
   abbrev v : View
-  v = viewAt (F .value) view
+  v = viewAt (F .value) (F .place)
 
   abbrev act : Act
   act = remove (removalLines lines)
@@ -69,11 +70,11 @@ module _ {s : List ℕ} {view n : ℕ} {x : Site} (F : Named s view n x) (lines 
 
         pub removal-placed : Placed s x [] lines
         removal-placed =
-            record { value = F .value; reads = F .reads; view = view; at = F .at; rising = rises; keeps = removal-keeps lines rises v (right F) (few F) passes }
+            record { value = F .value; reads = F .reads; place = F .place; at = F .at; rising = rises; keeps = removal-keeps lines rises v (right F) (few F) passes }
 
         pub removal-done : {before after : List ℕ} {a : Answer} → CarriedOut s x [] lines 0 before after a → Answers (order (removalOrder view n lines) s) before after a
         removal-done {before} {after} {a} C =
             let o : Order = removalOrder view n lines in
-            let z : newRecord lines [] view (F .value) ≡ edited o (F .value) = record-removed view n lines (F .value) rises (right F) in
-            let h = C .is (F .value) view (F .reads) (F .at) (λ l. rw z (order-keeps o (F .value) (allowed F) (record { place = F .at .there; count = counted F; passes = passes; small = rw z at l }))) in
-            order-answers o s (F .reads) (F .at .there) (counted F) passes (subst (λ (r : Record). Answers (heldTo 0 (length before) r) before after a) z h)
+            let z : newRecord lines [] (F .place) (F .value) ≡ edited (F .place) act (F .value) = record-removed (F .place) lines (F .value) rises (right F) in
+            let h = C .is (F .value) (F .place) (F .reads) (F .at) (λ l. rw z (order-keeps o (F .place) (F .value) (allowed F) (record { means = F .means; count = counted F; passes = passes; small = rw z at l }))) in
+            order-answers o s (F .reads) (F .means) (counted F) passes (subst (λ (r : Record). Answers (heldTo 0 (length before) r) before after a) z h)

@@ -10,6 +10,7 @@ use Rattle.outcome.specs.Outcome.{refused}
 use Rattle.format.specs.View.{View}
 use Rattle.format.specs.Record.{Allowed}
 use Rattle.format.specs.Places.{viewAt, count}
+use Rattle.format.specs.declared.ViewName.{ViewName}
 use Rattle.format.proofs.Laws.Record.{read-is}
 use Rattle.orders.specs.Act.{Act, indexed?}
 use Rattle.orders.specs.Order.{Order, tests, order, Pass}
@@ -21,12 +22,12 @@ use Rattle.find_parts.proofs.Laws.Blocks.{cut, cut-long, few-lines, no-index}
 use Rattle.find_parts.proofs.Laws.Index.{an-index}
 use Rattle.order_view.specs.Named.{Named}
 
-module _ {s : List ℕ} {view n : ℕ} {x : Site} (F : Named s view n x) where
+module _ {s : List ℕ} {view : ViewName} {n : ℕ} {x : Site} (F : Named s view n x) where
   abbrev v : View
-  v = viewAt (F .value) view
+  v = viewAt (F .value) (F .place)
 
-  abbrev named : Act → Order
-  named a = record { view = view; count = n; act = a }
+  abbrev naming : Act → Order
+  naming a = record { view = view; count = n; act = a }
 
   pub counted : count v ≡ n
   counted = sym (F .at .count) ∙ F .count
@@ -35,7 +36,7 @@ module _ {s : List ℕ} {view n : ℕ} {x : Site} (F : Named s view n x) where
   allowed = read-is s (F .value) [] (F .reads) .0
 
   pub right : Right v
-  right = allowed-right (F .value) allowed view (F .at .there)
+  right = allowed-right (F .value) allowed (F .place) (F .at .there)
 
   pub few : count v ≤ 1024
   few = few-lines (x .widths) (F .at .lines)
@@ -56,5 +57,5 @@ module _ {s : List ℕ} {view n : ℕ} {x : Site} (F : Named s view n x) where
   -- ---- the order's own tests
 
   pub own-refused : (a : Act) (ts : List (Bool × ℕ)) (b : Bool) (k : ℕ) (us : List (Bool × ℕ)) → tests a v ≡ ts ++ (b, k) ∷ us → Pass ts → T (not b) → 0 < k
-      → order (named a) s ≡ refused k 0
-  own-refused a ts b k us e h q z = order-refused (named a) s (F .reads) (F .at .there) k (verdict-own (named a) (F .value) counted ts b k us e h q) z
+      → order (naming a) s ≡ refused k 0
+  own-refused a ts b k us e h q z = order-refused (naming a) s (F .reads) (F .means) k (verdict-own (naming a) (F .place) (F .value) counted ts b k us e h q) z

@@ -5,7 +5,6 @@ use mathlib.Core.Logic.{_≢_}
 use Prim.Native.Nat.{ℕ, _<_}
 use mathlib.Core.Bool.{Bool, _&&_}
 use mathlib.Core.List.{List, [], _∷_}
-use lib.ListN.{length}
 use lib.Dec.{T, leb, ltb, eqb, leb→le, le→leb, ltb→lt, eqb→eq}
 use mir.Facts.{and-yes, yes-eqb, no-eqb}
 use Rattle.bits.specs.ChoiceLaws.{pick-yes, pick-no, pick-split}
@@ -17,6 +16,7 @@ use Rattle.format.specs.Limits.{mostBytes}
 use Rattle.format.specs.View.{View}
 use Rattle.format.specs.Record.{Record, size}
 use Rattle.format.specs.Places.{count, viewAt}
+use Rattle.format.specs.Named.{Means}
 use Rattle.orders.specs.Order.{Order, edited, firstBad, tests, allTests, verdict, Pass, Accepted}
 use Rattle.orders.proofs.Laws.Numbers.{numbersOf, all-by, number-there}
 
@@ -38,25 +38,27 @@ both-lines a b n t = let (h, k) = and-yes (ltb a n) (ltb b n) t in (ltb→lt a n
 
 -- ---- an order
 
-pub accepted : (o : Order) (r : Record) → o .view < length (r .views) → verdict o r ≡ 0 → Accepted o r
+pub accepted : (o : Order) (r : Record) {i : ℕ} → Means (o .view) r i → verdict o i r ≡ 0 → Accepted o i r
 unfolding verdict allTests
-accepted o r l p =
-    let h = zero-pass (λ e. T (among (numbersOf (o .act)) e)) (number-there (o .act)) (allTests o r) (all-by o r) p in
-    let v : View = viewAt r (o .view) in
+accepted o r {i} m p =
+    let h = zero-pass (λ e. T (among (numbersOf (o .act)) e)) (number-there (o .act)) (allTests o i r) (all-by o i r) p in
+    let v : View = viewAt r i in
+    let n : ℕ = size (edited i (o .act) r) in
     record {
-      place = l;
+      means = m;
       count = eqb→eq (count v) (o .count) (h .0);
       passes = all-front (λ t. T (t .0)) (tests (o .act) v) _ (h .1);
-      small = leb→le (size (edited o r)) mostBytes (all-rest (λ t. T (t .0)) (tests (o .act) v) _ (h .1) .0);
+      small = leb→le n mostBytes (all-rest (λ t. T (t .0)) (tests (o .act) v) _ (h .1) .0);
     }
 
-pub verdict-zero : (o : Order) (r : Record) → Accepted o r → verdict o r ≡ 0
+pub verdict-zero : (o : Order) (i : ℕ) (r : Record) → Accepted o i r → verdict o i r ≡ 0
 unfolding verdict allTests
-verdict-zero o r a =
-    let small : T (leb (size (edited o r)) mostBytes) = le→leb (size (edited o r)) mostBytes (a .small) in
-    pass-zero (allTests o r) (yes-eqb (a .count), all-append (λ t. T (t .0)) (tests (o .act) (viewAt r (o .view))) _ (a .passes) (small, tt))
+verdict-zero o i r a =
+    let n : ℕ = size (edited i (o .act) r) in
+    let small : T (leb n mostBytes) = le→leb n mostBytes (a .small) in
+    pass-zero (allTests o i r) (yes-eqb (a .count), all-append (λ t. T (t .0)) (tests (o .act) (viewAt r i)) _ (a .passes) (small, tt))
 
 -- an order made for another count
-pub verdict-count : (o : Order) (r : Record) → count (viewAt r (o .view)) ≢ o .count → verdict o r ≡ otherCount
+pub verdict-count : (o : Order) (i : ℕ) (r : Record) → count (viewAt r i) ≢ o .count → verdict o i r ≡ otherCount
 unfolding verdict allTests
-verdict-count o r n = pick-no (eqb (count (viewAt r (o .view))) (o .count)) _ _ (no-eqb n)
+verdict-count o i r n = pick-no (eqb (count (viewAt r i)) (o .count)) _ _ (no-eqb n)

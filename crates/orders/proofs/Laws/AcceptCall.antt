@@ -29,15 +29,17 @@ unfolding outcome order
 outcome-accepted c bytes z =
     let o : Order = c .order in
     room-zero (c .lent) (order-told o bytes) z λ new q l.
-    given-view (o .view) (λ i. ordered o) bytes new q λ r rest e v g.
+    given-view (o .view) (ordered o) bytes new q λ r rest i e m g.
     let (_, _, _, n) = read-is bytes r rest e in
-    pick-split (eqb (verdict o r) 0) _ _ g
-    (λ t h. let w : write (edited o r) ≡ new = cc in
+    let x : Record = edited i (o .act) r in
+    pick-split (eqb (verdict o i r) 0) _ _ g
+    (λ t h. let w : write x ≡ new = cc in
     record {
       value = r;
       reads = e ∙ ap (got r) n;
-      order = accepted o r v (eqb→eq (verdict o r) 0 t);
-      room = omega (arith, l, ap length w, write-long (edited o r));
+      place = i;
+      order = accepted o r m (eqb→eq (verdict o i r) 0 t);
+      room = omega (arith, l, ap length w, write-long x);
     })
     (λ t h. let y : _≡_ {A = ℕ} 0 1 = cc in absurd (omega arith))
 
@@ -45,9 +47,9 @@ pub accepted-outcome : (c : Call) (bytes : List ℕ) → AcceptedCall c bytes �
 unfolding outcome
 accepted-outcome c bytes k =
     let o : Order = c .order in
-    let r : Record = k .value in
-    let l : length (write (edited o r)) ≤ c .lent = omega (arith, k .room, write-long (edited o r)) in
-    zero-room (c .lent) (order-given o bytes (k .reads) (k .order .place) (verdict-zero o r (k .order))) l
+    let x : Record = edited (k .place) (o .act) (k .value) in
+    let l : length (write x) ≤ c .lent = omega (arith, k .room, write-long x) in
+    zero-room (c .lent) (order-given o bytes (k .reads) (k .order .means) (verdict-zero o (k .place) (k .value) (k .order))) l
 
 -- ---- of any answer by the contract of the call
 

@@ -51,7 +51,7 @@ module _ (o : Order) {rs : List ℕ} (q : o .act ≡ remove rs) (bytes : List �
   unfolding order
   an-accepted k =
       answer-accepted h (λ e p. order-told o bytes e p) z λ xs d t.
-      given-view (o .view) (λ i. ordered o) bytes xs d λ r rest e l g.
+      given-view (o .view) (ordered o) bytes xs d λ r rest i e l g.
       let (_, _, m) = read-back bytes r rest f e in
       k r (e ∙ ap (got r) m)
 

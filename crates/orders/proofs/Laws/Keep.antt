@@ -21,8 +21,10 @@ use Rattle.format.specs.View.{View, view, viewHeader}
 use Rattle.format.specs.Record.{Record, tellSeen, Allowed}
 use Rattle.format.specs.declared.Widths.{Widths}
 use Rattle.format.proofs.Laws.Size.{view-length}
-use Rattle.format.proofs.Laws.Changed.{FitsAs, changed-count, changed-here, changed-other, changed-allowed}
+use Rattle.format.proofs.Laws.Changed.{FitsAs, changed-count, changed-here, changed-other, changed-place, changed-means, changed-allowed}
 use Rattle.format.specs.Places.{count, noLine, lineAt, noViewThere, viewAt}
+use Rattle.format.specs.Named.{placeIn, Means}
+use Rattle.format.specs.declared.ViewName.{ViewName}
 use Rattle.orders.specs.Survive.{survivors}
 use Rattle.orders.specs.Least.{indexOf}
 use Rattle.orders.specs.Act.{Act, remove, join, part, lists, newLines, after}
@@ -83,28 +85,38 @@ view-keep w a v p seen f small =
 
 -- ---- the record
 
-pub edited-head : (o : Order) (r : Record) → edited o r .head ≡ r .head
-unfolding edited
-edited-head o r = refl
+module _ (i : ℕ) (a : Act) (r : Record) where
+  pub edited-head : edited i a r .head ≡ r .head
+  unfolding edited
+  edited-head = refl
 
-pub edited-count : (o : Order) (r : Record) → length (edited o r .views) ≡ length (r .views)
-unfolding edited
-edited-count o r = changed-count r (o .view) (after (o .act) (viewAt r (o .view)))
+  pub edited-count : length (edited i a r .views) ≡ length (r .views)
+  unfolding edited
+  edited-count = changed-count r i (after a (viewAt r i))
 
-pub edited-here : (o : Order) (r : Record) → o .view < length (r .views) → viewAt (edited o r) (o .view) ≡ after (o .act) (viewAt r (o .view))
-unfolding edited
-edited-here o r l = changed-here r (o .view) (after (o .act) (viewAt r (o .view))) l
+  pub edited-here : i < length (r .views) → viewAt (edited i a r) i ≡ after a (viewAt r i)
+  unfolding edited
+  edited-here l = changed-here r i (after a (viewAt r i)) l
 
-pub edited-other : (o : Order) (r : Record) (i : ℕ) → i ≢ o .view → viewAt (edited o r) i ≡ viewAt r i
-unfolding edited
-edited-other o r i n = changed-other r (o .view) (after (o .act) (viewAt r (o .view))) i n
+  pub edited-other : (j : ℕ) → j ≢ i → viewAt (edited i a r) j ≡ viewAt r j
+  unfolding edited
+  edited-other j n = changed-other r i (after a (viewAt r i)) j n
 
-pub order-keeps : (o : Order) (r : Record) → Allowed r → Accepted o r → Allowed (edited o r)
+  -- orders never touch a view's name
+  pub edited-place : (view : ViewName) → placeIn view (edited i a r .views) ≡ placeIn view (r .views)
+  unfolding edited
+  edited-place view = changed-place r i (after a (viewAt r i)) (head-after a (viewAt r i)) view
+
+  pub edited-means : {view : ViewName} {j : ℕ} → Means view r j → Means view (edited i a r) j
+  unfolding edited
+  edited-means {view} m = changed-means r i (after a (viewAt r i)) (head-after a (viewAt r i)) view m
+
+pub order-keeps : (o : Order) (i : ℕ) (r : Record) → Allowed r → Accepted o i r → Allowed (edited i (o .act) r)
 unfolding edited
-order-keeps o r f a =
+order-keeps o i r f a =
     let w : Widths = r .head .scale .widths in
-    let v : View = viewAt r (o .view) in
-    changed-allowed r (o .view) (after (o .act) v) (a .place) (head-after (o .act) v) (view-keep w (o .act) v (a .passes)) (a .small) f
+    let v : View = viewAt r i in
+    changed-allowed r i (after (o .act) v) (a .means .there) (head-after (o .act) v) (view-keep w (o .act) v (a .passes)) (a .small) f
 
 -- the lists of an allowed record's views are right
 pub allowed-right : (r : Record) → Allowed r → (i : ℕ) → i < length (r .views) → Right (viewAt r i)
@@ -121,6 +133,6 @@ unfolding view viewHeader
 same-bits w s t v = refl
 
 -- s and t: the positions before the view, in the new record and in the old
-pub edited-bits : (o : Order) (r : Record) (i : ℕ) (s t : List ℕ) → i ≢ o .view
-    → view (edited o r .head .scale .widths) s .enc (viewAt (edited o r) i) ≡ view (r .head .scale .widths) t .enc (viewAt r i)
-edited-bits o r i s t n = rw (edited-head o r, edited-other o r i n) (same-bits (r .head .scale .widths) s t (viewAt r i))
+pub edited-bits : (i : ℕ) (a : Act) (r : Record) (j : ℕ) (s t : List ℕ) → j ≢ i
+    → view (edited i a r .head .scale .widths) s .enc (viewAt (edited i a r) j) ≡ view (r .head .scale .widths) t .enc (viewAt r j)
+edited-bits i a r j s t n = rw (edited-head i a r, edited-other i a r j n) (same-bits (r .head .scale .widths) s t (viewAt r j))

@@ -12,7 +12,7 @@ use Rattle.bits.specs.Choice.{within}
 use Rattle.bits.specs.ChoiceLaws.{pick-case}
 use Rattle.bits.specs.Lists.{All}
 use Rattle.bits.specs.ListsLaws.{all-append}
-use Rattle.outcome.specs.Refusals.{otherCount, tooLong, noRoom}
+use Rattle.outcome.specs.Refusals.{noView, otherCount, badLines, extended, noIndex, alreadySo, tooLong, noRoom}
 use Rattle.outcome.specs.Numbers.{among, Gives, removalNumbers, pairNumbers}
 use Rattle.outcome.specs.Outcome.{Answers}
 use Rattle.outcome.specs.declared.Answer.{Answer}
@@ -21,6 +21,7 @@ use Rattle.format.specs.View.{View}
 use Rattle.format.specs.Record.{Record}
 use Rattle.format.specs.Places.{viewAt}
 use Rattle.format.proofs.Laws.Numbers.{view-numbers}
+use Rattle.format.proofs.Laws.Finger.{Other}
 use Rattle.orders.specs.Act.{Act, remove, join, part}
 use Rattle.orders.specs.Order.{Order, firstBad, tests, allTests, verdict, ordered, order}
 use Rattle.orders.specs.History.{Call, outcome}
@@ -48,10 +49,10 @@ both P p q (remove rs) = p
 both P p q (join a b) = q
 both P p q (part a b) = q
 
-pub all-by : (o : Order) (r : Record) → TestsBy (o .act) (allTests o r)
+pub all-by : (o : Order) (i : ℕ) (r : Record) → TestsBy (o .act) (allTests o i r)
 unfolding allTests
-all-by o r =
-    let v : View = viewAt r (o .view) in
+all-by o i r =
+    let v : View = viewAt r i in
     let P : Bool × ℕ → Type 0 = λ t. T (among (numbersOf (o .act)) (t .1)) in
     (both (λ ns. T (among ns otherCount)) tt tt (o .act), all-append P (tests (o .act) v) _ (tests-by (o .act) v) (both (λ ns. T (among ns tooLong)) tt tt (o .act), tt))
 
@@ -64,31 +65,42 @@ pub first-of : (P : ℕ → Type 0) (ts : List (Bool × ℕ)) → All (λ t. P (
 first-of P [] h n = absurd (n refl)
 first-of P (t ∷ ts) h n = pick-case (λ (x : ℕ). x ≢ 0 → P x) (t .0) _ _ (λ u. first-of P ts (h .1)) (λ u _. h .0) n
 
--- an order's own numbers are above 12
-pub verdict-above : (o : Order) (r : Record) → verdict o r ≢ 0 → T (not (within 2 12 (verdict o r)))
+-- what is so of 14 to 19 is so of an order's own numbers
+own-numbers : (P : ℕ → Type 0) → P otherCount → P badLines → P extended → P noIndex → P alreadySo → P tooLong
+    → (o : Order) (i : ℕ) (r : Record) → verdict o i r ≢ 0 → P (verdict o i r)
 unfolding verdict allTests tests
-verdict-above o r = first-of P (allTests o r) (tt, all-append (λ t. P (t .1)) (tests (o .act) v) _ (own (o .act)) (tt, tt))
+own-numbers P count lines segments index so long o i r =
+    first-of P (allTests o i r) (count, all-append (λ t. P (t .1)) (tests (o .act) v) _ (own (o .act)) (long, tt))
   where
-    P : ℕ → Type 0
-    P e = T (not (within 2 12 e))
-
     v : View
-    v = viewAt r (o .view)
+    v = viewAt r i
 
     own : (a : Act) → All (λ t. P (t .1)) (tests a v)
-    own (remove rs) = (tt, (tt, tt))
-    own (join a b) = (tt, (tt, (tt, tt)))
-    own (part a b) = (tt, (tt, (tt, tt)))
+    own (remove rs) = (lines, (segments, tt))
+    own (join a b) = (index, (lines, (so, tt)))
+    own (part a b) = (index, (lines, (so, tt)))
+
+-- they are above 12
+pub verdict-above : (o : Order) (i : ℕ) (r : Record) → verdict o i r ≢ 0 → T (not (within 2 12 (verdict o i r)))
+verdict-above = own-numbers (λ e. T (not (within 2 12 e))) tt tt tt tt tt tt
+
+-- nor is one 13
+pub ordered-other : (o : Order) (i : ℕ) (r : Record) → Other (ordered o i r)
+unfolding verdict allTests tests
+ordered-other o i r =
+    pick-case Other (eqb (verdict o i r) 0) _ _ (λ t. tt)
+    (λ t. own-numbers (λ e. e ≢ noView) (omega arith) (omega arith) (omega arith) (omega arith) (omega arith) (omega arith) o i r (eqb-no t))
 
 -- ---- the calls
 
 pub order-by : (o : Order) (bytes : List ℕ) → RefusedBy (numbersOf (o .act)) (order o bytes)
 unfolding order verdict
 order-by o =
-    both (λ ns. ((r : Record) → RefusedBy ns (ordered o r)) → (bytes : List ℕ) → RefusedBy ns (order o bytes))
-    (view-numbers removalNumbers (λ e l h. among-first 1 16 (drop 1 removalNumbers) e l (omega arith)) (o .view) (λ i. ordered o))
-    (view-numbers pairNumbers (λ e l h. among-first 1 15 (drop 1 pairNumbers) e l (omega arith)) (o .view) (λ i. ordered o)) (o .act) λ r.
-    pick-case (RefusedBy (numbersOf (o .act))) (eqb (verdict o r) 0) _ _ (λ t. tt) (λ t. first-of (λ e. T (among (numbersOf (o .act)) e)) (allTests o r) (all-by o r) (eqb-no t))
+    both (λ ns. ((i : ℕ) (r : Record) → RefusedBy ns (ordered o i r)) → (bytes : List ℕ) → RefusedBy ns (order o bytes))
+    (view-numbers removalNumbers (λ e l h. among-first 1 16 (drop 1 removalNumbers) e l (omega arith)) (o .view) (ordered o))
+    (view-numbers pairNumbers (λ e l h. among-first 1 15 (drop 1 pairNumbers) e l (omega arith)) (o .view) (ordered o)) (o .act) λ i r.
+    pick-case (RefusedBy (numbersOf (o .act))) (eqb (verdict o i r) 0) _ _ (λ t. tt)
+    (λ t. first-of (λ e. T (among (numbersOf (o .act)) e)) (allTests o i r) (all-by o i r) (eqb-no t))
 
 numbers-room : (a : Act) → T (among (numbersOf a) noRoom)
 numbers-room a = both (λ ns. T (among ns noRoom)) tt tt a

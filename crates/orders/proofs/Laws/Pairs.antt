@@ -1,6 +1,6 @@
 -- The call for a list of pairs, up to its orders: the refusals 13, 14, 17 and 25, behind those of the record; and where there is none,
 -- its orders in turn. And the tests of one of these orders, on a view that has the count and an index.
-use mathlib.Core.Path.{_≡_, refl, ap, _∙_}
+use mathlib.Core.Path.{_≡_, refl, sym, ap, _∙_}
 use mathlib.Core.Logic.{_≢_}
 use Prim.Native.Nat.{ℕ, _-_, _*_, _≤_, _<_}
 use native.Mathlib.Omega.{arith}
@@ -19,19 +19,22 @@ use Rattle.format.specs.Limits.{mostBytes}
 use Rattle.format.specs.View.{View}
 use Rattle.format.specs.Record.{Record, read, size}
 use Rattle.format.specs.Places.{viewAt, count}
+use Rattle.format.specs.Named.{placeIn, Means}
+use Rattle.format.specs.declared.ViewName.{ViewName}
 use Rattle.format.specs.Call.{fromRead, onRecord, inView, onView}
 use Rattle.format.proofs.Laws.Call.{on-view, no-view, given-view}
+use Rattle.format.proofs.Laws.Named.{here}
 use Rattle.format.proofs.Laws.Record.{read-is}
 use Rattle.orders.specs.Act.{Act, Word, indexed?, near, newLines, after}
 use Rattle.orders.specs.Order.{edited, firstBad, tests, verdict}
 use Rattle.orders.specs.Listed.{words, shapeOk}
-use Rattle.orders.specs.Called.{pairAct, wordOrder}
+use Rattle.orders.specs.Called.{pairAct, wordAct, wordOrder}
 use Rattle.orders.specs.Accept.{ReadyView}
 use Rattle.orders.specs.Pairs.{PairsCall, singly, inTurn, pairsTests, pairsVerdict, pairsOn, pairs}
 use Rattle.orders.proofs.Laws.Near.{lines-after, indexed-after}
 use Rattle.orders.proofs.Laws.Accept.{pass-zero, zero-pass}
 use Rattle.orders.proofs.Laws.Refuse.{first-fail, verdict-behind}
-use Rattle.orders.proofs.Laws.Keep.{edited-count, edited-here}
+use Rattle.orders.proofs.Laws.Keep.{edited-here, edited-means}
 
 -- ---- a list that has its shape has an order
 
@@ -60,37 +63,41 @@ same-lines true a b v = refl
 same-lines false a b v = refl
 
 -- the tests that are left where its view is ready
-abbrev pub wordTests : (view n : ℕ) → Word → Record → List (Bool × ℕ)
-wordTests view n w r =
-    let v : View = viewAt r view in
+abbrev pub wordTests : ℕ → Word → Record → List (Bool × ℕ)
+wordTests i w r =
+    let v : View = viewAt r i in
     (ltb (w .one) (count v) && ltb (w .other) (count v), badLines)
     ∷ (pick (w .joins) (not (near v (w .one) (w .other))) (near v (w .one) (w .other)), alreadySo)
-    ∷ (leb (size (edited (wordOrder view n w) r)) mostBytes, tooLong) ∷ []
+    ∷ (leb (size (edited i (wordAct w) r)) mostBytes, tooLong) ∷ []
 
-module _ (view n : ℕ) (w : Word) (r : Record) (y : ReadyView view n r) where
-  pub verdict-word : verdict (wordOrder view n w) r ≡ firstBad (wordTests view n w r)
+module _ (view : ViewName) (n : ℕ) (w : Word) (r : Record) (y : ReadyView view n r) where
+  pub verdict-word : verdict (wordOrder view n w) (y .place) r ≡ firstBad (wordTests (y .place) w r)
   verdict-word =
-      verdict-behind (wordOrder view n w) r (y .count)
-      ∙ ap (λ (ts : List (Bool × ℕ)). firstBad (ts ++ (leb (size (edited (wordOrder view n w) r)) mostBytes, tooLong) ∷ []))
-      (word-tests (w .joins) (w .one) (w .other) (viewAt r view))
-      ∙ pick-yes (indexed? (viewAt r view)) _ _ (y .indexed)
+      let v : View = viewAt r (y .place) in
+      verdict-behind (wordOrder view n w) (y .place) r (y .count)
+      ∙ ap (λ (ts : List (Bool × ℕ)). firstBad (ts ++ (leb (size (edited (y .place) (wordAct w) r)) mostBytes, tooLong) ∷ []))
+      (word-tests (w .joins) (w .one) (w .other) v)
+      ∙ pick-yes (indexed? v) _ _ (y .indexed)
 
-  -- an accepted one leaves such a view
-  pub ready-next : ReadyView view n (edited (wordOrder view n w) r)
-  ready-next =
-      let v : View = viewAt r view in
-      let a : Act = pairAct (w .joins) (w .one) (w .other) in
-      let e : viewAt (edited (wordOrder view n w) r) view ≡ after a v = edited-here (wordOrder view n w) r (y .place) in
+  -- an accepted one leaves such a view, wherever it is
+  pub ready-next : {i : ℕ} → Means view r i → ReadyView view n (edited i (wordAct w) r)
+  ready-next {i} m =
+      let z : i ≡ y .place = sym (m .is) ∙ y .means .is in
+      let v : View = viewAt r (y .place) in
+      let a : Act = wordAct w in
+      rw z
+      (let e : viewAt (edited (y .place) a r) (y .place) ≡ after a v = edited-here (y .place) a r (y .means .there) in
       record {
-        place = omega (arith, y .place, edited-count (wordOrder view n w) r);
+        place = y .place;
+        means = edited-means (y .place) a r (y .means);
         count = ap count e ∙ ap length (lines-after a v ∙ same-lines (w .joins) (w .one) (w .other) v) ∙ y .count;
         indexed = rw (e, indexed-after a v) (y .indexed);
-      }
+      })
 
 -- ---- the call
 
 -- no record
-pub unread : {A : Type 0} (view : ℕ) (f : ℕ → Record → Outcome A) (bytes : List ℕ) {e left : ℕ} → read bytes ≡ C.refused e left
+pub unread : {A : Type 0} (view : ViewName) (f : ℕ → Record → Outcome A) (bytes : List ℕ) {e left : ℕ} → read bytes ≡ C.refused e left
     → onView view f bytes ≡ refused e (8 * length bytes - left)
 unfolding onView onRecord
 unread view f bytes q = ap (fromRead (8 * length bytes) (inView view f)) q
@@ -99,61 +106,61 @@ module _ (m : PairsCall) (bytes : List ℕ) where
   -- every call on its view is refused
   pub pairs-view : {e p : ℕ} → ((f : ℕ → Record → Outcome ℕ) → onView (m .view) f bytes ≡ refused e p) → pairs m bytes ≡ refused e p
   unfolding pairs
-  pairs-view h = h (λ i. pairsOn m bytes)
+  pairs-view h = h (pairsOn m bytes)
 
   module _ {r : Record} (q : read bytes ≡ C.got r []) where
-    pub pairs-no-view : length (r .views) ≤ m .view → pairs m bytes ≡ refused noView 0
+    pub pairs-no-view : length (r .views) ≤ placeIn (m .view) (r .views) → pairs m bytes ≡ refused noView 0
     pairs-no-view l = pairs-view (λ f. no-view (m .view) f bytes q l)
 
-    module _ (l : m .view < length (r .views)) where
-      pub pairs-on : pairs m bytes ≡ pairsOn m bytes r
+    module _ {i : ℕ} (l : Means (m .view) r i) where
+      pub pairs-on : pairs m bytes ≡ pairsOn m bytes i r
       unfolding pairs
-      pairs-on = on-view (m .view) (λ i. pairsOn m bytes) bytes q l
+      pairs-on = on-view (m .view) (pairsOn m bytes) bytes q l
 
-      pairs-bad : (n : ℕ) → pairsVerdict m r ≡ n → 0 < n → pairs m bytes ≡ refused n 0
+      pairs-bad : (n : ℕ) → pairsVerdict m i r ≡ n → 0 < n → pairs m bytes ≡ refused n 0
       pairs-bad n v k =
           pairs-on
-          ∙ pick-no (eqb (pairsVerdict m r) 0) _ _ (no-eqb {a = pairsVerdict m r} {b = 0} (λ z. absurd (omega (arith, v, z, k))))
+          ∙ pick-no (eqb (pairsVerdict m i r) 0) _ _ (no-eqb {a = pairsVerdict m i r} {b = 0} (λ z. absurd (omega (arith, v, z, k))))
           ∙ ap (λ (e : ℕ). refused e 0) v
 
-      pub pairs-count : count (viewAt r (m .view)) ≢ m .count → pairs m bytes ≡ refused otherCount 0
+      pub pairs-count : count (viewAt r i) ≢ m .count → pairs m bytes ≡ refused otherCount 0
       unfolding pairsVerdict pairsTests
-      pairs-count n = pairs-bad otherCount (pick-no (eqb (count (viewAt r (m .view))) (m .count)) _ _ (no-eqb n)) (omega arith)
+      pairs-count n = pairs-bad otherCount (pick-no (eqb (count (viewAt r i)) (m .count)) _ _ (no-eqb n)) (omega arith)
 
-      module _ (c : count (viewAt r (m .view)) ≡ m .count) where
+      module _ (c : count (viewAt r i) ≡ m .count) where
         -- it has the count
         abbrev counted : Bool × ℕ
-        counted = (eqb (count (viewAt r (m .view))) (m .count), otherCount)
+        counted = (eqb (count (viewAt r i)) (m .count), otherCount)
 
-        pub pairs-index : T (not (indexed? (viewAt r (m .view)))) → pairs m bytes ≡ refused noIndex 0
+        pub pairs-index : T (not (indexed? (viewAt r i))) → pairs m bytes ≡ refused noIndex 0
         unfolding pairsVerdict pairsTests
         pairs-index t =
             pairs-bad noIndex
-            (first-fail (counted ∷ []) (indexed? (viewAt r (m .view))) noIndex ((shapeOk (m .list), badPairs) ∷ []) (yes-eqb c, tt) t)
+            (first-fail (counted ∷ []) (indexed? (viewAt r i)) noIndex ((shapeOk (m .list), badPairs) ∷ []) (yes-eqb c, tt) t)
             (omega arith)
 
-        module _ (t : T (indexed? (viewAt r (m .view)))) where
+        module _ (t : T (indexed? (viewAt r i))) where
           pub pairs-shape : T (not (shapeOk (m .list))) → pairs m bytes ≡ refused badPairs 0
           unfolding pairsVerdict pairsTests
           pairs-shape s =
               pairs-bad badPairs
-              (first-fail (counted ∷ (indexed? (viewAt r (m .view)), noIndex) ∷ []) (shapeOk (m .list)) badPairs []
+              (first-fail (counted ∷ (indexed? (viewAt r i), noIndex) ∷ []) (shapeOk (m .list)) badPairs []
               (yes-eqb c, (t, tt)) s) (omega arith)
 
           pub pairs-turn : T (shapeOk (m .list)) → pairs m bytes ≡ inTurn 0 (singly m) bytes
           unfolding pairsVerdict pairsTests
           pairs-turn s =
               pairs-on
-              ∙ pick-yes (eqb (pairsVerdict m r) 0) _ _
-              (yes-eqb {a = pairsVerdict m r} {b = 0} (pass-zero (pairsTests m (viewAt r (m .view))) (yes-eqb c, (t, (s, tt)))))
+              ∙ pick-yes (eqb (pairsVerdict m i r) 0) _ _
+              (yes-eqb {a = pairsVerdict m i r} {b = 0} (pass-zero (pairsTests m (viewAt r i)) (yes-eqb c, (t, (s, tt)))))
 
 -- its own tests have passed
-pub ready : (m : PairsCall) (r : Record) → m .view < length (r .views) → pairsVerdict m r ≡ 0
+pub ready : (m : PairsCall) (r : Record) {i : ℕ} → Means (m .view) r i → pairsVerdict m i r ≡ 0
     → ReadyView (m .view) (m .count) r × T (shapeOk (m .list))
 unfolding pairsVerdict pairsTests
-ready m r l z =
-    let h = zero-pass (λ e. e ≢ 0) (λ e n. n) (pairsTests m (viewAt r (m .view))) (omega arith, (omega arith, (omega arith, tt))) z in
-    (record { place = l; count = eqb-yes (h .0); indexed = h .1 .0 }, h .1 .1 .0)
+ready m r {i} l z =
+    let h = zero-pass (λ e. e ≢ 0) (λ e n. n) (pairsTests m (viewAt r i)) (omega arith, (omega arith, (omega arith, tt))) z in
+    (record { place = i; means = l; count = eqb-yes (h .0); indexed = h .1 .0 }, h .1 .1 .0)
 
 -- what is given is given by its orders in turn
 pub given-turn : {X : Type 0} (m : PairsCall) (bytes new : List ℕ) → pairs m bytes ≡ given new
@@ -161,30 +168,31 @@ pub given-turn : {X : Type 0} (m : PairsCall) (bytes new : List ℕ) → pairs m
     → inTurn 0 (singly m) bytes ≡ given new → X) → X
 unfolding pairs
 given-turn m bytes new d k =
-    given-view (m .view) (λ i. pairsOn m bytes) bytes new d λ r rest q l g.
-    pick-split (eqb (pairsVerdict m r) 0) _ _ g
+    given-view (m .view) (pairsOn m bytes) bytes new d λ r rest i q l g.
+    pick-split (eqb (pairsVerdict m i r) 0) _ _ g
     (λ t y. let (h, s) = ready m r l (eqb-yes t) in k r (q ∙ ap (C.got r) (read-is bytes r rest q .3)) h s y)
     (λ t y. let z : _≡_ {A = ℕ} 0 1 = cc in absurd (omega arith))
 
 -- ---- what the bytes are, up to the list
 
 pub pairs-ways : {X : Type 0} (m : PairsCall) (bytes : List ℕ) → ((e left : ℕ) → read bytes ≡ C.refused e left → X)
-    → ((r : Record) → read bytes ≡ C.got r [] → length (r .views) ≤ m .view → X)
-    → ((r : Record) → read bytes ≡ C.got r [] → m .view < length (r .views) → count (viewAt r (m .view)) ≢ m .count → X)
-    → ((r : Record) → read bytes ≡ C.got r [] → m .view < length (r .views) → count (viewAt r (m .view)) ≡ m .count
-    → T (not (indexed? (viewAt r (m .view)))) → X)
+    → ((r : Record) → read bytes ≡ C.got r [] → length (r .views) ≤ placeIn (m .view) (r .views) → X)
+    → ((r : Record) (i : ℕ) → read bytes ≡ C.got r [] → Means (m .view) r i → count (viewAt r i) ≢ m .count → X)
+    → ((r : Record) (i : ℕ) → read bytes ≡ C.got r [] → Means (m .view) r i → count (viewAt r i) ≡ m .count
+    → T (not (indexed? (viewAt r i))) → X)
     → ((r : Record) → read bytes ≡ C.got r [] → ReadyView (m .view) (m .count) r → X) → X
 pairs-ways {X} m bytes unread-way view-way count-way index-way ready-way = go (read bytes) refl
   where
-    in-view : (r : Record) → read bytes ≡ C.got r [] → m .view < length (r .views) → X
-    in-view r q l =
-        eq-split (count (viewAt r (m .view))) (m .count)
-        (λ c. pick-case (λ (b : Bool). X) (indexed? (viewAt r (m .view))) true false
-        (λ t. ready-way r q (record { place = l; count = c; indexed = t })) (index-way r q l c))
-        (count-way r q l)
+    in-view : (r : Record) (i : ℕ) → read bytes ≡ C.got r [] → Means (m .view) r i → X
+    in-view r i q l =
+        eq-split (count (viewAt r i)) (m .count)
+        (λ c. pick-case (λ (b : Bool). X) (indexed? (viewAt r i)) true false
+        (λ t. ready-way r q (record { place = i; means = l; count = c; indexed = t })) (index-way r i q l c))
+        (count-way r i q l)
 
     go : (o : Read Bool Record) → read bytes ≡ o → X
     go (C.refused e left) q = unread-way e left q
     go (C.got r rest) q =
         let d : read bytes ≡ C.got r [] = q ∙ ap (C.got r) (read-is bytes r rest q .3) in
-        split (length (r .views)) (m .view) (view-way r d) (in-view r d)
+        let i : ℕ = placeIn (m .view) (r .views) in
+        split (length (r .views)) i (view-way r d) (λ l. in-view r i d (here (m .view) r l))

@@ -7,7 +7,7 @@ use native.Mathlib.Omega.{arith}
 use mathlib.Core.Bool.{Bool, true, false, not}
 use mathlib.Core.List.{List, [], _∷_, map}
 use lib.ListN.{length, drop}
-use lib.Dec.{T, ltb, eqb}
+use lib.Dec.{T, ltb, eqb, eqb→eq}
 use mir.Facts.{eqb-no, yes-ltb}
 use Rattle.bits.specs.Choice.{within}
 use Rattle.bits.specs.ChoiceLaws.{pick-case, T-true, split, within-low, within-high, within-yes}
@@ -21,19 +21,23 @@ use Rattle.outcome.proofs.Refused.{Refused, refused-case, refused-map, refused-
 use Rattle.outcome.proofs.Numbers.{RefusedBy, among-first, answer-number}
 use Rattle.format.specs.Record.{Record, read, write, Allowed}
 use Rattle.format.proofs.Laws.Refuses.{read-refuses}
+use Rattle.format.proofs.Laws.Finger.{Other, SaysNone, refused-unnamed}
 use Rattle.format.proofs.Laws.Record.{read-there, read-is}
+use Rattle.format.specs.Places.{viewAt}
+use Rattle.format.specs.Named.{Means}
+use Rattle.format.specs.declared.ViewName.{ViewName}
 use Rattle.orders.specs.Act.{Word}
 use Rattle.orders.specs.Order.{Order, edited, verdict, ordered}
 use Rattle.orders.specs.Listed.{words, shapeOk}
 use Rattle.orders.specs.Called.{wordOrder}
 use Rattle.orders.specs.History.{outcome}
 use Rattle.orders.specs.Accept.{ReadyView, BrokenPairs}
-use Rattle.orders.specs.Pairs.{PairsCall, pairsCall, wordCall, singly, inTurn, pairs}
+use Rattle.orders.specs.Pairs.{PairsCall, pairsCall, wordCall, singly, inTurn, pairsTests, pairsVerdict, pairsOn, pairs}
 use Rattle.orders.proofs.Laws.Numbers.{first-of}
 use Rattle.orders.proofs.Laws.Keep.{order-keeps}
 use Rattle.orders.proofs.Laws.Sequence.{outcome-is, outcome-split}
 use Rattle.orders.proofs.Laws.Turn.{turn-room}
-use Rattle.orders.proofs.Laws.Pairs.{words-some, wordTests, verdict-word, ready-next, unread, pairs-view, pairs-no-view, pairs-count, pairs-index, pairs-shape, pairs-turn, given-turn, pairs-ways}
+use Rattle.orders.proofs.Laws.Pairs.{words-some, wordTests, verdict-word, ready-next, unread, pairs-view, pairs-no-view, pairs-count, pairs-index, pairs-shape, pairs-turn, ready, given-turn, pairs-ways}
 
 -- ---- what a refusal is of
 
@@ -70,17 +74,17 @@ pub data PairsRefusal (m : PairsCall) (bytes : List ℕ) : ℕ → ℕ → Type 
 
 -- ---- the orders in turn
 
-module _ (view n lent : ℕ) where
+module _ (view : ViewName) (n lent : ℕ) where
   -- one of them
   word-refused : (w : Word) (bytes : List ℕ) (r : Record) → read bytes ≡ C.got r [] → ReadyView view n r
       → Refused (λ e p. OfOrder e) (outcome (wordCall view n lent w) bytes)
   word-refused w bytes r q y =
       let o : Order = wordOrder view n w in
-      rw (outcome-is (wordCall view n lent w) bytes r q (y .place))
-      (room-refused (λ e p. OfOrder e) of-room lent (ordered o r)
-      (pick-case (Refused (λ e p. OfOrder e)) (eqb (verdict o r) 0) _ _ (λ t. tt)
+      rw (outcome-is (wordCall view n lent w) bytes r q (y .means))
+      (room-refused (λ e p. OfOrder e) of-room lent (ordered o (y .place) r)
+      (pick-case (Refused (λ e p. OfOrder e)) (eqb (verdict o (y .place) r) 0) _ _ (λ t. tt)
       (λ t. let d = verdict-word view n w r y in
-      rw d (first-of OfOrder (wordTests view n w r) (of-lines, (of-pair, (of-size, tt))) (λ z. eqb-no t (d ∙ z))))))
+      rw d (first-of OfOrder (wordTests (y .place) w r) (of-lines, (of-pair, (of-size, tt))) (λ z. eqb-no t (d ∙ z))))))
 
   -- the first has place i, and the places end below `orders`
   pub turn-refusal : (orders i : ℕ) (ws : List Word) (bytes : List ℕ) (r : Record) → i + length ws ≤ orders → Allowed r
@@ -90,10 +94,11 @@ module _ (view n lent : ℕ) where
   turn-refusal orders i (w ∷ ws) bytes r l a q y =
       let o : Order = wordOrder view n w in
       outcome-split (wordCall view n lent w) bytes r q
-      (λ b d. let k : Allowed (edited o r) = order-keeps o r a b in
+      (λ j b d. let x : Record = edited j (o .act) r in
+      let k : Allowed x = order-keeps o j r a b in
       rw d
-      (turn-refusal orders (suc i) ws (write (edited o r)) (edited o r) (omega arith) k (read-there (edited o r) k)
-      (ready-next view n w r y)))
+      (turn-refusal orders (suc i) ws (write x) x (omega arith) k (read-there x k)
+      (ready-next view n w r y (b .means))))
       (λ e z d. rw d (rw d at (word-refused w bytes r q y), omega arith))
 
 -- ---- the call
@@ -110,11 +115,11 @@ module _ (m : PairsCall) (bytes : List ℕ) where
   pairs-refusal =
       pairs-ways m bytes (λ e left q. rw (pairs-view m bytes (λ f. unread (m .view) f bytes q)) (by-record q))
       (λ r q l. rw (pairs-no-view m bytes q l) (by-view of-view))
-      (λ r q l n. rw (pairs-count m bytes q l n) (by-view of-count))
-      (λ r q l c t. rw (pairs-index m bytes q l c t) (by-view of-index))
+      (λ r i q l n. rw (pairs-count m bytes q l n) (by-view of-count))
+      (λ r i q l c t. rw (pairs-index m bytes q l c t) (by-view of-index))
       (λ r q y. pick-case (λ (b : Bool). Refused (PairsRefusal m bytes) (pairs m bytes)) (shapeOk (m .list)) true false
-      (λ s. rw (pairs-turn m bytes q (y .place) (y .count) (y .indexed) s) (in-turn r q y))
-      (λ s. rw (pairs-shape m bytes q (y .place) (y .count) (y .indexed) s)
+      (λ s. rw (pairs-turn m bytes q (y .means) (y .count) (y .indexed) s) (in-turn r q y))
+      (λ s. rw (pairs-shape m bytes q (y .means) (y .count) (y .indexed) s)
       (by-list (record { value = r; reads = q; ready = y; shape = s }))))
 
   -- it has been held against the room
@@ -153,6 +158,23 @@ pairs-own m bytes r q = refused-map (PairsRefusal m bytes) (λ e p. T (not (with
     go e p (by-list k) = tt
     go e p (by-order h l) = order-all (λ n. T (not (within 2 12 n))) tt tt tt tt h
 
+-- ---- 13
+
+-- it is for a name that no view has: on a view that is there no refusal is 13
+pub pairs-unnamed : (m : PairsCall) (bytes : List ℕ) → SaysNone (m .view) bytes (pairs m bytes)
+unfolding pairs pairsVerdict pairsTests
+pairs-unnamed m bytes = refused-unnamed (m .view) (pairsOn m bytes) bytes own
+  where
+    own : (i : ℕ) (r : Record) → read bytes ≡ C.got r [] → Means (m .view) r i → Other (pairsOn m bytes i r)
+    own i r q l =
+        pick-case Other (eqb (pairsVerdict m i r) 0) _ _
+        (λ t. let y = ready m r l (eqb→eq (pairsVerdict m i r) 0 t) .0 in
+        let n : ℕ = length (words (m .list)) in
+        refused-map (λ e p. OfOrder e × (p < n)) (λ e p. e ≢ noView)
+        (λ e p h. order-all (λ k. k ≢ noView) (omega arith) (omega arith) (omega arith) (omega arith) (h .0)) (inTurn 0 (singly m) bytes)
+        (turn-refusal (m .view) (m .count) (m .lent) n 0 (words (m .list)) bytes r (omega arith) (read-is bytes r [] q .0) q y))
+        (λ t. first-of (λ e. e ≢ noView) (pairsTests m (viewAt r i)) (omega arith, (omega arith, (omega arith, tt))) (eqb-no t))
+
 -- ---- places
 
 -- the record's; 1 has none
@@ -174,7 +196,7 @@ by-place m bytes e p (by-order h l) =
 
 -- ---- of any answer by the contract of the call
 
-module _ (view n : ℕ) (orders bytes : List ℕ) {before after : List ℕ} {a : Answer}
+module _ (view : ViewName) (n : ℕ) (orders bytes : List ℕ) {before after : List ℕ} {a : Answer}
     (h : Answers (pairs (pairsCall view n orders before) bytes) before after a) where
   pub pairs-numbers : Gives pairsNumbers (a .number)
   pairs-numbers = answer-number pairsNumbers tt (pairs-by (pairsCall view n orders before) bytes) h
@@ -206,4 +228,4 @@ module _ (view n : ℕ) (orders bytes : List ℕ) {before after : List ℕ} {a :
   broken-pairs k =
       let m : PairsCall = pairsCall view n orders before in
       let y = k .ready in
-      h .number ∙ ap numberOf (pairs-room m bytes ∙ pairs-shape m bytes (k .reads) (y .place) (y .count) (y .indexed) (k .shape))
+      h .number ∙ ap numberOf (pairs-room m bytes ∙ pairs-shape m bytes (k .reads) (y .means) (y .count) (y .indexed) (k .shape))

@@ -5,7 +5,6 @@ use Prim.Native.Nat.{ℕ, _<_}
 use native.Mathlib.Omega.{arith}
 use mathlib.Core.Bool.{Bool, not}
 use mathlib.Core.List.{List, [], _∷_, _++_, append-assoc}
-use lib.ListN.{length}
 use lib.Dec.{T, leb, eqb}
 use mir.Facts.{no-leb, yes-eqb, no-eqb}
 use Rattle.bits.specs.ChoiceLaws.{pick-yes, pick-no}
@@ -15,6 +14,7 @@ use Rattle.outcome.specs.Outcome.{refused, given}
 use Rattle.format.specs.Limits.{mostBytes}
 use Rattle.format.specs.Record.{Record, read, size, write}
 use Rattle.format.specs.Places.{viewAt, count}
+use Rattle.format.specs.Named.{Means}
 use Rattle.format.proofs.Laws.Call.{on-view}
 use Rattle.orders.specs.Order.{Order, edited, firstBad, tests, allTests, verdict, Pass, ordered, order}
 
@@ -23,37 +23,38 @@ pub first-fail : (ts : List (Bool × ℕ)) (b : Bool) (n : ℕ) (us : List (Bool
 first-fail [] b n us h k = pick-no b _ _ k
 first-fail (t ∷ ts) b n us h k = pick-yes (t .0) _ _ (h .0) ∙ first-fail ts b n us (h .1) k
 
-module _ (o : Order) (r : Record) where
-  module _ (c : count (viewAt r (o .view)) ≡ o .count) where
+module _ (o : Order) (i : ℕ) (r : Record) where
+  module _ (c : count (viewAt r i) ≡ o .count) where
     abbrev own : List (Bool × ℕ)
-    own = tests (o .act) (viewAt r (o .view))
+    own = tests (o .act) (viewAt r i)
 
     abbrev last : Bool
-    last = leb (size (edited o r)) mostBytes
+    last = leb (size (edited i (o .act) r)) mostBytes
 
     -- the count is right: the first of the others that fails gives the number
-    pub verdict-behind : verdict o r ≡ firstBad (own ++ (last, tooLong) ∷ [])
+    pub verdict-behind : verdict o i r ≡ firstBad (own ++ (last, tooLong) ∷ [])
     unfolding verdict allTests
-    verdict-behind = pick-yes (eqb (count (viewAt r (o .view))) (o .count)) _ _ (yes-eqb c)
+    verdict-behind = pick-yes (eqb (count (viewAt r i)) (o .count)) _ _ (yes-eqb c)
 
     -- one of the order's own tests fails
-    pub verdict-own : (ts : List (Bool × ℕ)) (b : Bool) (n : ℕ) (us : List (Bool × ℕ)) → tests (o .act) (viewAt r (o .view)) ≡ ts ++ (b, n) ∷ us → Pass ts → T (not b)
-        → verdict o r ≡ n
+    pub verdict-own : (ts : List (Bool × ℕ)) (b : Bool) (n : ℕ) (us : List (Bool × ℕ)) → tests (o .act) (viewAt r i) ≡ ts ++ (b, n) ∷ us → Pass ts → T (not b)
+        → verdict o i r ≡ n
     verdict-own ts b n us e h k =
         verdict-behind ∙ ap (λ (xs : List (Bool × ℕ)). firstBad (xs ++ (last, tooLong) ∷ [])) e ∙ ap firstBad (append-assoc ts ((b, n) ∷ us) ((last, tooLong) ∷ []))
         ∙ first-fail ts b n (us ++ (last, tooLong) ∷ []) h k
 
-    pub verdict-long : Pass own → mostBytes < size (edited o r) → verdict o r ≡ tooLong
+    pub verdict-long : Pass own → mostBytes < size (edited i (o .act) r) → verdict o i r ≡ tooLong
     verdict-long h k = verdict-behind ∙ first-fail own last tooLong [] h (no-leb k)
 
 -- ---- the call on a record
 
-module _ (o : Order) (s : List ℕ) {r : Record} (e : read s ≡ got r []) (l : o .view < length (r .views)) where
-  pub order-refused : (n : ℕ) → verdict o r ≡ n → 0 < n → order o s ≡ refused n 0
+module _ (o : Order) (s : List ℕ) {r : Record} (e : read s ≡ got r []) {i : ℕ} (m : Means (o .view) r i) where
+  pub order-refused : (n : ℕ) → verdict o i r ≡ n → 0 < n → order o s ≡ refused n 0
   unfolding order
   order-refused n v k =
-      on-view (o .view) (λ i. ordered o) s e l ∙ pick-no (eqb (verdict o r) 0) _ _ (no-eqb {a = verdict o r} {b = 0} (λ z. absurd (omega (arith, v, z, k)))) ∙ ap (λ (k : ℕ). refused k 0) v
+      on-view (o .view) (ordered o) s e m
+      ∙ pick-no (eqb (verdict o i r) 0) _ _ (no-eqb {a = verdict o i r} {b = 0} (λ z. absurd (omega (arith, v, z, k)))) ∙ ap (λ (k : ℕ). refused k 0) v
 
-  pub order-given : verdict o r ≡ 0 → order o s ≡ given (write (edited o r))
+  pub order-given : verdict o i r ≡ 0 → order o s ≡ given (write (edited i (o .act) r))
   unfolding order
-  order-given v = on-view (o .view) (λ i. ordered o) s e l ∙ pick-yes (eqb (verdict o r) 0) _ _ (yes-eqb v)
+  order-given v = on-view (o .view) (ordered o) s e m ∙ pick-yes (eqb (verdict o i r) 0) _ _ (yes-eqb v)

@@ -22,6 +22,7 @@ use Rattle.format.specs.View.{View}
 use Rattle.format.specs.Record.{read}
 use Rattle.format.specs.Places.{viewAt}
 use Rattle.format.proofs.Laws.Refuses.{read-refuses}
+use Rattle.format.specs.declared.ViewName.{ViewName}
 use Rattle.orders.specs.Act.{Word, indexed?}
 use Rattle.orders.specs.Order.{Order, ordered, order}
 use Rattle.orders.specs.Listed.{shapeOk}
@@ -71,7 +72,7 @@ module _ (m : PairsCall) (bytes : List ℕ) (s : T (shapeOk (m .list))) where
 
   each-unread : {e left : ℕ} → read bytes ≡ C.refused e left → Each e (8 * length bytes - left)
   unfolding outcome order
-  each-unread q w = ap (room (m .lent)) (unread (m .view) (λ i. ordered (wordOrder (m .view) (m .count) w)) bytes q)
+  each-unread q w = ap (room (m .lent)) (unread (m .view) (ordered (wordOrder (m .view) (m .count) w)) bytes q)
 
   each-order : (n : ℕ) → ((w : Word) → order (wordOrder (m .view) (m .count) w) bytes ≡ refused n 0) → Each n 0
   unfolding outcome
@@ -88,15 +89,15 @@ module _ (m : PairsCall) (bytes : List ℕ) (s : T (shapeOk (m .list))) where
       (λ e left q. first-refused (each-unread q) ∙ at-first bytes e left q
       ∙ ap atOrder (sym (pairs-view m bytes (λ f. unread (m .view) f bytes q))))
       (λ r q l. alike (pairs-no-view m bytes q l) tt (λ w. outcome-none (wordCall (m .view) (m .count) (m .lent) w) bytes r q l))
-      (λ r q l n. alike (pairs-count m bytes q l n) tt
+      (λ r i q l n. alike (pairs-count m bytes q l n) tt
       (each-order otherCount λ w. let o : Order = wordOrder (m .view) (m .count) w in
-      order-refused o bytes q l otherCount (verdict-count o r n) (omega arith)))
-      (λ r q l c t. alike (pairs-index m bytes q l c t) tt
+      order-refused o bytes q l otherCount (verdict-count o i r n) (omega arith)))
+      (λ r i q l c t. alike (pairs-index m bytes q l c t) tt
       (each-order noIndex λ w. let o : Order = wordOrder (m .view) (m .count) w in
-      let v : View = viewAt r (m .view) in
+      let v : View = viewAt r i in
       order-refused o bytes q l noIndex
-      (verdict-own o r c [] (indexed? v) noIndex _ (word-tests (w .joins) (w .one) (w .other) v) tt t) (omega arith)))
-      (λ r q y. sym (pairs-turn m bytes q (y .place) (y .count) (y .indexed) s) ∙ stays (pairs m bytes) (pairs-own m bytes r q))
+      (verdict-own o i r c [] (indexed? v) noIndex _ (word-tests (w .joins) (w .one) (w .other) v) tt t) (omega arith)))
+      (λ r q y. sym (pairs-turn m bytes q (y .means) (y .count) (y .indexed) s) ∙ stays (pairs m bytes) (pairs-own m bytes r q))
 
 -- ---- accepted, or refused at an order
 
@@ -138,7 +139,7 @@ module _ (m : PairsCall) (bytes : List ℕ) (s : T (shapeOk (m .list))) where
 
 -- ---- of any answer by the contract of the call
 
-module _ (view n : ℕ) (orders bytes : List ℕ) {before after : List ℕ} {a : Answer}
+module _ (view : ViewName) (n : ℕ) (orders bytes : List ℕ) {before after : List ℕ} {a : Answer}
     (h : Answers (pairs (pairsCall view n orders before) bytes) before after a) where
   -- accepted exactly where the list has its shape and all its orders are; what they leave is then in the buffer
   pub call-taken : a .number ≡ 0

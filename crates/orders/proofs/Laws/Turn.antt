@@ -13,6 +13,7 @@ use Rattle.outcome.specs.Outcome.{refused, given, room}
 use Rattle.outcome.proofs.Laws.{room-again}
 use Rattle.outcome.proofs.Refused.{refused-case}
 use Rattle.format.specs.Record.{Record, read}
+use Rattle.format.specs.declared.ViewName.{ViewName}
 use Rattle.orders.specs.Act.{Word}
 use Rattle.orders.specs.Order.{order}
 use Rattle.orders.specs.History.{Call, outcome, run}
@@ -32,7 +33,7 @@ outcome-case c bytes f g =
 
 -- by itself, on a record, it has the outcome that it has in a list of one
 pub turn-one : (c : Call) (bytes : List ℕ) (r : Record) → read bytes ≡ got r [] → inTurn 0 (c ∷ []) bytes ≡ outcome c bytes
-turn-one c bytes r q = outcome-split c bytes r q (λ a d. rw d) (λ e n d. rw d)
+turn-one c bytes r q = outcome-split c bytes r q (λ i a d. rw d) (λ e n d. rw d)
 
 -- ---- one after another
 
@@ -90,7 +91,7 @@ unfolding outcome
 given-fits c bytes new d = ap (room (c .lent)) (sym d) ∙ room-again (c .lent) (order (c .order) bytes) ∙ d
 
 -- so of a list that has an order
-pub turn-room : (view count lent i : ℕ) (w : Word) (ws : List Word) (bytes : List ℕ)
+pub turn-room : (view : ViewName) (count lent i : ℕ) (w : Word) (ws : List Word) (bytes : List ℕ)
     → room lent (inTurn i (map (wordCall view count lent) (w ∷ ws)) bytes) ≡ inTurn i (map (wordCall view count lent) (w ∷ ws)) bytes
 turn-room view count lent i w [] bytes =
     outcome-case (wordCall view count lent w) bytes (λ new d. rw d (given-fits (wordCall view count lent w) bytes new d))

@@ -19,6 +19,7 @@ use Rattle.format.specs.Segments.{Segment, localQuality, isQuality}
 use Rattle.format.specs.Record.{Record, write}
 use Rattle.format.specs.Places.{viewAt, imageOf, segmentAt}
 use Rattle.format.specs.declared.Image.{Image}
+use Rattle.format.specs.declared.ViewName.{ViewName}
 use Rattle.format.proofs.Laws.Size.{write-long}
 use Rattle.format.proofs.Laws.Record.{read-back}
 use Rattle.format.proofs.Laws.Call.{on-segment, given-segment}
@@ -31,20 +32,20 @@ use Rattle.quality.specs.Accepted.{AcceptedQuality, AcceptedSetting}
 use Rattle.quality.proofs.Laws.Both.{payload-there, payload-back, quality-given, set-given}
 use Rattle.quality.proofs.Laws.Numbers.{quality-told, setting-told}
 
-module _ (view place : ℕ) (bytes : List ℕ) {before after : List ℕ} {a : Answer} where
+module _ (view : ViewName) (place : ℕ) (bytes : List ℕ) {before after : List ℕ} {a : Answer} where
   module _ (h : Answers (quality view place bytes) before after a) where
     pub quality-accepted : All Byte bytes → a .number ≡ 0 → AcceptedQuality view place bytes (length before)
     unfolding quality
     quality-accepted b z =
         room-zero (length before) (quality-told view place bytes) (sym (h .number) ∙ z) λ vs q l.
-        given-segment view place (qualityIn place) bytes vs q λ r rest e v k g.
-        let image : Image = imageOf (viewAt r view) in
-        let old : Segment = segmentAt (viewAt r view) place in
+        given-segment view place (qualityIn place) bytes vs q λ r rest i e m k g.
+        let image : Image = imageOf (viewAt r i) in
+        let old : Segment = segmentAt (viewAt r i) place in
         let (f, _, n) = read-back bytes r rest b e in
         let (t, (u, d)) = quality-given image old vs g in
-        let (right, p) = payload-back image (old .payload) vs u (segment-fits view place r v k f .payload) d in
+        let (right, p) = payload-back image (old .payload) vs u (segment-fits i place r (m .there) k f .payload) d in
         record {
-          there = record { value = r; reads = e ∙ ap (got r) n; view-there = v; segment-there = k };
+          there = record { value = r; reads = e ∙ ap (got r) n; i = i; means = m; there = k };
           kind = eqb→eq (old .kind) localQuality t;
           values = vs;
           right = right;
@@ -57,10 +58,11 @@ module _ (view place : ℕ) (bytes : List ℕ) {before after : List ℕ} {a : An
     accepted-quality k =
         let t = k .there in
         let r : Record = t .value in
-        let image : Image = imageOf (viewAt r view) in
-        let old : Segment = segmentAt (viewAt r view) place in
+        let i : ℕ = t .i in
+        let image : Image = imageOf (viewAt r i) in
+        let old : Segment = segmentAt (viewAt r i) place in
         let e : quality view place bytes ≡ given (k .values) =
-        on-segment view place (qualityIn place) bytes (t .reads) (t .view-there) (t .segment-there)
+        on-segment view place (qualityIn place) bytes (t .reads) (t .means) (t .there)
         ∙ pick-yes (isQuality old) _ _ (yes-eqb (k .kind))
         ∙ ap (λ (p : List ℕ). valuesRead (qualityBlock image .dec (bitsOf p))) (k .payload)
         ∙ ap valuesRead (payload-there image (k .values) (k .right)) in
@@ -70,14 +72,14 @@ module _ (view place : ℕ) (bytes : List ℕ) {before after : List ℕ} {a : An
     pub setting-accepted : All Byte bytes → a .number ≡ 0 → AcceptedSetting view place vs bytes (length before)
     setting-accepted b z =
         room-zero (length before) (setting-told view place vs bytes) (sym (h .number) ∙ z) λ new q l.
-        set-given view place vs bytes b new q λ r rest e f v k t right ok w.
+        set-given view place vs bytes b new q λ r rest i e f m k t right ok w.
         let (_, _, n) = read-back bytes r rest b e in
         record {
-          there = record { value = r; reads = e ∙ ap (got r) n; view-there = v; segment-there = k };
-          kind = eqb→eq (segmentAt (viewAt r view) place .kind) localQuality t;
+          there = record { value = r; reads = e ∙ ap (got r) n; i = i; means = m; there = k };
+          kind = eqb→eq (segmentAt (viewAt r i) place .kind) localQuality t;
           right = right;
           small = ok .small;
-          room = omega (arith, l, ap length w, write-long (rewritten view place (payloadFor (imageOf (viewAt r view)) vs) r));
+          room = omega (arith, l, ap length w, write-long (rewritten i place (payloadFor (imageOf (viewAt r i)) vs) r));
         }
 
     pub accepted-setting : AcceptedSetting view place vs bytes (length before) → a .number ≡ 0
@@ -85,11 +87,12 @@ module _ (view place : ℕ) (bytes : List ℕ) {before after : List ℕ} {a : An
     accepted-setting k =
         let t = k .there in
         let r : Record = t .value in
-        let image : Image = imageOf (viewAt r view) in
-        let old : Segment = segmentAt (viewAt r view) place in
-        let x : Record = rewritten view place (payloadFor image vs) r in
+        let i : ℕ = t .i in
+        let image : Image = imageOf (viewAt r i) in
+        let old : Segment = segmentAt (viewAt r i) place in
+        let x : Record = rewritten i place (payloadFor image vs) r in
         let e : setQuality view place vs bytes ≡ given (write x) =
-        on-segment view place (setQualityIn place vs) bytes (t .reads) (t .view-there) (t .segment-there)
+        on-segment view place (setQualityIn place vs) bytes (t .reads) (t .means) (t .there)
         ∙ pick-yes (isQuality old && valuesRight image vs) _ _ (yes-and (isQuality old) (valuesRight image vs) (yes-eqb (k .kind)) (k .right))
-        ∙ given-rewriting view place (payloadFor image vs) r (k .small) in
+        ∙ given-rewriting i place (payloadFor image vs) r (k .small) in
         h .number ∙ zero-room (length before) e (omega (arith, k .room, write-long x))

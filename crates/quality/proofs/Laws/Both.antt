@@ -22,12 +22,14 @@ use Rattle.format.specs.View.{View}
 use Rattle.format.specs.Record.{Record, read, write, size, Allowed}
 use Rattle.format.specs.Places.{viewAt, imageOf, segmentAt}
 use Rattle.format.specs.declared.Image.{Image}
+use Rattle.format.specs.Named.{Means}
+use Rattle.format.specs.declared.ViewName.{ViewName}
 use Rattle.format.proofs.Laws.Record.{read-back, read-there}
 use Rattle.format.proofs.Laws.Call.{on-segment, given-segment}
 use Rattle.rewrite.specs.Rewrite.{withPayload, rewritten}
 use Rattle.rewrite.specs.Bytes.{Rewrites}
 use Rattle.rewrite.proofs.Laws.Kept.{rewrites}
-use Rattle.rewrite.proofs.Laws.Record.{rewritten-count, rewritten-view, as-many, segment-is, segment-fits, rewritten-allowed, rewriting-given, given-rewriting, rewritten-same}
+use Rattle.rewrite.proofs.Laws.Record.{rewritten-means, rewritten-view, as-many, segment-is, segment-fits, rewritten-allowed, rewriting-given, given-rewriting, rewritten-same}
 use Rattle.quality.specs.Parts.{valuesRight}
 use Rattle.quality.specs.Payload.{values, qualityBlock}
 use Rattle.quality.specs.Quality.{valuesRead, qualityOf, qualityIn, quality, payloadFor, setQualityIn, setQuality}
@@ -63,62 +65,62 @@ quality-given image g vs h =
     pick-split (isQuality g) _ _ h (λ t e. (t, values-given (qualityBlock image .dec (bitsOf (g .payload))) vs e))
     (λ t e. let z : _≡_ {A = ℕ} 0 1 = cc in absurd (omega arith))
 
-module _ (view place : ℕ) (vs bytes : List ℕ) (b : All Byte bytes) where
+module _ (view : ViewName) (place : ℕ) (vs bytes : List ℕ) (b : All Byte bytes) where
   -- rewriting what was read
   pub set-after-read : quality view place bytes ≡ given vs → setQuality view place vs bytes ≡ given bytes
   unfolding quality setQuality
   set-after-read h =
-      given-segment view place (qualityIn place) bytes vs h λ r rest e l k g.
-      let image : Image = imageOf (viewAt r view) in
-      let old : Segment = segmentAt (viewAt r view) place in
+      given-segment view place (qualityIn place) bytes vs h λ r rest i e m k g.
+      let image : Image = imageOf (viewAt r i) in
+      let old : Segment = segmentAt (viewAt r i) place in
       let (a, w, _) = read-back bytes r rest b e in
       let (t, (u, d)) = quality-given image old vs g in
-      let (right, p) = payload-back image (old .payload) vs u (segment-fits view place r l k a .payload) d in
-      let same : rewritten view place (payloadFor image vs) r ≡ r = ap (λ (q : List ℕ). rewritten view place q r) (sym p) ∙ rewritten-same view place r in
-      let small : size (rewritten view place (payloadFor image vs) r) ≤ mostBytes = rw same (a .small) in
-      on-segment view place (setQualityIn place vs) bytes e l k
+      let (right, p) = payload-back image (old .payload) vs u (segment-fits i place r (m .there) k a .payload) d in
+      let same : rewritten i place (payloadFor image vs) r ≡ r = ap (λ (q : List ℕ). rewritten i place q r) (sym p) ∙ rewritten-same i place r in
+      let small : size (rewritten i place (payloadFor image vs) r) ≤ mostBytes = rw same (a .small) in
+      on-segment view place (setQualityIn place vs) bytes e m k
       ∙ pick-yes (isQuality old && valuesRight image vs) _ _ (yes-and (isQuality old) (valuesRight image vs) t right)
-      ∙ given-rewriting view place (payloadFor image vs) r small
+      ∙ given-rewriting i place (payloadFor image vs) r small
       ∙ ap given (ap write same ∙ sym w)
 
   -- what a record that was rewritten is
   pub set-given : {P : Type 0} (new : List ℕ) → setQuality view place vs bytes ≡ given new
-      → ((r : Record) (rest : Bits) → read bytes ≡ C.got r rest → Allowed r → view < length (r .views) → place < length (viewAt r view .segments)
-      → T (isQuality (segmentAt (viewAt r view) place)) → T (valuesRight (imageOf (viewAt r view)) vs)
-      → Allowed (rewritten view place (payloadFor (imageOf (viewAt r view)) vs) r)
-      → new ≡ write (rewritten view place (payloadFor (imageOf (viewAt r view)) vs) r) → P) → P
+      → ((r : Record) (rest : Bits) (i : ℕ) → read bytes ≡ C.got r rest → Allowed r → Means view r i → place < length (viewAt r i .segments)
+      → T (isQuality (segmentAt (viewAt r i) place)) → T (valuesRight (imageOf (viewAt r i)) vs)
+      → Allowed (rewritten i place (payloadFor (imageOf (viewAt r i)) vs) r)
+      → new ≡ write (rewritten i place (payloadFor (imageOf (viewAt r i)) vs) r) → P) → P
   unfolding setQuality
   set-given new h f =
-      given-segment view place (setQualityIn place vs) bytes new h λ r rest e l k g.
-      let image : Image = imageOf (viewAt r view) in
-      let old : Segment = segmentAt (viewAt r view) place in
+      given-segment view place (setQualityIn place vs) bytes new h λ r rest i e m k g.
+      let image : Image = imageOf (viewAt r i) in
+      let old : Segment = segmentAt (viewAt r i) place in
       pick-split (isQuality old && valuesRight image vs) _ _ g
       (λ t q. let (a, _, _) = read-back bytes r rest b e in
       let (ty, right) = and-yes (isQuality old) (valuesRight image vs) t in
-      let (small, n) = rewriting-given view place (payloadFor image vs) r new q in
-      f r rest e a l k ty right (rewritten-allowed view place (payloadFor image vs) r l k (payload-bytes image vs) small a) n)
+      let (small, n) = rewriting-given i place (payloadFor image vs) r new q in
+      f r rest i e a m k ty right (rewritten-allowed i place (payloadFor image vs) r (m .there) k (payload-bytes image vs) small a) n)
       (λ t q. let z : _≡_ {A = ℕ} 0 1 = cc in absurd (omega arith))
 
   -- reading what was rewritten
   pub read-after-set : (new : List ℕ) → setQuality view place vs bytes ≡ given new → quality view place new ≡ given vs
   unfolding quality
   read-after-set new h =
-      set-given new h λ r rest e a l k ty right ok n.
-      let image : Image = imageOf (viewAt r view) in
+      set-given new h λ r rest i e a m k ty right ok n.
+      let image : Image = imageOf (viewAt r i) in
       let p : List ℕ = payloadFor image vs in
-      let x : Record = rewritten view place p r in
-      let v : viewAt x view ≡ withPayload place p (viewAt r view) = rewritten-view view place p r l in
-      let there : place < length (viewAt x view .segments) = rw v (omega (arith, as-many view place p r)) in
-      let g : qualityOf image (segmentAt (withPayload place p (viewAt r view)) place) ≡ given vs =
-      ap (qualityOf image) (segment-is view place p r k) ∙ pick-yes (isQuality (segmentAt (viewAt r view) place)) _ _ ty ∙ ap valuesRead (payload-there image vs right) in
-      on-segment view place (qualityIn place) new (ap read n ∙ read-there x ok) (omega (arith, rewritten-count view place p r)) there
+      let x : Record = rewritten i place p r in
+      let v : viewAt x i ≡ withPayload place p (viewAt r i) = rewritten-view i place p r (m .there) in
+      let there : place < length (viewAt x i .segments) = rw v (omega (arith, as-many i place p r)) in
+      let g : qualityOf image (segmentAt (withPayload place p (viewAt r i)) place) ≡ given vs =
+      ap (qualityOf image) (segment-is i place p r k) ∙ pick-yes (isQuality (segmentAt (viewAt r i) place)) _ _ ty ∙ ap valuesRead (payload-there image vs right) in
+      on-segment view place (qualityIn place) new (ap read n ∙ read-there x ok) (rewritten-means i place p r view m) there
       ∙ ap (λ (u : View). qualityOf (imageOf u) (segmentAt u place)) v ∙ g
 
   -- and nothing else of the record is another
   pub set-rewrites : {P : Type 0} (new : List ℕ) → setQuality view place vs bytes ≡ given new
-      → ((r : Record) → read bytes ≡ C.got r [] → Rewrites view place (payloadFor (imageOf (viewAt r view)) vs) r bytes new → P) → P
+      → ((r : Record) (i : ℕ) → read bytes ≡ C.got r [] → Means view r i → Rewrites i place (payloadFor (imageOf (viewAt r i)) vs) r bytes new → P) → P
   set-rewrites new h f =
-      set-given new h λ r rest e a l k ty right ok n.
+      set-given new h λ r rest i e a m k ty right ok n.
       let (_, _, none) = read-back bytes r rest b e in
       let d : read bytes ≡ C.got r [] = e ∙ ap (C.got r) none in
-      f r d (rw n (rewrites view place (payloadFor (imageOf (viewAt r view)) vs) r l k b d ok))
+      f r i d m (rw n (rewrites i place (payloadFor (imageOf (viewAt r i)) vs) r (m .there) k b d ok))

@@ -22,6 +22,7 @@ use Rattle.format.specs.Limits.{mostBytes}
 use Rattle.format.specs.Record.{Record, size}
 use Rattle.format.specs.Places.{viewAt, imageOf, segmentAt}
 use Rattle.format.specs.declared.Image.{Image}
+use Rattle.format.specs.declared.ViewName.{ViewName}
 use Rattle.format.proofs.Laws.Record.{read-is}
 use Rattle.format.proofs.Laws.Call.{on-segment, own-segment}
 use Rattle.rewrite.specs.Rewrite.{rewritten, rewriting}
@@ -52,17 +53,17 @@ no-values (C.refused e left) f = refl
 
 -- ---- the calls
 
-module _ (view place : ℕ) (bytes : List ℕ) {before after : List ℕ} {a : Answer} where
+module _ (view : ViewName) (place : ℕ) (bytes : List ℕ) {before after : List ℕ} {a : Answer} where
   module _ (h : Answers (quality view place bytes) before after a) where
     pub quality-broken : a .number ≡ badQuality → BrokenQuality view place bytes
     unfolding quality
     quality-broken z =
         let (p, q) = told-24 (length before) (quality view place bytes) (sym (h .number) ∙ z) in
-        own-segment view place (qualityIn place) bytes badQuality p (omega arith) (λ y. absurd (omega arith)) q λ r rest e l k g.
-        let image : Image = imageOf (viewAt r view) in
-        let old : Segment = segmentAt (viewAt r view) place in
+        own-segment view place (qualityIn place) bytes badQuality p (omega arith) (λ y. absurd (omega arith)) q λ r rest i e m k g.
+        let image : Image = imageOf (viewAt r i) in
+        let old : Segment = segmentAt (viewAt r i) place in
         record {
-          there = record { value = r; reads = e ∙ ap (C.got r) (read-is bytes r rest e .3); view-there = l; segment-there = k };
+          there = record { value = r; reads = e ∙ ap (C.got r) (read-is bytes r rest e .3); i = i; means = m; there = k };
           wrong = λ ty vs right y.
               let d : qualityOf image old ≡ given vs =
               pick-yes (isQuality old) _ _ (yes-eqb ty) ∙ ap (λ (xs : List ℕ). valuesRead (qualityBlock image .dec (bitsOf xs))) y ∙ ap valuesRead (payload-there image vs right) in
@@ -74,30 +75,31 @@ module _ (view place : ℕ) (bytes : List ℕ) {before after : List ℕ} {a : An
     broken-quality b k =
         let t = k .there in
         let r : Record = t .value in
-        let image : Image = imageOf (viewAt r view) in
-        let old : Segment = segmentAt (viewAt r view) place in
-        let fits = segment-fits view place r (t .view-there) (t .segment-there) (read-is bytes r [] (t .reads) .0) in
+        let i : ℕ = t .i in
+        let image : Image = imageOf (viewAt r i) in
+        let old : Segment = segmentAt (viewAt r i) place in
+        let fits = segment-fits i place r (t .means .there) (t .there) (read-is bytes r [] (t .reads) .0) in
         let f : qualityOf image old ≡ refused badQuality 0 =
         pick-case (λ (o : Outcome ℕ). o ≡ refused badQuality 0) (isQuality old) _ _
         (λ y. no-values (qualityBlock image .dec (bitsOf (old .payload))) λ vs rest d.
         let (right, p) = payload-back image (old .payload) vs rest (fits .payload) d in k .wrong (eqb→eq (old .kind) localQuality y) vs right p)
         (λ y. refl) in
-        h .number ∙ is-24 (length before) (on-segment view place (qualityIn place) bytes (t .reads) (t .view-there) (t .segment-there) ∙ f)
+        h .number ∙ is-24 (length before) (on-segment view place (qualityIn place) bytes (t .reads) (t .means) (t .there) ∙ f)
 
   module _ (vs : List ℕ) (h : Answers (setQuality view place vs bytes) before after a) where
     pub setting-broken : a .number ≡ badQuality → BrokenSetting view place vs bytes
     unfolding setQuality rewriting
     setting-broken z =
         let (p, q) = told-24 (length before) (setQuality view place vs bytes) (sym (h .number) ∙ z) in
-        own-segment view place (setQualityIn place vs) bytes badQuality p (omega arith) (λ y. absurd (omega arith)) q λ r rest e l k g.
-        let image : Image = imageOf (viewAt r view) in
-        let old : Segment = segmentAt (viewAt r view) place in
+        own-segment view place (setQualityIn place vs) bytes badQuality p (omega arith) (λ y. absurd (omega arith)) q λ r rest i e m k g.
+        let image : Image = imageOf (viewAt r i) in
+        let old : Segment = segmentAt (viewAt r i) place in
         record {
-          there = record { value = r; reads = e ∙ ap (C.got r) (read-is bytes r rest e .3); view-there = l; segment-there = k };
+          there = record { value = r; reads = e ∙ ap (C.got r) (read-is bytes r rest e .3); i = i; means = m; there = k };
           wrong = λ ty. not-T (valuesRight image vs) λ right.
-              let d : setQualityIn place vs view r ≡ rewriting view place (payloadFor image vs) r =
+              let d : setQualityIn place vs i r ≡ rewriting i place (payloadFor image vs) r =
               pick-yes (isQuality old && valuesRight image vs) _ _ (yes-and (isQuality old) (valuesRight image vs) (yes-eqb ty) right) in
-              pick-split (leb (size (rewritten view place (payloadFor image vs) r)) mostBytes) _ _ (sym d ∙ g) (λ t y. never (sym y)) (λ t y. let x : tooLong ≡ badQuality = cc in absurd (omega arith));
+              pick-split (leb (size (rewritten i place (payloadFor image vs) r)) mostBytes) _ _ (sym d ∙ g) (λ t y. never (sym y)) (λ t y. let x : tooLong ≡ badQuality = cc in absurd (omega arith));
         }
 
     pub broken-setting : BrokenSetting view place vs bytes → a .number ≡ badQuality
@@ -105,11 +107,12 @@ module _ (view place : ℕ) (bytes : List ℕ) {before after : List ℕ} {a : An
     broken-setting k =
         let t = k .there in
         let r : Record = t .value in
-        let image : Image = imageOf (viewAt r view) in
-        let old : Segment = segmentAt (viewAt r view) place in
+        let i : ℕ = t .i in
+        let image : Image = imageOf (viewAt r i) in
+        let old : Segment = segmentAt (viewAt r i) place in
         let n : T (not (isQuality old && valuesRight image vs)) =
         not-T (isQuality old && valuesRight image vs) λ y.
         let (ty, right) = and-yes (isQuality old) (valuesRight image vs) y in
         T-not (valuesRight image vs) right (k .wrong (eqb→eq (old .kind) localQuality ty)) in
         h .number
-        ∙ is-24 (length before) (on-segment view place (setQualityIn place vs) bytes (t .reads) (t .view-there) (t .segment-there) ∙ pick-no (isQuality old && valuesRight image vs) _ _ n)
+        ∙ is-24 (length before) (on-segment view place (setQualityIn place vs) bytes (t .reads) (t .means) (t .there) ∙ pick-no (isQuality old && valuesRight image vs) _ _ n)

@@ -8,11 +8,12 @@ use Rattle.bits.specs.Bytes.{Byte}
 use Rattle.outcome.specs.Outcome.{Answers, Gave}
 use Rattle.outcome.specs.declared.Answer.{Answer}
 use Rattle.outcome.proofs.Laws.{answer-there, answer-accepted}
+use Rattle.format.specs.declared.ViewName.{ViewName}
 use Rattle.quality.specs.Quality.{quality, setQuality}
 use Rattle.quality.proofs.Laws.Both.{set-after-read, read-after-set}
 use Rattle.quality.proofs.Laws.Numbers.{quality-told, setting-told}
 
-module _ (view place : ℕ) {before after before₂ after₂ : List ℕ} {a b : Answer} (bytes : List ℕ) (y : All Byte bytes) where
+module _ (view : ViewName) (place : ℕ) {before after before₂ after₂ : List ℕ} {a b : Answer} (bytes : List ℕ) (y : All Byte bytes) where
   pub quality-back : Answers (quality view place bytes) before after a → a .number ≡ 0
       → Answers (setQuality view place (take (a .length) after) bytes) before₂ after₂ b → length bytes ≤ length before₂ → Gave bytes after₂ b
   quality-back h z k l =

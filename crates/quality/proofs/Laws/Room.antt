@@ -18,6 +18,7 @@ use Rattle.outcome.specs.Outcome.{given}
 use Rattle.format.specs.Segments.{Segment}
 use Rattle.format.specs.Places.{viewAt, imageOf, segmentAt}
 use Rattle.format.specs.declared.Image.{Image}
+use Rattle.format.specs.declared.ViewName.{ViewName}
 use Rattle.format.proofs.Laws.Record.{read-is}
 use Rattle.format.proofs.Laws.Call.{given-segment}
 use Rattle.rewrite.proofs.Laws.Record.{segment-fits}
@@ -43,13 +44,13 @@ payload-room image (width ∷ height ∷ bits ∷ vs) t =
     omega (arith, n, m, length-in (qualityBlock image .enc (width ∷ height ∷ bits ∷ vs)), qualityBlock image .bytes (width ∷ height ∷ bits ∷ vs), length-append s (zeros (pad (length s))))
 
 -- a payload is no longer than its record
-pub quality-room : (view place : ℕ) (bytes vs : List ℕ) → All Byte bytes → quality view place bytes ≡ given vs → length vs ≤ 8 * length bytes
+pub quality-room : (view : ViewName) (place : ℕ) (bytes vs : List ℕ) → All Byte bytes → quality view place bytes ≡ given vs → length vs ≤ 8 * length bytes
 unfolding quality
 quality-room view place bytes vs b h =
-    given-segment view place (qualityIn place) bytes vs h λ r rest e l k g.
-    let image : Image = imageOf (viewAt r view) in
-    let old : Segment = segmentAt (viewAt r view) place in
+    given-segment view place (qualityIn place) bytes vs h λ r rest i e m k g.
+    let image : Image = imageOf (viewAt r i) in
+    let old : Segment = segmentAt (viewAt r i) place in
     let (a, n, _, _) = read-is bytes r rest e in
     let (_, (u, d)) = quality-given image old vs g in
-    let (right, p) = payload-back image (old .payload) vs u (segment-fits view place r l k a .payload) d in
-    omega (arith, payload-room image vs right, ap length p, n, rewritten-size view place [] r l k)
+    let (right, p) = payload-back image (old .payload) vs u (segment-fits i place r (m .there) k a .payload) d in
+    omega (arith, payload-room image vs right, ap length p, n, rewritten-size i place [] r (m .there) k)

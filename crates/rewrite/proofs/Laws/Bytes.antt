@@ -14,7 +14,7 @@ use Rattle.put_bytes.proofs.Laws.{joined-append}
 use Rattle.format.specs.Line.{skeleton}
 use Rattle.format.specs.Index.{indexBlock}
 use Rattle.format.specs.Segments.{Segment, FitsSegment, segment, segment-length, segments}
-use Rattle.format.specs.View.{View, view}
+use Rattle.format.specs.View.{View}
 use Rattle.format.specs.Record.{Record, size, Allowed}
 use Rattle.format.specs.Places.{noSegmentThere, viewAt, withView, segmentAt, bitsBefore, bitsAhead, segmentBits, firstBit}
 use Rattle.format.specs.declared.Widths.{Widths}
@@ -97,12 +97,12 @@ module _ (w : Widths) (v : View) (place : ℕ) where
 
 -- ---- the record around a segment
 
-module _ (view place : ℕ) (payload : List ℕ) (r : Record) (l : view < length (r .views)) (k : place < length (viewAt r view .segments)) where
+module _ (i place : ℕ) (payload : List ℕ) (r : Record) (l : i < length (r .views)) (k : place < length (viewAt r i .segments)) where
   abbrev w : Widths
   w = r .head .scale .widths
 
   abbrev v : View
-  v = viewAt r view
+  v = viewAt r i
 
   abbrev old : Segment
   old = segmentAt v place
@@ -117,55 +117,55 @@ module _ (view place : ℕ) (payload : List ℕ) (r : Record) (l : view < length
   pub extended-size : length (inBytes (segments .enc others)) + length (old .payload) ≡ length (inBytes (segments .enc (v .segments))) + length payload
   extended-size = omega (arith, extended-long others, extended-long (v .segments), bits-with (v .segments) place new k)
 
-  pub rewritten-size : size (rewritten view place payload r) + length (old .payload) ≡ size r + length payload
+  pub rewritten-size : size (rewritten i place payload r) + length (old .payload) ≡ size r + length payload
   unfolding rewritten
   rewritten-size =
       let u : View = withPayload place payload v in
-      let x : Record = withView r view u in
+      let x : Record = withView r i u in
       omega (
         arith,
-        sym (stored-long x) ∙ ap length (around r view l u),
-        sym (stored-long r) ∙ ap length (apart r view l),
-        length-append (ahead r view (size x)) (viewOut w u ++ behind r view),
-        length-append (ahead r view (size r)) (viewOut w v ++ behind r view),
-        length-append (viewOut w u) (behind r view),
-        length-append (viewOut w v) (behind r view),
-        ahead-long r view (size x),
-        ahead-long r view (size r),
+        sym (stored-long x) ∙ ap length (around r i l u),
+        sym (stored-long r) ∙ ap length (apart r i l),
+        length-append (ahead r i (size x)) (viewOut w u ++ behind r i),
+        length-append (ahead r i (size r)) (viewOut w v ++ behind r i),
+        length-append (viewOut w u) (behind r i),
+        length-append (viewOut w v) (behind r i),
+        ahead-long r i (size x),
+        ahead-long r i (size r),
         view-blocks w u,
         view-blocks w v,
         extended-size,
       )
 
-  module _ (a : Allowed r) (b : Allowed (rewritten view place payload r)) where
+  module _ (a : Allowed r) (b : Allowed (rewritten i place payload r)) where
     old-stored : inBytes (segments .enc (v .segments)) ≡ before (v .segments) place ++ (segmentStored old ++ after (v .segments) place)
-    old-stored = segments-bytes (v .segments) (all-fit view r l a) ∙ stored-old (v .segments) place k
+    old-stored = segments-bytes (v .segments) (all-fit i r l a) ∙ stored-old (v .segments) place k
 
     new-stored : inBytes (segments .enc others) ≡ before (v .segments) place ++ (segmentStored new ++ after (v .segments) place)
     new-stored =
         let f : All FitsSegment others =
-        subst (λ (u : View). All FitsSegment (u .segments)) (rewritten-view view place payload r l) (all-fit view (rewritten view place payload r) (omega (arith, rewritten-count view place payload r)) b) in
+        subst (λ (u : View). All FitsSegment (u .segments)) (rewritten-view i place payload r l) (all-fit i (rewritten i place payload r) (omega (arith, rewritten-count i place payload r)) b) in
         segments-bytes others f ∙ stored-with (v .segments) place k new
 
     pub old-apart : recordOut r
-        ≡ ahead r view (size r) ++ (middle w v place ++ (upto w v place (length (inBytes (segments .enc (v .segments)))) old ++ (after (v .segments) place ++ behind r view)))
-    old-apart = apart r view l ∙ ap (λ (xs : List ℕ). ahead r view (size r) ++ xs) (view-around w v place old (v .segments) (behind r view) old-stored)
+        ≡ ahead r i (size r) ++ (middle w v place ++ (upto w v place (length (inBytes (segments .enc (v .segments)))) old ++ (after (v .segments) place ++ behind r i)))
+    old-apart = apart r i l ∙ ap (λ (xs : List ℕ). ahead r i (size r) ++ xs) (view-around w v place old (v .segments) (behind r i) old-stored)
 
-    pub new-apart : recordOut (rewritten view place payload r)
-        ≡ ahead r view (size (rewritten view place payload r)) ++ (middle w v place ++ (upto w v place (length (inBytes (segments .enc others))) new ++ (after (v .segments) place ++ behind r view)))
+    pub new-apart : recordOut (rewritten i place payload r)
+        ≡ ahead r i (size (rewritten i place payload r)) ++ (middle w v place ++ (upto w v place (length (inBytes (segments .enc others))) new ++ (after (v .segments) place ++ behind r i)))
     unfolding rewritten
     new-apart =
         let u : View = withPayload place payload v in
-        around r view l u ∙ ap (λ (xs : List ℕ). ahead r view (size (withView r view u)) ++ xs) (view-around w v place new others (behind r view) new-stored)
+        around r i l u ∙ ap (λ (xs : List ℕ). ahead r i (size (withView r i u)) ++ xs) (view-around w v place new others (behind r i) new-stored)
 
-    record-around : {s : List ℕ} (e first : ℕ) → s ≡ recordOut r → 8 * (e + 2) ≡ bitsBefore r view + bitsAhead w v → 8 * first ≡ firstBit view place r
-        → Around r view (size r) s (middle w v place) (upto w v place (length (inBytes (segments .enc (v .segments)))) old) (after (v .segments) place ++ behind r view) e (first + length (old .payload))
+    record-around : {s : List ℕ} (e first : ℕ) → s ≡ recordOut r → 8 * (e + 2) ≡ bitsBefore r i + bitsAhead w v → 8 * first ≡ firstBit i place r
+        → Around r i (size r) s (middle w v place) (upto w v place (length (inBytes (segments .enc (v .segments)))) old) (after (v .segments) place ++ behind r i) e (first + length (old .payload))
     record-around {s} e first is p q =
         let n : ℕ = length (inBytes (segments .enc (v .segments))) in
         let m : length (middle w v place) ≡ 12 + length (inBytes (skeleton w .enc (v .lines))) + length (inBytes (indexBlock (length (v .lines)) .enc (v .index))) = simp length-append (omega arith) in
         let o : length (upto w v place n old) ≡ 6 + length (before (v .segments) place) + length (old .payload) = simp length-append (omega arith) in
-        let f : length (ahead r view (size r)) + length (middle w v place) ≡ e =
-        omega (arith, m, p, ahead-long r view (size r), block-long (skeleton w) (v .lines), block-long (indexBlock (length (v .lines))) (v .index)) in
+        let f : length (ahead r i (size r)) + length (middle w v place) ≡ e =
+        omega (arith, m, p, ahead-long r i (size r), block-long (skeleton w) (v .lines), block-long (indexBlock (length (v .lines))) (v .index)) in
         record {
           is = is ∙ old-apart;
           start = f;
@@ -174,7 +174,7 @@ module _ (view place : ℕ) (payload : List ℕ) (r : Record) (l : view < length
 
     -- ---- the new record's bytes, from the old one's: e is the byte of the extended length, first that of the payload
 
-    module _ {s : List ℕ} (e first : ℕ) (is : s ≡ recordOut r) (p : 8 * (e + 2) ≡ bitsBefore r view + bitsAhead w v) (q : 8 * first ≡ firstBit view place r) where
+    module _ {s : List ℕ} (e first : ℕ) (is : s ≡ recordOut r) (p : 8 * (e + 2) ≡ bitsBefore r i + bitsAhead w v) (q : 8 * first ≡ firstBit i place r) where
       pub later : e + 6 + length (before (v .segments) place) ≡ first
       later = omega (arith, p, q, segments-long (take place (v .segments)))
 
@@ -183,19 +183,19 @@ module _ (view place : ℕ) (payload : List ℕ) (r : Record) (l : view < length
       between =
           let n : ℕ = length (inBytes (segments .enc (v .segments))) in
           let A = record-around e first is p q in
-          let front : List ℕ = (ahead r view (size r) ++ middle w v place) ++ two n in
+          let front : List ℕ = (ahead r i (size r) ++ middle w v place) ++ two n in
           let x : List ℕ = before (v .segments) place ++ two (old .kind) in
-          let rest : List ℕ = (two (4 + length (old .payload)) ++ old .payload) ++ (after (v .segments) place ++ behind r view) in
-          let g : s ≡ front ++ (x ++ rest) = A .is ∙ shift (ahead r view (size r)) (middle w v place) (two n) x (two (4 + length (old .payload))) (old .payload) (after (v .segments) place ++ behind r view) in
+          let rest : List ℕ = (two (4 + length (old .payload)) ++ old .payload) ++ (after (v .segments) place ++ behind r i) in
+          let g : s ≡ front ++ (x ++ rest) = A .is ∙ shift (ahead r i (size r)) (middle w v place) (two n) x (two (4 + length (old .payload))) (old .payload) (after (v .segments) place ++ behind r i) in
           let y : length x ≡ first - 2 - (e + 2) = omega (arith, later, length-append (before (v .segments) place) (two (old .kind))) in
-          let z : length front ≡ e + 2 = omega (arith, A .start, length-append (ahead r view (size r) ++ middle w v place) (two n), length-append (ahead r view (size r)) (middle w v place)) in
+          let z : length front ≡ e + 2 = omega (arith, A .start, length-append (ahead r i (size r) ++ middle w v place) (two n), length-append (ahead r i (size r)) (middle w v place)) in
           ap (λ (xs : List ℕ). part xs (e + 2) (first - 2 - (e + 2))) g ∙ ap (take (first - 2 - (e + 2))) (drop-at front (x ++ rest) (e + 2) z) ∙ take-at x rest (first - 2 - (e + 2)) y
 
-      pub rewritten-bytes : recordOut (rewritten view place payload r)
-          ≡ ((((headOf s e (size (rewritten view place payload r)) ++ two (length (inBytes (segments .enc others)))) ++ part s (e + 2) (first - 2 - (e + 2))) ++ two (4 + length payload)) ++ payload)
+      pub rewritten-bytes : recordOut (rewritten i place payload r)
+          ≡ ((((headOf s e (size (rewritten i place payload r)) ++ two (length (inBytes (segments .enc others)))) ++ part s (e + 2) (first - 2 - (e + 2))) ++ two (4 + length payload)) ++ payload)
           ++ drop (first + length (old .payload)) s
       rewritten-bytes =
-          let n : ℕ = size (rewritten view place payload r) in
+          let n : ℕ = size (rewritten i place payload r) in
           let m : ℕ = length (inBytes (segments .enc others)) in
           new-apart ∙ spliced (record-around e first is p q) n (upto w v place m new)
           ∙ ap (λ (xs : List ℕ). xs ++ drop (first + length (old .payload)) s)

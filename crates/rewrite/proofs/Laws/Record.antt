@@ -20,8 +20,10 @@ use Rattle.format.specs.View.{View, view, viewHeader}
 use Rattle.format.specs.Record.{Record, tellSeen, size, write, Allowed}
 use Rattle.format.specs.Places.{noViewThere, noSegmentThere, viewAt, withView, segmentAt}
 use Rattle.format.specs.declared.Widths.{Widths}
+use Rattle.format.specs.Named.{Means}
+use Rattle.format.specs.declared.ViewName.{ViewName}
 use Rattle.format.proofs.Laws.Size.{view-length}
-use Rattle.format.proofs.Laws.Changed.{FitsAs, changed-count, changed-here, changed-allowed}
+use Rattle.format.proofs.Laws.Changed.{FitsAs, changed-count, changed-here, changed-allowed, changed-means}
 use Rattle.find_parts.proofs.Laws.Apart.{same-record}
 use Rattle.rewrite.specs.Rewrite.{withPayload, rewritten, rewriting}
 
@@ -57,51 +59,56 @@ all-fit i r l f =
 pub segment-fits : (i place : ℕ) (r : Record) → i < length (r .views) → place < length (viewAt r i .segments) → Allowed r → FitsSegment (segmentAt (viewAt r i) place)
 segment-fits i place r l k f = all-at FitsSegment noSegmentThere (viewAt r i .segments) place k (all-fit i r l f)
 
-module _ (view place : ℕ) (payload : List ℕ) (r : Record) where
-  pub rewritten-count : length (rewritten view place payload r .views) ≡ length (r .views)
+module _ (i place : ℕ) (payload : List ℕ) (r : Record) where
+  pub rewritten-count : length (rewritten i place payload r .views) ≡ length (r .views)
   unfolding rewritten
-  rewritten-count = changed-count r view _
+  rewritten-count = changed-count r i _
 
-  pub rewritten-view : view < length (r .views) → viewAt (rewritten view place payload r) view ≡ withPayload place payload (viewAt r view)
+  -- a name means the place that it meant
+  pub rewritten-means : (view : ViewName) {j : ℕ} → Means view r j → Means view (rewritten i place payload r) j
   unfolding rewritten
-  rewritten-view l = changed-here r view _ l
+  rewritten-means view m = changed-means r i _ refl view m
+
+  pub rewritten-view : i < length (r .views) → viewAt (rewritten i place payload r) i ≡ withPayload place payload (viewAt r i)
+  unfolding rewritten
+  rewritten-view l = changed-here r i _ l
 
   -- the segments of a view that is rewritten
-  pub as-many : length (withPayload place payload (viewAt r view) .segments) ≡ length (viewAt r view .segments)
-  as-many = length-set (viewAt r view .segments) place _
+  pub as-many : length (withPayload place payload (viewAt r i) .segments) ≡ length (viewAt r i .segments)
+  as-many = length-set (viewAt r i .segments) place _
 
-  pub segment-is : place < length (viewAt r view .segments)
-      → segmentAt (withPayload place payload (viewAt r view)) place ≡ record { kind = segmentAt (viewAt r view) place .kind; payload = payload }
-  segment-is l = getD-set-same (viewAt r view .segments) place _ noSegmentThere l
+  pub segment-is : place < length (viewAt r i .segments)
+      → segmentAt (withPayload place payload (viewAt r i)) place ≡ record { kind = segmentAt (viewAt r i) place .kind; payload = payload }
+  segment-is l = getD-set-same (viewAt r i .segments) place _ noSegmentThere l
 
-  pub rewritten-allowed : view < length (r .views) → place < length (viewAt r view .segments) → All Byte payload
-      → size (rewritten view place payload r) ≤ mostBytes → Allowed r → Allowed (rewritten view place payload r)
+  pub rewritten-allowed : i < length (r .views) → place < length (viewAt r i .segments) → All Byte payload
+      → size (rewritten i place payload r) ≤ mostBytes → Allowed r → Allowed (rewritten i place payload r)
   unfolding rewritten
   rewritten-allowed l k b small f =
-      changed-allowed r view (withPayload place payload (viewAt r view)) l refl (payload-fits (r .head .scale .widths) (viewAt r view) place payload k b) small f
+      changed-allowed r i (withPayload place payload (viewAt r i)) l refl (payload-fits (r .head .scale .widths) (viewAt r i) place payload k b) small f
 
   -- ---- the outcome
 
-  pub rewriting-given : (new : List ℕ) → rewriting view place payload r ≡ given new
-      → (size (rewritten view place payload r) ≤ mostBytes) × (new ≡ write (rewritten view place payload r))
+  pub rewriting-given : (new : List ℕ) → rewriting i place payload r ≡ given new
+      → (size (rewritten i place payload r) ≤ mostBytes) × (new ≡ write (rewritten i place payload r))
   unfolding rewriting
   rewriting-given new h =
-      pick-split (leb (size (rewritten view place payload r)) mostBytes) _ _ h (λ t e. (leb→le _ mostBytes t, cc))
+      pick-split (leb (size (rewritten i place payload r)) mostBytes) _ _ h (λ t e. (leb→le _ mostBytes t, cc))
       (λ t e. let z : _≡_ {A = ℕ} 0 1 = cc in absurd (omega arith))
 
-  pub given-rewriting : size (rewritten view place payload r) ≤ mostBytes → rewriting view place payload r ≡ given (write (rewritten view place payload r))
+  pub given-rewriting : size (rewritten i place payload r) ≤ mostBytes → rewriting i place payload r ≡ given (write (rewritten i place payload r))
   unfolding rewriting
-  given-rewriting l = pick-yes (leb (size (rewritten view place payload r)) mostBytes) _ _ (le→leb _ mostBytes l)
+  given-rewriting l = pick-yes (leb (size (rewritten i place payload r)) mostBytes) _ _ (le→leb _ mostBytes l)
 
-  pub rewriting-long : mostBytes < size (rewritten view place payload r) → rewriting view place payload r ≡ refused tooLong 0
+  pub rewriting-long : mostBytes < size (rewritten i place payload r) → rewriting i place payload r ≡ refused tooLong 0
   unfolding rewriting
-  rewriting-long l = pick-no (leb (size (rewritten view place payload r)) mostBytes) _ _ (no-leb l)
+  rewriting-long l = pick-no (leb (size (rewritten i place payload r)) mostBytes) _ _ (no-leb l)
 
 -- the payload that is there already
-pub rewritten-same : (view place : ℕ) (r : Record) → rewritten view place (segmentAt (viewAt r view) place .payload) r ≡ r
+pub rewritten-same : (i place : ℕ) (r : Record) → rewritten i place (segmentAt (viewAt r i) place .payload) r ≡ r
 unfolding rewritten
-rewritten-same view place r =
-    let v : View = viewAt r view in
+rewritten-same i place r =
+    let v : View = viewAt r i in
     let e : withPayload place (segmentAt v place .payload) v ≡ v =
     ap (λ (gs : List Segment). record { head = v .head; lines = v .lines; index = v .index; segments = gs }) (set-getD (v .segments) place noSegmentThere) in
-    ap (withView r view) e ∙ same-record r view
+    ap (withView r i) e ∙ same-record r i

@@ -72,7 +72,7 @@ returns-2 c =
 returns-3 : tie.Need-returns-3
 returns-3 c =
     let h = stands (c .before .before .before .before .before .before) in
-    let view = viewAt (h .value) (c .before .before .before .before .before .before .before .before .before .before .args .view) in
+    let view = viewAt (h .value) (h .place) in
     let b = h .blocks .lines in
     let next = passed-next (c .before .before .pass-lines .ensures) (its-lines (stands (c .before .before .before .before .before .before)) .value) (c .before .if1 .left) in
     let (k, v) = passed-there (c .before .before .pass-lines .ensures) (its-lines (stands (c .before .before .before .before .before .before)) .value) (c .before .if1 .left) in

@@ -1,14 +1,14 @@
--- View by view.
+-- Finger by finger.
 use borrow.Author.Needs.{needs}
 use Prim.Native.Nat.{_-_, _≤_}
 use Rattle.vectors.proofs.of_record.Statement.{statement}
 use Rattle.vectors.proofs.of_record.Tie as tie
 
 abbrev Inv-loop : tie.InvT-loop
-Inv-loop s views view₀ view = view ≤ views
+Inv-loop bytes finger₀ finger = finger ≤ 11
 
 abbrev μ-loop : tie.MeasureT-loop
-μ-loop s views view₀ view = views - view
+μ-loop bytes finger₀ finger = 11 - finger
 
 listing-requires : tie.Need-listing-requires Inv-loop μ-loop
 listing-requires c κs = search needs
@@ -16,11 +16,11 @@ listing-requires c κs = search needs
 judge-requires : tie.Need-judge-requires Inv-loop μ-loop
 judge-requires c κs = search needs
 
-enum-known-views : tie.Need-enum-known-views Inv-loop μ-loop
-enum-known-views c = search needs
-
 enum-told : tie.Need-enum-told Inv-loop μ-loop
 enum-told c = search needs
+
+enum-told-2 : tie.Need-enum-told-2 Inv-loop μ-loop
+enum-told-2 c = search needs
 
 refused-at-requires : tie.Need-refused-at-requires Inv-loop μ-loop
 refused-at-requires c κs = search needs
@@ -34,11 +34,11 @@ sheet-requires c κs = search needs
 loop-holds : tie.Need-loop-holds Inv-loop μ-loop
 loop-holds c = search needs
 
-parts-of-requires : tie.Need-parts-of-requires Inv-loop μ-loop
-parts-of-requires c κs = search needs
+views-of-requires : tie.Need-views-of-requires Inv-loop μ-loop
+views-of-requires c κs = search needs
 
-add-view : tie.Need-add-view Inv-loop μ-loop
-add-view c = search needs
+add-finger : tie.Need-add-finger Inv-loop μ-loop
+add-finger c = search needs
 
 loop-less : tie.Need-loop-less Inv-loop μ-loop
 loop-less c = search needs
@@ -57,14 +57,14 @@ of-record-spec =
     μ-loop
     listing-requires
     judge-requires
-    enum-known-views
     enum-told
+    enum-told-2
     refused-at-requires
     returns
     sheet-requires
     loop-holds
-    parts-of-requires
-    add-view
+    views-of-requires
+    add-finger
     loop-less
     loop-again
     returns-2)

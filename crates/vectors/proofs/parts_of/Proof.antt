@@ -5,16 +5,22 @@ use Rattle.vectors.proofs.parts_of.Statement.{statement}
 use Rattle.vectors.proofs.parts_of.Tie as tie
 
 abbrev Inv-loop : tie.InvT-loop
-Inv-loop s view line₀ line = line ≤ 8
+Inv-loop bytes view line₀ line = line ≤ 8
 
 abbrev μ-loop : tie.MeasureT-loop
-μ-loop s view line₀ line = 8 - line
+μ-loop bytes view line₀ line = 8 - line
 
 abbrev Inv-loop2 : tie.InvT-loop2
-Inv-loop2 s view line place₀ place = place ≤ 8
+Inv-loop2 bytes view line place₀ place = place ≤ 8
 
 abbrev μ-loop2 : tie.MeasureT-loop2
-μ-loop2 s view line place₀ place = 8 - place
+μ-loop2 bytes view line place₀ place = 8 - place
+
+segment-requires : tie.Need-segment-requires Inv-loop μ-loop Inv-loop2 μ-loop2
+segment-requires c κs = search needs
+
+returns : tie.Need-returns Inv-loop μ-loop Inv-loop2 μ-loop2
+returns c = search needs
 
 loop-holds : tie.Need-loop-holds Inv-loop μ-loop Inv-loop2 μ-loop2
 loop-holds c = search needs
@@ -46,11 +52,11 @@ loop2-less c = search needs
 loop2-again : tie.Need-loop2-again Inv-loop μ-loop Inv-loop2 μ-loop2
 loop2-again c = search needs
 
-returns : tie.Need-returns Inv-loop μ-loop Inv-loop2 μ-loop2
-returns c = search needs
-
 returns-2 : tie.Need-returns-2 Inv-loop μ-loop Inv-loop2 μ-loop2
 returns-2 c = search needs
+
+returns-3 : tie.Need-returns-3 Inv-loop μ-loop Inv-loop2 μ-loop2
+returns-3 c = search needs
 
 pub parts-of-spec : {M : Type 1} → statement M
 parts-of-spec =
@@ -60,6 +66,8 @@ parts-of-spec =
     μ-loop
     Inv-loop2
     μ-loop2
+    segment-requires
+    returns
     loop-holds
     trail-of-requires
     add-line
@@ -70,5 +78,5 @@ parts-of-spec =
     add-place
     loop2-less
     loop2-again
-    returns
-    returns-2)
+    returns-2
+    returns-3)
