@@ -28,11 +28,11 @@ view-named-requires c κs =
 
 add-blocks-at : tie.Need-add-blocks-at
 add-blocks-at c =
-    omega (arith, near-start (c .before .before .before .before .before .before .before .before .args .view) (accepted (c .before .before .before .before)) (c .before .before .view-named .ensures) (c .before .if1 .taken))
+    omega (arith, near-start (c .before .before .before .before .before .before .before .before .args .view) (accepted (c .before .before .before .before)) (c .before .before .view-named .ensures) (omega (arith, c .before .if1 .taken)))
 
 blocks-at-requires : tie.Need-blocks-at-requires
 blocks-at-requires c κs =
-    its-blocks (c .before .before .before .before .before .before .before .before .args .view) (accepted (c .before .before .before .before)) (c .before .before .view-named .ensures) (c .before .if1 .taken)
+    its-blocks (c .before .before .before .before .before .before .before .before .args .view) (accepted (c .before .before .before .before)) (c .before .before .view-named .ensures) (omega (arith, c .before .if1 .taken))
 
 returns : tie.Need-returns
 returns c =
@@ -40,7 +40,7 @@ returns c =
 
 returns-2 : tie.Need-returns-2
 returns-2 c =
-    stands (c .before .before .before .before .before .before .before .before .before .args .view) (accepted (c .before .before .before .before .before)) (c .before .before .before .view-named .ensures) (c .before .before .if1 .taken) (c .blocks-at .ensures)
+    stands (c .before .before .before .before .before .before .before .before .before .args .view) (accepted (c .before .before .before .before .before)) (c .before .before .before .view-named .ensures) (omega (arith, c .before .before .if1 .taken)) (c .blocks-at .ensures)
 
 returns-3 : tie.Need-returns-3
 returns-3 c =
