@@ -11,13 +11,14 @@ from vectors_records import FINGERS, sample_line, sample_record, sample_view
 
 
 def told_view(place, name, number):
-    """A view whose lines turn by its place, which its local quality has too."""
+    """A view whose lines turn by its place, which its local quality has too. A second
+    segment of that type is as long and is broken, which hinders no removal."""
     view = sample_view(name, number)
     view.width, view.height = 2, 1
     view.lines = [sample_line([place + 1]), sample_line([-place, place])]
     view.index = Index(1, [[], [0]])
     view.segments = [Segment(QUALITY_TYPE, bytes([1, 1, 8, place, 255 - place])),
-                     Segment(0x0101, bytes(place))]
+                     Segment(QUALITY_TYPE, bytes(place))]
     return view
 
 
