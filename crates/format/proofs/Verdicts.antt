@@ -37,7 +37,7 @@ abbrev cut : ℕ → List ℕ
 cut n = set (take n sampleA) 11 n
 
 -- a view without lines: its number and its position
-abbrev bareView : ℕ → ℕ → List ℕ
+abbrev pub bareView : ℕ → ℕ → List ℕ
 bareView number position = number ∷ position ∷ 0x00 ∷ 0x50 ∷ 0x01 ∷ 0x00 ∷ 0x01 ∷ 0x00 ∷ 0x00 ∷ 0x00 ∷ 0x00 ∷ 0x00 ∷ 0x00 ∷ 0x00 ∷ []
 
 abbrev two : List ℕ → List ℕ → List ℕ

@@ -67,6 +67,14 @@ broken = 0x00 ∷ 0x03 ∷ 0x00 ∷ 0x08 ∷ 0x00 ∷ 0x80 ∷ 0x02 ∷ 0x1B ∷
 abbrev ofType : (high low : ℕ) → List ℕ
 ofType high low = high ∷ low ∷ 0x00 ∷ 0x04 ∷ []
 
+-- ---- two scans of one finger: right index 0 and 1, each A's view with these bits for its lists
+
+abbrev scan : (number lists : ℕ) → List ℕ
+scan number lists = set (viewHeaderA 16) 0 number ++ linesA 2 ++ indexed lists ++ none
+
+abbrev scans : ℕ → ℕ → List ℕ
+scans first second = set (headerA 88 8) 14 2 ++ scan 0 first ++ scan 1 second
+
 abbrev table : List Row
 table =
     -- the record's own refusal first, with its place
@@ -75,6 +83,10 @@ table =
     ∷ rowOf (named 1 0) 0 (remove []) sampleA (refused 13 0) ∷ rowOf (named 2 1) 0 (remove []) sampleA (refused 13 0)
     ∷ rowOf (named 0 2) 0 (remove []) sampleA (refused 13 0) ∷ rowOf (named 258 0) 0 (remove []) sampleA (refused 13 0)
     ∷ rowOf (named 2 256) 0 (remove []) sampleA (refused 13 0) ∷ rowOf (named 2 0) 3 (remove []) sampleA (refused 14 0)
+    -- each scan by its name
+    ∷ rowOf (named 2 0) 2 (part 0 1) (scans 0x60 0x60) (given (scans 0x00 0x60))
+    ∷ rowOf (named 2 1) 2 (part 0 1) (scans 0x60 0x60) (given (scans 0x60 0x00))
+    ∷ rowOf (named 2 1) 2 (join 0 1) (scans 0x00 0x60) (refused 18 0) ∷ rowOf (named 2 2) 2 (part 0 1) (scans 0x60 0x60) (refused 13 0)
     -- 15, also before 16
     ∷ row (remove []) (withSegments (ofType 0x00 0x04)) (refused 15 0) ∷ row (remove (2 ∷ [])) sampleA (refused 15 0)
     ∷ row (remove (0 ∷ 0 ∷ [])) sampleA (refused 15 0) ∷ row (remove (1 ∷ 0 ∷ [])) sampleA (refused 15 0)

@@ -49,7 +49,7 @@ badSegment = 11
 abbrev pub bytesOver : ℕ
 bytesOver = 12
 
--- 13: no view with that place
+-- 13: no view has that finger position and view number
 abbrev pub noView : ℕ
 noView = 13
 

@@ -1,5 +1,5 @@
--- A segment, "asked for by view and place (both from 0), comes back as the payload's part of the record itself, or empty if
--- refused; its number and length come from a call of their own". "Segment: 13, 23."
+-- A segment, asked for by view and place (from 0), "comes back as the payload's part of the record itself, or empty if refused; its
+-- number and length come from a call of their own". "Segment: 13, 23."
 use Prim.Native.Nat.{ℕ}
 use mathlib.Core.Bool.{Bool}
 use mathlib.Core.List.{List, []}
