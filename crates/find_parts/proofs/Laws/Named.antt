@@ -43,13 +43,13 @@ module _ {position : ℕ} (number : ℕ) (view : ViewName) where
 -- ---- the name that stands in a header
 
 module _ {w : Widths} {s : List ℕ} {a : ℕ} {v : View} (x : ViewAt w s a v) (bytes : All Byte s) where
-  head-there : part s a 8 ≡ headBytes (v .head)
-  head-there =
+  pub head-part : part s a 8 ≡ headBytes (v .head)
+  head-part =
       let (f, e) = headFields badView (x .earlier) .back (drop (8 * a) (bitsOf s)) (v .head) (x .rest) (x .head) in
       spelled-part s a (x .rest) bytes (head-spells badView (x .earlier) (v .head) f) e
 
   byte-there : (i : ℕ) → i < 8 → getD s (a + i) 0 ≡ getD (headBytes (v .head)) i 0
-  byte-there i l = sym (getD-drop a s i 0) ∙ sym (getD-take 8 (drop a s) i 0 l) ∙ ap (λ (xs : List ℕ). getD xs i 0) head-there
+  byte-there i l = sym (getD-drop a s i 0) ∙ sym (getD-take 8 (drop a s) i 0 l) ∙ ap (λ (xs : List ℕ). getD xs i 0) head-part
 
   pub name-there : named (getD s (a + 1) 0) (getD s a 0) ≡ nameOf v
   name-there =

@@ -3,15 +3,13 @@ use mathlib.Core.Path.{_≡_, ap, _∙_}
 use Prim.Native.Nat.{ℕ, _+_, _-_, _*_}
 use native.Mathlib.Omega.{arith}
 use mathlib.Core.List.{List}
-use lib.ListN.{drop}
 use Rattle.bits.specs.Lists.{All}
-use Rattle.bits.specs.Bytes.{Byte, bitsOf}
+use Rattle.bits.specs.Bytes.{Byte}
 use Rattle.bits.specs.Reads.{found, Reads}
 use Rattle.bits.proofs.Laws.Parts.{part}
 use Rattle.put_bytes.specs.Laid.{Laid}
 use Rattle.put_bytes.proofs.Laws.{laid-next, lent, back}
-use Rattle.outcome.specs.Refusals.{badView}
-use Rattle.format.specs.View.{View, headFields, view}
+use Rattle.format.specs.View.{View, view}
 use Rattle.format.specs.SheetSize.{viewSize}
 use Rattle.format.specs.declared.Widths.{Widths}
 use Rattle.put_bytes.specs.HighFirst.{start}
@@ -19,17 +17,10 @@ use Rattle.sheet_bytes.specs.Bytes.{viewBytes}
 use Rattle.find_parts.specs.Stored.{headBytes}
 use Rattle.read_views.specs.ViewOuts.{BlocksOut}
 use Rattle.read_views.specs.declared.view.ViewOut.{ViewOut}
-use Rattle.find_parts.proofs.Laws.Written.{head-spells}
 use Rattle.sheet_bytes.proofs.Laws.Sizes.{view-size}
-use Rattle.find_parts.specs.Stands.{BlocksAt, ViewAt}
-use Rattle.find_parts.proofs.Laws.Front.{spelled-part}
+use Rattle.find_parts.specs.Stands.{BlocksAt}
 use Rattle.find_parts.proofs.Laws.View.{view-apart}
-
--- its header's bytes
-head-part : {w : Widths} {s : List ℕ} {a : ℕ} {v : View} → All Byte s → ViewAt w s a v → part s a 8 ≡ headBytes (v .head)
-head-part {s = s} {a = a} {v = v} b x =
-    let (f, g) = headFields badView (x .earlier) .back (drop (8 * a) (bitsOf s)) (v .head) (x .rest) (x .head) in
-    spelled-part s a (x .rest) b (head-spells badView (x .earlier) (v .head) f) g
+use Rattle.find_parts.proofs.Laws.Named.{head-part}
 
 -- ---- what the writers leave
 
@@ -46,5 +37,5 @@ module _ {w : Widths} {s : List ℕ} (a : ℕ) (bytes : All Byte s) {o o1 o2 o3 
       let (at, ends) = view-apart w seen k in
       let (n, l) = X .is v (at .behind) (at .blocks) in
       let z : a + 8 - a ≡ 8 = omega arith in
-      let e : part s a (a + 8 - a) ≡ headBytes (v .head) = ap (part s a) z ∙ head-part bytes at in
+      let e : part s a (a + 8 - a) ≡ headBytes (v .head) = ap (part s a) z ∙ head-part at bytes in
       (omega (arith, n, ends), laid-next (laid-next H (rw e at C)) l)
