@@ -20,8 +20,8 @@
 --   orders/specs/Kept, Made    Kept; MadeAll
 --   order_holds/specs/Held     held
 --   promises/specs/Samples     table, expected, computed
--- `Answer`, `Held` and `ViewName` are structs of the code (outcome/src, order_holds/src, format/src), `length`, `take`, `T`, `eqb` and the signs the
--- toolchain's.
+-- `Answer`, `Held` and `ViewName` are structs of the code (outcome/src, order_holds/src, format/src), `length`, `take`, `T`, `eqb` and
+-- the signs the toolchain's.
 use mathlib.Core.Path.{_≡_}
 use mathlib.Core.Logic.{_≢_, _⊎_}
 use Prim.Native.Nat.{ℕ, _-_, _*_, _%_, _^_, _≤_, _<_}
@@ -145,8 +145,9 @@ pub names-unique : (bytes : List ℕ) (r : Record) → read bytes ≡ Codec.got 
     → nameOf (viewAt r i) ≡ nameOf (viewAt r j) → i ≡ j
 names-unique = FingerLaws.names-unique
 
--- so naming by finger is naming by place: what a call asks of the view at a place, f, it is given when it names that view. Every call on a
--- view is of this form (`trailing`, `payload`, `quality`, `setQuality`, `order`, `pairs`); so what is said of a place is said of a name
+-- so naming by finger is naming by place: a call that names the view at place i gives what its own definition, f, says of that place.
+-- Every call on a view is of this form (`trailing`, `payload`, `quality`, `setQuality`, `order`, `pairs`), so that each statement about
+-- a place is one about a name
 pub by-finger : (bytes : List ℕ) (r : Record) → read bytes ≡ Codec.got r [] → {A : Type 0} (f : ℕ → Record → Outcome A) (i : ℕ) → i < length (r .views)
     → onView (nameOf (viewAt r i)) f bytes ≡ f i r
 by-finger = FingerLaws.by-finger

@@ -10,9 +10,9 @@
 --   quality/specs/Quality      quality, setQuality, payloadFor
 --   quality/specs/Accepted     AcceptedQuality, AcceptedSetting, BrokenQuality, BrokenSetting
 --   places/specs/Reach         reach, Agree, AnsweredAlike
--- `Answer` is the struct of outcome/src, `Image` and `ViewName` those of format/src, `length`, `take`, `T` and the signs are the toolchain's. That a
--- refusal writes nothing, and that the contracts allow one answer and one buffer alone, is said of every call on the front page
--- (`refusal-writes-nothing`, `one-answer`).
+-- `Answer` is the struct of outcome/src, `Image` and `ViewName` those of format/src, `length`, `take`, `T` and the signs are the
+-- toolchain's. That a refusal writes nothing, and that the contracts allow one answer and one buffer alone, is said of every call on the
+-- front page (`refusal-writes-nothing`, `one-answer`).
 use mathlib.Core.Path.{_≡_}
 use Prim.Native.Nat.{ℕ, _+_, _*_, _≤_}
 use mathlib.Core.List.{List, []}

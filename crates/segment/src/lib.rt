@@ -1,5 +1,5 @@
-// A segment, asked for by its view and its place there: its number, where its payload stands and its length come from one call, the payload's
-// part of the record from another. Both find the segment first, so that any bytes may be asked.
+// A segment, asked for by its view and its place there: its number, where its payload stands and its length come from one call, the
+// payload's part of the record from another. Both find the segment first, so that any bytes may be asked.
 ghost use mathlib.Core.Path.{_≡_};
 ghost use Rattle.segment.specs.Segment.{payload, payloadOf, segmentAnswer};
 use find_segment::FoundSegment;

@@ -1,6 +1,6 @@
 // Runs the library's calls on each file that an argument names, and prints what came of it: the listing, the place of a refusal, the
-// sheet's length, and for each view, named by finger position and number, the trails of its first lines, the lengths of its first segments
-// and the values of their local quality.
+// sheet's length, and for each view, named by finger position and number, the trails of its first lines, the lengths of its first
+// segments and the values of their local quality.
 use format::Header;
 use format::ViewName;
 use judge::Verdict;
