@@ -1,6 +1,6 @@
 -- Views by name: which place a name means, that no two views of an allowed record have the same name, and that a name means the same
 -- place where the headers stay.
-use mathlib.Core.Path.{_≡_, refl, sym, ap, ap₂, subst, _∙_}
+use mathlib.Core.Path.{_≡_, refl, sym, ap, ap₂, _∙_}
 use mathlib.Core.Logic.{_≢_}
 use Prim.Native.Nat.{ℕ, zero, suc, _≤_, _<_}
 use native.Mathlib.Omega.{arith}
@@ -118,10 +118,6 @@ module _ (r : Record) (a : Allowed r) where
 
   pub unique : (i j : ℕ) → i < length (r .views) → j < length (r .views) → nameOf (viewAt r i) ≡ nameOf (viewAt r j) → i ≡ j
   unique i j k l e = sym (name-means i k .is) ∙ ap (λ (name : ViewName). placeIn name (r .views)) e ∙ name-means j l .is
-
-  -- and whatever view has the name is the one that is meant
-  pub has-means : {name : ViewName} {i : ℕ} → i < length (r .views) → nameOf (viewAt r i) ≡ name → Means name r i
-  has-means {i = i} l e = subst (λ (name : ViewName). Means name r i) e (name-means i l)
 
 -- ---- another view with the header of one
 

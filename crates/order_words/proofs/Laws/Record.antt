@@ -13,14 +13,10 @@ use Rattle.format.specs.declared.ViewName.{ViewName}
 use Rattle.orders.specs.Act.{Word, after}
 use Rattle.orders.specs.Order.{edited}
 use Rattle.orders.specs.Called.{wordAct}
-use Rattle.orders.proofs.Laws.Keep.{edited-head, edited-count, edited-here, edited-means}
+use Rattle.orders.proofs.Laws.Keep.{edited-count, edited-here, edited-means}
 use Rattle.order_words.specs.After.{viewAfter, recordAfter}
 
 module _ (i : ℕ) where
-  pub record-head : (hs : List Word) (r : Record) → recordAfter i hs r .head ≡ r .head
-  record-head [] r = refl
-  record-head (w ∷ hs) r = edited-head i (wordAct w) (recordAfter i hs r) ∙ record-head hs r
-
   pub record-count : (hs : List Word) (r : Record) → length (recordAfter i hs r .views) ≡ length (r .views)
   record-count [] r = refl
   record-count (w ∷ hs) r = edited-count i (wordAct w) (recordAfter i hs r) ∙ record-count hs r
