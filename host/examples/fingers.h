@@ -1,7 +1,8 @@
 /*
  * How the examples name a view: by its finger and its number. On the command line that is FINGER NUMBER, two arguments. FINGER is
  * the finger's name as the listing prints it (in quotes for the shell: "right index") or its finger position; NUMBER is counted
- * from 0. Which views a record has, the library says: all numbers of 32 bits are passed on to it.
+ * from 0. Which views a record has, the library says: all numbers of 32 bits are passed on to it. The other numbers on a command
+ * line are read here too.
  */
 #ifndef FINGERS_H
 #define FINGERS_H

@@ -1,5 +1,5 @@
--- The name of a view: its finger position and its view number. "Operators think in \"right index, second scan\"." In an accepted record
--- no two views have the same name (`unique` in proofs/Laws/Named), so that naming a view by finger is naming it by place.
+-- The name of a view, as in "right index, second scan": its finger position and its view number. In an accepted record no two views have
+-- the same name (`unique` in proofs/Laws/Named), so that naming a view by finger is naming it by place.
 use mathlib.Core.Path.{_≡_}
 use mathlib.Core.Logic.{_≢_}
 use Prim.Native.Nat.{ℕ, suc, _<_}

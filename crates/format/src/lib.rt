@@ -42,15 +42,15 @@ pub struct ViewHeader {
     pub height: usize,
 }
 
+// The lines of a view.
+impl ViewHeader {
+    pub const MOST_LINES: usize = 1024;
+}
+
 // How a call names a view: finger position and view number.
 pub struct ViewName {
     pub finger: u32,
     pub number: u32,
-}
-
-// The lines of a view.
-impl ViewHeader {
-    pub const MOST_LINES: usize = 1024;
 }
 
 // The image of a finger that a view was made from: its size in points.

@@ -1,6 +1,7 @@
 -- 13 of each call on a view: exactly where the bytes read as a record of which no view has the name. Each refuses with 13 there, and
 -- has other numbers of its own.
 use mathlib.Core.Path.{_≡_, ap, _∙_}
+use mathlib.Core.Logic.{_≢_}
 use Prim.Native.Nat.{ℕ}
 use native.Mathlib.Omega.{arith}
 use mathlib.Core.List.{List}
@@ -64,7 +65,7 @@ pub quality-unnamed : (view : ViewName) (place : ℕ) (bytes : List ℕ) {before
     → Answers (quality view place bytes) before after a → Exactly view bytes (a .number)
 unfolding quality
 quality-unnamed view place bytes =
-    answer-exactly (segment-unnamed view place (qualityIn place) bytes (quality-refused (λ e p. e ≡ noView → ⊥) (λ z. absurd (omega arith)) place))
+    answer-exactly (segment-unnamed view place (qualityIn place) bytes (quality-refused (λ e p. e ≢ noView) (λ z. absurd (omega arith)) place))
     (unnamed-segment view place (qualityIn place) bytes)
 
 pub setting-unnamed : (view : ViewName) (place : ℕ) (vs bytes : List ℕ) {before after : List ℕ} {a : Answer}
@@ -73,7 +74,7 @@ unfolding setQuality
 setting-unnamed view place vs bytes =
     answer-exactly
     (segment-unnamed view place (setQualityIn place vs) bytes
-    (setting-refused (λ e p. e ≡ noView → ⊥) (λ z. absurd (omega arith)) (λ z. absurd (omega arith)) place vs))
+    (setting-refused (λ e p. e ≢ noView) (λ z. absurd (omega arith)) (λ z. absurd (omega arith)) place vs))
     (unnamed-segment view place (setQualityIn place vs) bytes)
 
 pub pairs-answer-unnamed : (view : ViewName) (n : ℕ) (orders bytes : List ℕ) {before after : List ℕ} {a : Answer}

@@ -51,7 +51,7 @@ module _ {w : Widths} {s : List ℕ} {a : ℕ} {v : View} (x : ViewAt w s a v) (
   byte-there : (i : ℕ) → i < 8 → getD s (a + i) 0 ≡ getD (headBytes (v .head)) i 0
   byte-there i l = sym (getD-drop a s i 0) ∙ sym (getD-take 8 (drop a s) i 0 l) ∙ ap (λ (xs : List ℕ). getD xs i 0) head-part
 
-  pub name-there : named (getD s (a + 1) 0) (getD s a 0) ≡ nameOf v
+  name-there : named (getD s (a + 1) 0) (getD s a 0) ≡ nameOf v
   name-there =
       let z : a + 0 ≡ a = omega arith in
       ap₂ named (byte-there 1 (omega arith)) (ap (λ (k : ℕ). getD s k 0) (sym z) ∙ byte-there 0 (omega arith))
@@ -60,12 +60,11 @@ module _ {w : Widths} {s : List ℕ} {a : ℕ} {v : View} (x : ViewAt w s a v) (
 
 pub record Seeking (view : ViewName) (s : List ℕ) (a : ℕ) (r : Record) : Type 0 where
   pub count : ℕ
-  pub upto : count ≤ length (r .views)
   pub sought : Sought r s count a
   pub passed : placeIn view (r .views) ≡ count + placeIn view (drop count (r .views))
 
 pub seeking-start : (view : ViewName) (s : List ℕ) {r : Record} → read s ≡ got r [] → Seeking view s 24 r
-seeking-start view s e = record { count = 0; upto = omega arith; sought = sought-first s e; passed = omega arith }
+seeking-start view s e = record { count = 0; sought = sought-first s e; passed = omega arith }
 
 -- behind the last view nothing is left
 views-end : {w : Widths} {count : ℕ} {s : List ℕ} {i p : ℕ} {vs : List View} → ViewsLeft w count s i p vs → count ≤ i → length s ≤ p
@@ -118,7 +117,6 @@ module _ {view : ViewName} {s : List ℕ} {a : ℕ} {r : Record} (h : Seeking vi
             let k = ap (λ (n : ℕ). placeIn view (drop n (r .views))) y in
             record {
               count = h .count + 1;
-              upto = omega (arith, more);
               sought = rw (sought-end (h .sought) more B) (sought-on (h .sought) more);
               passed = omega (arith, next-is, z, k);
             }

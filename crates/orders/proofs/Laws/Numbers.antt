@@ -86,7 +86,6 @@ verdict-above = own-numbers (λ e. T (not (within 2 12 e))) tt tt tt tt tt tt
 
 -- nor is one 13
 pub ordered-other : (o : Order) (i : ℕ) (r : Record) → Other (ordered o i r)
-unfolding verdict allTests tests
 ordered-other o i r =
     pick-case Other (eqb (verdict o i r) 0) _ _ (λ t. tt)
     (λ t. own-numbers (λ e. e ≢ noView) (omega arith) (omega arith) (omega arith) (omega arith) (omega arith) (omega arith) o i r (eqb-no t))
