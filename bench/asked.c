@@ -31,7 +31,7 @@ plain_block choose_view(sample *of)
         const plain_name name = plain_name_at(header);
         plain_record judged;
         plain_judge(of->record, of->length, name, &judged);
-        if (plain_only_quality(judged.view.extended)) {
+        if (plain_lets_lines_go(judged.view.extended)) {
             of->ordered = name;
             of->ordered_lines = judged.view.lines;
             index = judged.view.index;

@@ -36,6 +36,9 @@ BOTH(segment, on->record, on->length, NAME(on->with_segments), on->segments - 1)
 BOTH(quality, on->record, on->length, NAME(on->with_segments), on->segments - 1, out, room)
 BOTH(set_quality, on->record, on->length, NAME(on->with_segments), on->segments - 1, on->values,
      on->values_length, out, room)
+BOTH(pores, on->record, on->length, NAME(on->with_segments), on->segments - 1, out, room)
+BOTH(set_pores, on->record, on->length, NAME(on->with_segments), on->segments - 1, on->pores,
+     on->pores_length, out, room)
 BOTH(remove, on->record, on->length, NAME(on->ordered), on->ordered_lines, on->removed,
      on->removed_length, out, room)
 BOTH(join, on->record, on->length, NAME(on->ordered), on->ordered_lines, on->strangers[0],
@@ -71,6 +74,8 @@ const row rows[] = {
     ROW("segment", segment, A_SEGMENT, 0),
     ROW("quality", quality, QUALITY, 0),
     ROW("set_quality", set_quality, QUALITY, 0),
+    ROW("pores", pores, PORES, 0),
+    ROW("set_pores", set_pores, PORES, 0),
     ROW("remove", remove, NOTHING, 0),
     ROW("join", join, NOTHING, 0),
     ROW("part", part, NOTHING, 0),
@@ -89,6 +94,8 @@ int applies(const row *r, const shape *of)
         return on->segments > 0;
     case QUALITY:
         return on->values_length > 0;
+    case PORES:
+        return on->pores_length > 0;
     case A_PAIR_LIST:
         return on->pairs != NULL;
     default:

@@ -15,7 +15,7 @@ enum { ROOM = 1 << 17 };
 typedef fsk_answer (*call)(const sample *on, uint8_t *out, size_t room);
 
 /* What a record must have for a call. */
-typedef enum { NOTHING, A_SEGMENT, QUALITY, A_PAIR_LIST } need;
+typedef enum { NOTHING, A_SEGMENT, QUALITY, PORES, A_PAIR_LIST } need;
 
 typedef struct {
     const char *name;

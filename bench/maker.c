@@ -3,6 +3,8 @@
  */
 #include "maker.h"
 
+#include "plain_pores.h"
+
 enum { SIXTEEN = 16, MOST_NEIGHBOURS = 3 };
 
 /* Of every view that is made here, in points. */
@@ -109,6 +111,37 @@ void put_quality(maker *m)
     put(m, 8, BITS);
     for (uint32_t i = 0; i < cells; i++)
         put(m, BITS, draw(m, 1u << BITS));
+    end_block(m, at);
+}
+
+/* The elements of a distance. */
+static void put_distance(maker *m, unsigned bits, uint32_t distance)
+{
+    const uint32_t no_pore = plain_no_pore(bits);
+    for (; distance >= no_pore; distance -= no_pore - 1)
+        put(m, bits, no_pore);
+    put(m, bits, distance);
+}
+
+/* Up to ten pores for each line, up to 40 points apart; elements have 5 bits, so that a distance
+ * above 30 takes two of them. */
+void put_pores(maker *m, uint32_t lines)
+{
+    enum { RESOLUTION = 400, BITS = 5, MOST_PORES = 10, FARTHEST = 40 };
+    const size_t at = start_block(m);
+    size_t segment;
+    put(m, SIXTEEN, SWEAT_PORES);
+    segment = start_block(m);
+    put(m, SIXTEEN, RESOLUTION);
+    put(m, 8, BITS);
+    for (; lines > 0; lines--) {
+        put(m, BITS, 0);
+        for (uint32_t pores = draw(m, MOST_PORES + 1); pores > 0; pores--)
+            put_distance(m, BITS, 1 + draw(m, FARTHEST));
+    }
+    end_block(m, segment);
+    /* a segment's length counts its type and itself too */
+    plain_put_two_bytes(m->bytes + segment, (uint32_t)(m->bit / 8 - (segment - 2)));
     end_block(m, at);
 }
 

@@ -26,9 +26,11 @@ void put_line(maker *m, uint32_t codes);
 /* A view up to its extended block; its lines have `codes` codes each and up to `more` beyond. */
 void put_view(maker *m, plain_name name, uint32_t lines, uint32_t codes, uint32_t more);
 
-/* The extended block that ends a view: so many segments of any type, or one of local quality. */
+/* The extended block that ends a view: so many segments of any type, one of local quality, or one
+ * of pores for so many lines. */
 void put_segments(maker *m, uint32_t segments);
 void put_quality(maker *m);
+void put_pores(maker *m, uint32_t lines);
 
 /* Ends the record, and gives its length. */
 size_t put_length(maker *m);

@@ -25,6 +25,11 @@ fsk_answer plain_quality(const uint8_t *record, size_t record_length, uint32_t f
 fsk_answer plain_set_quality(const uint8_t *record, size_t record_length, uint32_t finger,
                              uint32_t number, uint32_t segment, const uint8_t *values,
                              size_t values_length, uint8_t *out, size_t out_length);
+fsk_answer plain_pores(const uint8_t *record, size_t record_length, uint32_t finger,
+                       uint32_t number, uint32_t segment, uint8_t *values, size_t values_length);
+fsk_answer plain_set_pores(const uint8_t *record, size_t record_length, uint32_t finger,
+                           uint32_t number, uint32_t segment, const uint8_t *values,
+                           size_t values_length, uint8_t *out, size_t out_length);
 fsk_answer plain_remove(const uint8_t *record, size_t record_length, uint32_t finger,
                         uint32_t number, uint32_t count, const uint8_t *lines,
                         size_t lines_length, uint8_t *out, size_t out_length);
@@ -66,13 +71,14 @@ enum {
     BAD_VALUE = 22,
     NO_SEGMENT = 23,
     BAD_QUALITY = 24,
-    BAD_PAIRS = 25
+    BAD_PAIRS = 25,
+    BAD_PORES = 26
 };
 
 enum { LARGEST_RECORD = 32768, MOST_LINES = 1024, POSITIONS = 11 };
 
-/* The type of the segments of local quality. */
-enum { LOCAL_QUALITY = 0x0003 };
+/* The types of the segments that are not just carried. */
+enum { LOCAL_QUALITY = 0x0003, SWEAT_PORES = 0x0004 };
 
 /* The sheet's tags. */
 enum {
@@ -92,6 +98,7 @@ enum {
     VIEW_VALUES = 4,
     SEGMENT_HEADER = 4,
     QUALITY_HEADER = 3,
+    PORES_HEADER = 3,
     PAIR_ORDER = 6,
     COUNT_OF_CODES = 8
 };
@@ -199,9 +206,9 @@ unsigned plain_right_scale(const uint8_t *bytes);
  * the view is then counted too. */
 unsigned plain_right_values(const uint8_t *header, uint8_t *seen);
 
-/* Whether no segment of this extended block keeps lines from being removed: each is one of local
- * quality. */
-int plain_only_quality(plain_block extended);
+/* Whether no segment of this extended block keeps lines from being removed by its type: each is one
+ * of local quality or of pores. */
+int plain_lets_lines_go(plain_block extended);
 
 /* 19 and 20, of a new record with this length. */
 static inline fsk_answer plain_judge_length(size_t length, size_t room)

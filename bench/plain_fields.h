@@ -1,7 +1,7 @@
 /*
- * Bytes and fields of some bits, for all plain files: numbers of two bytes, a reader and a writer
- * of fields, and runs of numbers that have up to 8 bits each in a record and a byte outside it
- * (codes, the values of cells).
+ * Bytes and fields of some bits, for all plain files: numbers of two and of four bytes, a reader
+ * and a writer of fields, and runs of numbers that have up to 8 bits each in a record and a byte
+ * outside it (codes, the values of cells).
  */
 #ifndef PLAIN_FIELDS_H
 #define PLAIN_FIELDS_H
@@ -15,12 +15,22 @@ static inline uint32_t plain_two_bytes(const uint8_t *at)
     return (uint32_t)at[0] << 8 | at[1];
 }
 
+static inline uint32_t plain_four_bytes(const uint8_t *at)
+{
+    return plain_two_bytes(at) << 16 | plain_two_bytes(at + 2);
+}
+
 /* A writer gives the place behind what it wrote. */
 static inline uint8_t *plain_put_two_bytes(uint8_t *out, uint32_t number)
 {
     out[0] = (uint8_t)(number >> 8);
     out[1] = (uint8_t)number;
     return out + 2;
+}
+
+static inline uint8_t *plain_put_four_bytes(uint8_t *out, uint32_t number)
+{
+    return plain_put_two_bytes(plain_put_two_bytes(out, number >> 16), number);
 }
 
 static inline uint8_t *plain_put_bytes(uint8_t *out, const uint8_t *from, size_t length)
@@ -86,11 +96,8 @@ static inline void plain_put(plain_writer *to, unsigned width, uint32_t number)
     to->held = to->held << width | number;
     to->waiting += width;
     if (to->waiting >= 32) {
-        uint32_t full;
         to->waiting -= 32;
-        full = (uint32_t)(to->held >> to->waiting);
-        to->next = plain_put_two_bytes(to->next, full >> 16);
-        to->next = plain_put_two_bytes(to->next, full);
+        to->next = plain_put_four_bytes(to->next, (uint32_t)(to->held >> to->waiting));
     }
 }
 

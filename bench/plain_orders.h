@@ -68,8 +68,7 @@ static inline void plain_put_bits(plain_writer *to, plain_reader *from, size_t b
         bits -= odd;
     }
     for (; bits >= 32; bits -= 32) { /* from a byte on: else fewer than 8 are left */
-        const uint32_t upper = plain_two_bytes(reader.next);
-        plain_put(&writer, 32, upper << 16 | plain_two_bytes(reader.next + 2));
+        plain_put(&writer, 32, plain_four_bytes(reader.next));
         reader.next += 4;
     }
     while (bits > 0) {

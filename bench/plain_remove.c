@@ -3,16 +3,7 @@
  * says how long the new record is, and only then it is written. Lines that stay are copied as runs
  * of bits, all blocks that stay as bytes.
  */
-#include "plain_orders.h"
-
-enum { WORD = 32, WORDS = MOST_LINES / WORD };
-
-/* Which lines stay, a bit for each, and how many stay below each word's first line. So the new
- * number of a line is found without a walk. */
-typedef struct {
-    uint32_t stays[WORDS];
-    uint16_t below[WORDS];
-} survivors;
+#include "plain_remove.h"
 
 static inline uint32_t ones(uint32_t bits)
 {
@@ -21,20 +12,15 @@ static inline uint32_t ones(uint32_t bits)
     return ((bits + (bits >> 4)) & 0x0F0F0F0F) * 0x01010101 >> 24;
 }
 
-static inline int stays(const survivors *kept, uint32_t line)
-{
-    return kept->stays[line / WORD] >> line % WORD & 1;
-}
-
 /* How many lines stay below this one: its new number, if it stays itself. */
-static inline uint32_t new_number(const survivors *kept, uint32_t line)
+static inline uint32_t new_number(const plain_survivors *kept, uint32_t line)
 {
     const uint32_t lower = (1u << line % WORD) - 1;
     return kept->below[line / WORD] + ones(kept->stays[line / WORD] & lower);
 }
 
 /* Takes the listed lines out; 0 if the list is not one of a removal in a view of `count` lines. */
-static int take_out(survivors *kept, const uint8_t *lines, size_t length, uint32_t count)
+static int take_out(plain_survivors *kept, const uint8_t *lines, size_t length, uint32_t count)
 {
     uint32_t least = 0, below = 0; /* least: the least number that can come next */
     if (length == 0 || length % 2 != 0)
@@ -54,55 +40,47 @@ static int take_out(survivors *kept, const uint8_t *lines, size_t length, uint32
     return 1;
 }
 
-static size_t kept_skeleton_length(const plain_record *record, const survivors *kept)
+static size_t kept_skeleton_length(const plain_record *record, const plain_survivors *kept)
 {
     const uint8_t *skeleton = record->view.skeleton.bytes;
     size_t bit = 0, kept_bits = 0;
     for (uint32_t line = 0; line < record->view.lines; line++) {
         const size_t bits = plain_line_bits(skeleton, bit, record->end_bits, record->k);
-        if (stays(kept, line))
+        if (plain_stays(kept, line))
             kept_bits += bits;
         bit += bits;
     }
     return plain_whole_bytes(kept_bits);
 }
 
-/* Lines that stay and stand side by side are put as one run. */
-static uint8_t *put_kept_skeleton(uint8_t *out, const plain_record *record, const survivors *kept)
+static uint8_t *put_kept_skeleton(uint8_t *out, const plain_record *record,
+                                  const plain_survivors *kept)
 {
     const uint8_t *skeleton = record->view.skeleton.bytes;
-    plain_reader from = plain_reader_at(skeleton, 0);
-    plain_writer to = {out, 0, 0};
-    size_t bit = 0, run = 0; /* run: the bits that wait to be put, those before `bit` */
+    plain_moving lines = {plain_reader_at(skeleton, 0), {out, 0, 0}, 0};
+    size_t bit = 0;
     for (uint32_t line = 0; line < record->view.lines; line++) {
         const size_t bits = plain_line_bits(skeleton, bit, record->end_bits, record->k);
+        plain_move(&lines, bits, plain_stays(kept, line));
         bit += bits;
-        if (stays(kept, line)) {
-            run += bits;
-        } else {
-            plain_put_bits(&to, &from, run);
-            plain_pass(&from, bits);
-            run = 0;
-        }
     }
-    plain_put_bits(&to, &from, run);
-    return plain_put_rest(to);
+    return plain_moved(&lines);
 }
 
 /* How many of a line's neighbours stay. */
 static inline uint32_t kept_neighbours(plain_reader list, unsigned w, uint32_t count, uint32_t line,
-                                       const survivors *kept)
+                                       const plain_survivors *kept)
 {
     uint32_t neighbour = line, staying = 0;
     for (uint32_t i = 0; i < count; i++) {
         neighbour -= plain_take(&list, w);
-        staying += (uint32_t)stays(kept, neighbour);
+        staying += (uint32_t)plain_stays(kept, neighbour);
     }
     return staying;
 }
 
 /* The numbers of the index that is left. */
-static plain_tally tally_kept_index(const plain_view *view, const survivors *kept)
+static plain_tally tally_kept_index(const plain_view *view, const plain_survivors *kept)
 {
     const unsigned w = view->index.bytes[0];
     plain_reader reader = plain_reader_at(view->index.bytes, 8);
@@ -110,13 +88,13 @@ static plain_tally tally_kept_index(const plain_view *view, const survivors *kep
     for (uint32_t line = 0; line < view->lines; line++) {
         const uint32_t count = plain_take(&reader, w);
         uint32_t neighbour = line, before = new_number(kept, line), staying = 0;
-        if (!stays(kept, line)) {
+        if (!plain_stays(kept, line)) {
             plain_pass(&reader, (size_t)count * w);
             continue;
         }
         for (uint32_t i = 0; i < count; i++) {
             neighbour -= plain_take(&reader, w);
-            if (stays(kept, neighbour)) {
+            if (plain_stays(kept, neighbour)) {
                 const uint32_t number = new_number(kept, neighbour);
                 plain_tally_number(&all, before - number);
                 before = number;
@@ -128,7 +106,7 @@ static plain_tally tally_kept_index(const plain_view *view, const survivors *kep
     return all;
 }
 
-static uint8_t *put_kept_index(uint8_t *out, const plain_view *view, const survivors *kept,
+static uint8_t *put_kept_index(uint8_t *out, const plain_view *view, const plain_survivors *kept,
                                unsigned new_w)
 {
     const unsigned w = view->index.bytes[0];
@@ -138,14 +116,14 @@ static uint8_t *put_kept_index(uint8_t *out, const plain_view *view, const survi
     for (uint32_t line = 0; line < view->lines; line++) {
         const uint32_t count = plain_take(&reader, w);
         uint32_t neighbour = line, before = new_number(kept, line);
-        if (!stays(kept, line)) {
+        if (!plain_stays(kept, line)) {
             plain_pass(&reader, (size_t)count * w);
             continue;
         }
         plain_put(&to, new_w, kept_neighbours(reader, w, count, line, kept));
         for (uint32_t i = 0; i < count; i++) {
             neighbour -= plain_take(&reader, w);
-            if (stays(kept, neighbour)) {
+            if (plain_stays(kept, neighbour)) {
                 const uint32_t number = new_number(kept, neighbour);
                 plain_put(&to, new_w, before - number);
                 before = number;
@@ -155,15 +133,6 @@ static uint8_t *put_kept_index(uint8_t *out, const plain_view *view, const survi
     return plain_put_rest(to);
 }
 
-int plain_only_quality(plain_block extended)
-{
-    const uint8_t *end = plain_block_end(extended);
-    for (const uint8_t *at = extended.bytes; at < end; at += plain_two_bytes(at + 2))
-        if (plain_two_bytes(at) != LOCAL_QUALITY)
-            return 0;
-    return 1;
-}
-
 fsk_answer plain_remove(const uint8_t *record, size_t record_length, uint32_t finger,
                         uint32_t number, uint32_t count, const uint8_t *lines,
                         size_t lines_length, uint8_t *out, size_t out_length)
@@ -171,22 +140,23 @@ fsk_answer plain_remove(const uint8_t *record, size_t record_length, uint32_t fi
     const plain_name view = {finger, number};
     plain_record judged;
     const plain_view *old = &judged.view;
-    survivors kept;
+    plain_survivors kept;
     plain_tally all = {0, 0};
-    size_t skeleton, index = 0, length;
+    size_t skeleton, index = 0, extended, length;
     fsk_answer refusal = plain_judge_order(record, record_length, view, count, &judged);
     if (refusal.number != 0)
         return refusal;
     if (!take_out(&kept, lines, lines_length, count))
         return plain_refused(NO_LINE);
-    if (!plain_only_quality(old->extended))
-        return plain_refused(OTHER_SEGMENT);
+    if ((refusal = plain_judge_kept_segments(old, &kept, &extended)).number != 0)
+        return refusal;
     skeleton = kept_skeleton_length(&judged, &kept);
     if (old->index.length > 0) {
         all = tally_kept_index(old, &kept);
         index = plain_index_length(all);
     }
-    length = record_length - old->skeleton.length - old->index.length + skeleton + index;
+    length = record_length - old->skeleton.length - old->index.length - old->extended.length;
+    length += skeleton + index + extended;
     if ((refusal = plain_judge_length(length, out_length)).number != 0)
         return refusal;
     out = plain_put_before(out, &judged, old->skeleton.bytes - 2, length);
@@ -195,6 +165,8 @@ fsk_answer plain_remove(const uint8_t *record, size_t record_length, uint32_t fi
     out = plain_put_two_bytes(out, (uint32_t)index);
     if (index > 0)
         out = put_kept_index(out, old, &kept, plain_least_width(all));
-    plain_put_behind(out, &judged, plain_block_end(old->index));
+    out = plain_put_two_bytes(out, (uint32_t)extended);
+    out = plain_put_kept_segments(out, old, &kept);
+    plain_put_behind(out, &judged, plain_block_end(old->extended));
     return plain_accepted(length);
 }

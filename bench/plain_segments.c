@@ -3,17 +3,10 @@
  * quality rewritten. All three judge the whole record first. A view can have 65,535 times 65,535
  * cells, so that they are counted in 64 bits, and the bytes are counted before a cell is looked at.
  */
-#include "plain.h"
+#include "plain_segments.h"
 
-/* A segment, as it was found. */
-typedef struct {
-    plain_record in;
-    plain_block payload; /* the bytes behind its type and its length */
-} found_segment;
-
-/* 1 to 12, 13 and 23. */
-static fsk_answer find_segment(const uint8_t *record, size_t record_length, plain_name view,
-                               uint32_t segment, found_segment *found)
+fsk_answer plain_find_segment(const uint8_t *record, size_t record_length, plain_name view,
+                              uint32_t segment, plain_found *found)
 {
     const plain_block *extended = &found->in.view.extended;
     const uint8_t *at;
@@ -34,8 +27,8 @@ fsk_answer plain_segment(const uint8_t *record, size_t record_length, uint32_t f
                          uint32_t number, uint32_t segment)
 {
     const plain_name view = {finger, number};
-    found_segment found;
-    const fsk_answer refusal = find_segment(record, record_length, view, segment, &found);
+    plain_found found;
+    const fsk_answer refusal = plain_find_segment(record, record_length, view, segment, &found);
     if (refusal.number != 0)
         return refusal;
     return (fsk_answer){0, (uint32_t)(8 * (found.payload.bytes - record)), found.payload.length};
@@ -50,18 +43,6 @@ typedef struct {
     uint64_t count;
     unsigned bits;
 } view_cells;
-
-/* find_segment, and 24 where the segment is of another type. */
-static fsk_answer find_quality(const uint8_t *record, size_t record_length, plain_name view,
-                               uint32_t segment, found_segment *found)
-{
-    const fsk_answer refusal = find_segment(record, record_length, view, segment, found);
-    if (refusal.number != 0)
-        return refusal;
-    if (plain_two_bytes(found->payload.bytes - SEGMENT_HEADER) != LOCAL_QUALITY)
-        return plain_refused(BAD_QUALITY);
-    return plain_accepted(0);
-}
 
 /* How many cells of so many points lie along the width or the height that stands here. */
 static uint64_t cells_along(const uint8_t *size, unsigned points)
@@ -117,9 +98,10 @@ fsk_answer plain_quality(const uint8_t *record, size_t record_length, uint32_t f
                          size_t values_length)
 {
     const plain_name view = {finger, number};
-    found_segment found;
+    plain_found found;
     view_cells cells;
-    const fsk_answer refusal = find_quality(record, record_length, view, segment, &found);
+    const fsk_answer refusal = plain_find_typed(record, record_length, view, segment,
+                                                LOCAL_QUALITY, &found);
     if (refusal.number != 0)
         return refusal;
     if (!is_payload(found.payload, &found.in.view, &cells))
@@ -144,24 +126,17 @@ fsk_answer plain_set_quality(const uint8_t *record, size_t record_length, uint32
 {
     const plain_name view = {finger, number};
     const plain_block lent = {values, values_length};
-    found_segment found;
-    const plain_block *old = &found.payload, *extended = &found.in.view.extended;
+    plain_found found;
     view_cells cells;
-    size_t payload, length;
-    fsk_answer refusal = find_quality(record, record_length, view, segment, &found);
-    if (refusal.number != 0)
-        return refusal;
+    fsk_answer answer = plain_find_typed(record, record_length, view, segment, LOCAL_QUALITY,
+                                         &found);
+    if (answer.number != 0)
+        return answer;
     if (!are_values(lent, &found.in.view, &cells))
         return plain_refused(BAD_QUALITY);
-    payload = payload_length(cells);
-    length = record_length - old->length + payload;
-    if ((refusal = plain_judge_length(length, out_length)).number != 0)
-        return refusal;
-    out = plain_put_before(out, &found.in, extended->bytes - 2, length);
-    out = plain_put_two_bytes(out, (uint32_t)(extended->length - old->length + payload));
-    out = plain_put_bytes(out, extended->bytes, (size_t)(old->bytes - 2 - extended->bytes));
-    out = plain_put_two_bytes(out, (uint32_t)(SEGMENT_HEADER + payload));
-    out = put_payload(out, values, cells);
-    plain_put_behind(out, &found.in, plain_block_end(*old));
-    return plain_accepted(length);
+    answer = plain_put_up_to_payload(&out, out_length, &found, payload_length(cells));
+    if (answer.number == 0)
+        plain_put_behind(put_payload(out, values, cells), &found.in,
+                         plain_block_end(found.payload));
+    return answer;
 }

@@ -1,8 +1,8 @@
 /*
  * The benchmark's records, shape by shape: document 01's sample A and others like it, one of the
  * size that a card takes, one of about 30 KB with several views of long lines, one view with as
- * many lines as a view can have, and one view with local quality. The sheets and the values are
- * those that plain_read and plain_quality give.
+ * many lines as a view can have, one view with local quality, and one with pores. The sheets and
+ * the values are those that plain_read, plain_quality and plain_pores give.
  */
 #include "records.h"
 
@@ -127,6 +127,17 @@ static sample make_many_cells(maker *m, uint32_t number)
     return made(m, right_index, LINES, 1);
 }
 
+/* The standard's normal widths, and a segment of pores. */
+static sample make_many_pores(maker *m, uint32_t number)
+{
+    enum { LINES = 400, CODES = 8, MORE = 16 };
+    *m = (maker){.c = 11, .b = 8, .k = 4, .w = 6, .drawn = seed(number)};
+    put_header(m, 1, 200, 24);
+    put_view(m, right_index, LINES, CODES, MORE);
+    put_pores(m, LINES);
+    return made(m, right_index, LINES, 1);
+}
+
 static const struct {
     const char *name;
     sample (*make)(maker *m, uint32_t number);
@@ -136,6 +147,7 @@ static const struct {
     {"long lines", make_long_lines},
     {"1,024 lines", make_many_lines},
     {"1,900 cells", make_many_cells},
+    {"2,000 pores", make_many_pores},
 };
 
 /* ---- what is lent beside a record ---- */
@@ -153,6 +165,16 @@ static void add_values(sample *to)
     to->values_length = plain_quality(to->record, to->length, view.finger, view.number,
                                       to->segments - 1, scratch, ROOM).length;
     to->values = keep(scratch, to->values_length);
+}
+
+/* Likewise where it is not of pores. */
+static void add_pores(sample *to)
+{
+    const plain_name view = to->with_segments;
+    const fsk_answer read = plain_pores(to->record, to->length, view.finger, view.number,
+                                        to->segments - 1, scratch, ROOM);
+    to->pores_length = 4 * read.length;
+    to->pores = keep(scratch, to->pores_length);
 }
 
 static void add_orders(sample *to)
@@ -180,6 +202,7 @@ void make_shapes(shape shapes[SHAPES])
             shapes[i].samples[number] = makers[i].make(&draft, number);
         add_to_each(&shapes[i], add_sheet);
         add_to_each(&shapes[i], add_values);
+        add_to_each(&shapes[i], add_pores);
         add_to_each(&shapes[i], add_orders);
     }
 }

@@ -7,7 +7,7 @@
 
 #include "plain.h"
 
-enum { SHAPES = 5 };
+enum { SHAPES = 6 };
 
 /* The records of a shape. */
 enum { ALIKE = 16 };
@@ -27,7 +27,9 @@ typedef struct {
     uint32_t segments;             /* how many it has; 0 where no view has any */
     const uint8_t *values;         /* the local quality that the last of them holds */
     size_t values_length;          /* 0 where it holds none */
-    plain_name ordered;            /* the last view that has no segments but of local quality */
+    const uint8_t *pores;          /* the pores that it holds, as numbers */
+    size_t pores_length;           /* in bytes; 0 where it holds none */
+    plain_name ordered;            /* the last view that lines can be removed from */
     uint32_t ordered_lines;        /* its count of lines */
     const uint8_t *removed;        /* every third of them, as a removal's list */
     size_t removed_length;         /* in bytes */

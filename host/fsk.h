@@ -3,8 +3,8 @@
  *
  * A RECORD is a run of 24 to 32,768 bytes: a header, then one or more VIEWS of a finger. A view has a header, a block of
  * LINES (a ridge each: where it starts, how it runs, where it ends), an INDEX that says which lines are neighbours (or none),
- * and SEGMENTS of extended data, which the library carries as they are; those of local quality it also reads and rewrites. Lines
- * and segments are counted from 0.
+ * and SEGMENTS of extended data, which the library carries as they are; those of local quality and of pores it also reads and
+ * rewrites, and the pores of a removed line go with it. Lines and segments are counted from 0.
  *
  * A view is named by two numbers: finger, its finger position (0 unknown, 1 to 5 right thumb to right little finger, 6 to 10 left
  * thumb to left little finger), and number, its view number (0 for the first view of that finger, 1 for the second and so on). So
@@ -92,7 +92,8 @@ enum {
     FSK_OTHER_COUNT = 14,   /* The view has another number of lines than the order was made for. */
     FSK_BAD_LINES = 15,     /* A line number is not below the view's number of lines, or a removal list is empty, not rising or of
                                odd length. */
-    FSK_EXTENDED = 16,      /* No line can be removed from a view with a segment of another type than local quality (0x0003). */
+    FSK_EXTENDED = 16,      /* No line can be removed from a view with a segment of another type than local quality (0x0003) or
+                               pores (0x0004). */
     FSK_NO_INDEX = 17,      /* The view has no index, so that no lines can be joined or parted. */
     FSK_ALREADY_SO = 18,    /* The lines to join are neighbours already, or those to part are not. */
     FSK_TOO_LONG = 19,      /* The new record would have over 32,768 bytes. */
@@ -105,6 +106,8 @@ enum {
                                break its rules. */
     FSK_BAD_PAIRS = 25,     /* The list of orders about pairs is empty, its length is no multiple of 6, or an order's first number is
                                neither 0 nor 1. */
+    FSK_BAD_PORES = 26,     /* The segment asked for is not one of pores (0x0004), or the payload of one or the values to be
+                               written break its rules. */
     FSK_NUMBERS             /* how many numbers there are: each is below it */
 };
 
@@ -187,6 +190,33 @@ fsk_answer fsk_set_quality(const uint8_t *record, size_t record_length, uint32_t
                            const uint8_t *values, size_t values_length, uint8_t *second, size_t second_length);
 
 /*
+ * The SWEAT PORES along a view's lines, which a segment of type 0x0004 has as its payload: for each line, how far it is from pore to
+ * pore. The VALUES are 32-bit numbers: the resolution in points per cm (0 to 65,535), the bits of an element of the payload (e, 2 to
+ * 8), and then, for each line of the view, a count and that many distances to the next pore, each at least 1. A payload is right where
+ * it is the resolution (2 bytes), e (1 byte), the lines' elements with e bits each, and zero bits up to a whole byte, and nothing else.
+ * A line has a zero element and then the elements of its distances: where m is 2 to the e less 2, one with all bits set for each m
+ * that passes without a pore, and one with the rest, 1 to m. So no line ends with all bits set, and a view without lines has the first
+ * three bytes alone. Sixteen times the record's length always suffices.
+ * finger, number: the view. segment: counted from 0. Writes 32-bit numbers as bytes, high byte first: four bytes each. The answer's
+ * length counts these numbers, not the bytes. Where the output's length is no multiple of four, the bytes over stay as they were.
+ * Refuses: 1 to 12, 13, 23, 26, 20.
+ */
+fsk_answer fsk_pores(const uint8_t *record, size_t record_length, uint32_t finger, uint32_t number, uint32_t segment,
+                     uint8_t *values, size_t values_length);
+
+/*
+ * The record with the payload of a segment of pores made from such values. Only that payload, its segment's length, the extended
+ * length and the record length are others. What the payload was is not judged, so that one that breaks the rules can be mended; the
+ * values are, also that there are as many counts as the view has lines, and nothing behind the last distance. Rewriting with the
+ * values that fsk_pores gave gives the record back, and fsk_pores then gives what was rewritten. 32,768 bytes always suffice for the
+ * new record.
+ * finger, number: the view. segment: counted from 0. values: as fsk_pores writes them; their length is in bytes, so four times its
+ * answer's. Writes bytes, to a second buffer. Refuses: 1 to 12, 13, 23, 26, 19, 20.
+ */
+fsk_answer fsk_set_pores(const uint8_t *record, size_t record_length, uint32_t finger, uint32_t number, uint32_t segment,
+                         const uint8_t *values, size_t values_length, uint8_t *second, size_t second_length);
+
+/*
  * An ORDER writes a new record to a second buffer; the old one is only read. It names a view (finger, number) and the count of
  * lines that it was made for: where the view has another count of lines by now, it is refused with 14. So a removal that comes
  * again after it was accepted is refused, and nothing is lost. All that is not ordered stays; but in a view with an index, the
@@ -196,10 +226,12 @@ fsk_answer fsk_set_quality(const uint8_t *record, size_t record_length, uint32_t
 
 /*
  * Removes lines from a view; those behind them move up and get new numbers, and a removed line leaves all lists of neighbours.
- * Segments of local quality are carried along as they are, whether their payloads are right or not; any other type stands in the way
- * (16).
+ * A segment of another type than local quality or pores stands in the way (16). Those of local quality are carried along as they are,
+ * whether their payloads are right or not. From those of pores the removed lines' pores go, while the other lines' pores, the
+ * resolution and the bits of an element stay; but where a payload of pores is not right, or is for another number of lines, nothing is
+ * removed (26).
  * lines: their numbers, counted from 0 and rising, as 16-bit numbers, high byte first: two bytes each.
- * Writes bytes. Refuses: 1 to 12, 13, 14, 15, 16, 19, 20.
+ * Writes bytes. Refuses: 1 to 12, 13, 14, 15, 16, 26, 19, 20.
  */
 fsk_answer fsk_remove(const uint8_t *record, size_t record_length, uint32_t finger, uint32_t number, uint32_t count,
                       const uint8_t *lines, size_t lines_length, uint8_t *second, size_t second_length);

@@ -35,19 +35,6 @@ static int is_change(char **texts, change *wanted)
            is_number(texts[5], UINT8_MAX, &wanted->value);
 }
 
-/* Whether a call refused. If so, says why. */
-static int refused(fsk_answer answer)
-{
-    if (answer.number != FSK_ACCEPTED)
-        explain(answer);
-    return answer.number != FSK_ACCEPTED;
-}
-
-static int same(const uint8_t *one, size_t one_length, const uint8_t *other, size_t other_length)
-{
-    return one_length == other_length && memcmp(one, other, one_length) == 0;
-}
-
 /* How the old values lie in the view's image, in words too. */
 static grid lay_out(field view)
 {

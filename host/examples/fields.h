@@ -7,6 +7,7 @@
 
 #include <fsk.h>
 #include <stdio.h>
+#include <string.h>
 
 #include "fingers.h"
 
@@ -103,6 +104,19 @@ static inline void explain(fsk_answer refusal)
     else
         printf("refused %u at byte %u, bit %u: %s\n    %s\n", number, place / 8, place % 8, fsk_text(number), where);
     printf("    %s\n", fsk_advice(number));
+}
+
+/* Whether a call refused. If so, says why. */
+static inline int refused(fsk_answer answer)
+{
+    if (answer.number != FSK_ACCEPTED)
+        explain(answer);
+    return answer.number != FSK_ACCEPTED;
+}
+
+static inline int same(const uint8_t *one, size_t one_length, const uint8_t *other, size_t other_length)
+{
+    return one_length == other_length && memcmp(one, other, one_length) == 0;
 }
 
 #endif

@@ -7,8 +7,9 @@
  *     cc -std=c11 -Wall -Wextra -Werror -I host tests/replay/replay.c \
  *        libhost.a -o replay && ./replay FILE
  *
- * An accepted reading or writing is run back too: of a record by its sheet, and
- * of local quality by its values. The orders of a list of pairs are given singly too.
+ * An accepted reading or writing is run back too: of a record by its sheet, of local
+ * quality by its values, and of pores by their numbers. The orders of a list of pairs
+ * are given singly too.
  */
 #define _DEFAULT_SOURCE
 #include <inttypes.h>
@@ -20,63 +21,11 @@
 #include "case_file.h"
 #include "fsk.h"
 #include "guard.h"
+#include "library.h"
 
-enum { MOST_SHOWN = 20, LONGEST_RECORD = 32768, ORDER_BYTES = 6 };
+enum { MOST_SHOWN = 20, LONGEST_RECORD = 32768, ORDER_BYTES = 6, PORE_BYTES = 4 };
 
 static uint32_t shown;
-
-/* ---- the call ---- */
-
-/* What the library answers to the case's call. Where it names a view, the first two
- * numbers are its finger position and its number. */
-static fsk_answer library(const test_case *c)
-{
-    const uint8_t *in = inputs_at[0], *also = inputs_at[1];
-    const size_t in_len = c->inputs[0].length, also_len = c->inputs[1].length;
-    uint8_t *out = output_at;
-    const size_t out_len = c->out_size;
-    uint32_t n[MOST_NUMBERS];
-    fsk_held held;
-    for (unsigned i = 0; i < MOST_NUMBERS; i++)
-        n[i] = (uint32_t)c->numbers[i];
-    switch (c->call) {
-    case READ:
-        return fsk_read(in, in_len, out, out_len);
-    case WRITE:
-        return fsk_write(in, in_len, out, out_len);
-    case TRAIL:
-        return fsk_trail(in, in_len, n[0], n[1], n[2], out, out_len);
-    case SEGMENT:
-        return fsk_segment(in, in_len, n[0], n[1], n[2]);
-    case REMOVE:
-        return fsk_remove(in, in_len, n[0], n[1], n[2], also, also_len, out, out_len);
-    case JOIN:
-        return fsk_join(in, in_len, n[0], n[1], n[2], n[3], n[4], out, out_len);
-    case PART:
-        return fsk_part(in, in_len, n[0], n[1], n[2], n[3], n[4], out, out_len);
-    case HOLDS:
-        held = fsk_holds(in, in_len, also, also_len, n[0], (size_t)c->numbers[1]);
-        return (fsk_answer){held.second, 0, held.length};
-    case QUALITY:
-        return fsk_quality(in, in_len, n[0], n[1], n[2], out, out_len);
-    case SET_QUALITY:
-        return fsk_set_quality(in, in_len, n[0], n[1], n[2], also, also_len, out, out_len);
-    case PAIRS:
-        return fsk_pairs(in, in_len, n[0], n[1], n[2], also, also_len, out, out_len);
-    }
-    stop("a case has an unknown call");
-}
-
-/* Makes the case's call; 0 if it ended with a fault. */
-static int guarded_call(const test_case *c, fsk_answer *answer)
-{
-    if (sigsetjmp(after_fault, 0) != 0)
-        return 0;
-    in_call = 1;
-    *answer = library(c);
-    in_call = 0;
-    return 1;
-}
 
 /* ---- what is wrong ---- */
 
@@ -143,12 +92,13 @@ static int run_is_wrong(uint32_t index, const test_case *c, placing run)
 static unsigned call_back(const test_case *c)
 {
     static const unsigned back[CALLS] = {[READ] = WRITE, [WRITE] = READ,
-                                         [QUALITY] = SET_QUALITY, [SET_QUALITY] = QUALITY};
+                                         [QUALITY] = SET_QUALITY, [SET_QUALITY] = QUALITY,
+                                         [PORES] = SET_PORES, [SET_PORES] = PORES};
     return c->number == 0 ? back[c->call] : 0;
 }
 
-/* Values that were read are written to the record they come from; those that were
- * written are read from the new record. */
+/* Values or pores that were read are written to the record they come from; those that
+ * were written are read from the new record. Of pores the length counts numbers. */
 static test_case way_back(const test_case *c)
 {
     test_case back = {.call = call_back(c), .numbers_passed = c->numbers_passed, .fill = c->fill};
@@ -156,11 +106,12 @@ static test_case way_back(const test_case *c)
     back.inputs_lent = calls[back.call].inputs;
     back.inputs[0] = c->written;
     back.written = c->inputs[c->inputs_lent - 1];
-    if (back.call == SET_QUALITY) {
+    if (back.call == SET_QUALITY || back.call == SET_PORES) {
         back.inputs[0] = c->inputs[0];
         back.inputs[1] = c->written;
     }
-    back.out_size = back.length = back.written.length;
+    back.out_size = back.written.length;
+    back.length = back.written.length / (back.call == PORES ? PORE_BYTES : 1);
     return back;
 }
 

@@ -10,6 +10,8 @@ from functools import lru_cache
 
 import orders
 import pairs
+import pores
+import pores_ways
 import quality
 from build import build
 from judge import judge
@@ -20,11 +22,12 @@ from trail import rounding, trail
 
 CALLS = {"read": 1, "write": 2, "trail": 3, "segment": 4,
          "remove": 5, "join": 6, "part": 7, "holds": 8,
-         "quality": 9, "set_quality": 10, "pairs": 11}
+         "quality": 9, "set_quality": 10, "pairs": 11,
+         "pores": 12, "set_pores": 13}
 # The calls that write a record in which one view is changed, and all calls that name a
 # view: its finger position and its number are the first two numbers that they take.
-ORDERS = ("remove", "join", "part", "pairs", "set_quality")
-NAMING = ("trail", "segment", "quality") + ORDERS
+ORDERS = ("remove", "join", "part", "pairs", "set_quality", "set_pores")
+NAMING = ("trail", "segment", "quality", "pores") + ORDERS
 
 
 @dataclass
@@ -109,10 +112,14 @@ def answer_segment(finger, number, segment, record):
 
 
 def answer_remove(finger, number, count, record, lines):
+    """Record, then 13, 14, 15, 16, 26, 19; the record without these lines."""
     whole = record_of(record)
     edited = orders.remove(whole, finger, number, count, lines)
-    view = named_view(whole, finger, number)
-    return written(build(edited), ways=(quality.carried(view),))
+    data = build(edited)
+    old, new = [named_view(each, finger, number) for each in (whole, edited)]
+    removed = orders.removal_list(lines, count)
+    return written(data, ways=(*quality.carried(old),
+                               *pores_ways.removal(old, new, removed)))
 
 
 def answer_join(finger, number, count, first, second, record):
@@ -163,11 +170,29 @@ def answer_set_quality(finger, number, segment, record, values):
                    ways=(quality.rewriting(old, segment, new),))
 
 
+def answer_pores(finger, number, segment, record):
+    """Record, then 13, 23, 26; four bytes for each number, high byte first."""
+    view = view_with_segment(record_of(record), finger, number, segment)
+    found = pores.read(view, view.segments[segment])
+    return written(pores.to_numbers(found), pores.NUMBER_BYTES,
+                   tuple(pores_ways.reading(found)))
+
+
+def answer_set_pores(finger, number, segment, record, numbers):
+    """Record, then 13, 23, 26, 19; the record with that payload rewritten."""
+    whole = record_of(record)
+    old = view_with_segment(whole, finger, number, segment)
+    new = pores.rewrite(old, segment, numbers)
+    return written(build(orders.with_view(whole, new)),
+                   ways=tuple(pores_ways.rewriting(old, segment, new)))
+
+
 ANSWERS = {"read": answer_read, "write": answer_write, "trail": answer_trail,
            "segment": answer_segment, "remove": answer_remove,
            "join": answer_join, "part": answer_part, "pairs": answer_pairs,
            "holds": answer_holds, "quality": answer_quality,
-           "set_quality": answer_set_quality}
+           "set_quality": answer_set_quality, "pores": answer_pores,
+           "set_pores": answer_set_pores}
 
 
 def outcome(call, numbers, slices):

@@ -2,15 +2,16 @@
 
     python3 tests/second/cases.py --calls read,trail --seed 1 --count 20000 --out FILE
 
-Instead of names, --calls takes `orders` (the orders and set_quality, whose
-sequences mix them, and holds) or `others`; without it all calls are taken.
+Instead of names, --calls takes `orders` (the orders, set_quality, set_pores and
+pores, whose sequences mix them, and holds) or `others`; without it all calls are
+taken.
 The same seed, calls and count give the same file. All numbers in the file are
 unsigned and stand high byte first:
 
     file   8 bytes "FSKCASES", 4 bytes number of cases, then the cases
     case   1 byte   call: 1 read, 2 write, 3 trail, 4 segment, 5 remove,
                     6 join, 7 part, 8 holds, 9 quality, 10 set_quality,
-                    11 pairs
+                    11 pairs, 12 pores, 13 set_pores
            1 byte   number of numbers passed, then 8 bytes for each,
                     in the order of the call's declaration: a view's
                     finger position and number are the first two
@@ -25,9 +26,10 @@ unsigned and stand high byte first:
                     the output beyond them must keep its fill
 
 Tables go to standard error: how often each number was met, how often each fault,
-how often calls were accepted in each way, and what the names of views were like
-(tables.py). What a chosen call can meet and never met is a failure. How many cases
-are refused with a place in the record goes to standard output.
+how often calls were accepted in each way, behind which orders pores were read, and
+what the names of views were like (tables.py). What a chosen call can meet and never
+met is a failure. How many cases are refused with a place in the record goes to
+standard output.
 """
 
 import argparse
@@ -41,7 +43,7 @@ from model import FAULTS
 from plan import Stock, streams
 from tables import Met, all_tables, never_met
 
-WITH_ORDERS = [*ORDERS, "holds"]
+WITH_ORDERS = [*ORDERS, "pores", "holds"]
 GROUPS = {"orders": WITH_ORDERS,
           "others": [call for call in CALLS if call not in WITH_ORDERS]}
 

@@ -11,8 +11,10 @@ from functools import lru_cache
 
 from build import build
 from make_names import names_near
-from model import MOST_VIEWS, QUALITY_TYPE, Index, Line, Record, Segment, View
+from model import (MOST_VIEWS, PORES_TYPE, QUALITY_TYPE, Index, Line, Record, Segment,
+                   View)
 from names import POSITIONS, find_view, name_of
+from pores import Pores, to_payload
 
 # The finger positions of the views of each record, in their order.
 FIVE = (2, 7, 2, 0, 2)
@@ -37,12 +39,14 @@ def telling_line(place, at):
 
 def telling_view(place, position, number):
     """A view that is like none at another place: three to five lines, each next to the
-    one before, and a segment of local quality with three cells."""
+    one before, a segment of local quality with three cells, and one of pores."""
     lines = [telling_line(place, at) for at in range(3 + place % 3)]
     neighbours = [[]] + [[at] for at in range(len(lines) - 1)]
-    segment = Segment(QUALITY_TYPE, bytes([1, 1, 8, place, 7, 255 - place]))
+    pores = Pores(place, 4, [[1 + (place + at) % 14] for at in range(len(lines))])
+    segments = [Segment(QUALITY_TYPE, bytes([1, 1, 8, place, 7, 255 - place])),
+                Segment(PORES_TYPE, to_payload(pores))]
     return View(number, position, 0, 80, 3, 1, lines, Index(1 + place % 4, neighbours),
-                [segment])
+                segments)
 
 
 def names_record(positions):

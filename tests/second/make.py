@@ -2,14 +2,16 @@
 
 The kinds differ in what they reach: all widths, few and many lines, several views
 of one finger between those of others, indexes of every sort, segments of local
-quality (right or not) and of other types, and records that fill 32,768 bytes to the
-last. Damage is done elsewhere.
+quality and of pores (right or not) and of other types, and records that fill 32,768
+bytes to the last. Damage is done elsewhere.
 """
 
+import make_pores
+import make_quality
 from build import parts_of, size_of
-from make_quality import random_payload, random_size
-from model import (IMPRESSIONS, LARGEST_RECORD, MOST_LINES, QUALITY_TYPE, Index,
-                   Line, Record, Segment, View, least_width)
+from make_quality import random_size
+from model import (IMPRESSIONS, LARGEST_RECORD, MOST_LINES, PORES_TYPE, QUALITY_TYPE,
+                   Index, Line, Record, Segment, View, least_width)
 from names import POSITIONS
 
 
@@ -74,19 +76,29 @@ def random_index(rng, lines):
     return Index(w, neighbours)
 
 
+def random_payload(rng, type_, view):
+    """A payload of local quality, of pores, or of any bytes; it may be empty."""
+    if type_ == QUALITY_TYPE:
+        return make_quality.random_payload(rng, view)
+    if type_ == PORES_TYPE:
+        return make_pores.random_payload(rng, len(view.lines), 0.85)
+    size = rng.choice((0, 0, 1, 2, rng.randint(0, 12), rng.randint(0, 80)))
+    return rng.randbytes(size)
+
+
 def random_segments(rng, most, view):
-    """Segments of local quality, of other types, or of both; a payload may be empty."""
+    """Segments of local quality, of pores, of other types, or of all of these; what one
+    type holds may stand under another."""
     share = rng.choice((0.0, 0.5, 1.0, 1.0))
+    both = (QUALITY_TYPE, PORES_TYPE)
+    known = rng.choice((both[:1], both[1:], both, both))
     segments = []
     for _ in range(rng.randint(1, most)):
-        type_ = rng.choice((0, 1, 2, 4, 255, 0x0103, 0x0300, rng.getrandbits(16)))
-        size = rng.choice((0, 0, 1, 2, rng.randint(0, 12), rng.randint(0, 80)))
-        payload = rng.randbytes(size)
+        type_ = rng.choice((0, 1, 2, 5, 255, 0x0103, 0x0300, rng.getrandbits(16)))
         if rng.random() < share:
-            type_ = QUALITY_TYPE
-        if type_ == QUALITY_TYPE or rng.random() < 0.2:
-            payload = random_payload(rng, view)
-        segments.append(Segment(type_, payload))
+            type_ = rng.choice(known)
+        held = rng.choice((3, 4, 5)) if rng.random() < 0.1 else type_
+        segments.append(Segment(type_, random_payload(rng, held, view)))
     return segments
 
 
@@ -179,12 +191,14 @@ def full_of_neighbours(rng, size=LARGEST_RECORD):
 
 
 def many_lines(rng, count, w=None):
-    """A record with one view of `count` lines, and an index of width w if given."""
+    """A record with one view of `count` lines, and with an index and pores if w is
+    given."""
     record = narrow_header(rng)
     view = add_view(rng, record, 0, 0, 0, "any", 0.0)
     view.lines = [random_line(rng, record, 2, "any") for _ in range(count)]
     view.index, view.segments = None, []
     if w is not None:
+        view.segments = [Segment(PORES_TYPE, random_payload(rng, PORES_TYPE, view))]
         neighbours = [[] for _ in range(count)]
         for line in range(1, count, 7):
             neighbours[line] = [line - 1]

@@ -16,6 +16,7 @@ IDENTIFIER = bytes([0x46, 0x53, 0x4B, 0x00])
 VERSION = bytes([0x30, 0x31, 0x30, 0x00])
 IMPRESSIONS = (0, 1, 2, 3, 8, 9)
 QUALITY_TYPE = 0x0003
+PORES_TYPE = 0x0004
 
 # What can be at fault, for each number that request [1] gives a place.
 FAULTS = {
@@ -41,6 +42,20 @@ QUALITY_FAULTS = ("type", "under 3 bytes", "cell width 0", "cell height 0",
                   "bits 0", "bits above 8", "too few bytes", "too many bytes",
                   "1 in padding", "value above its bits")
 
+# What can be at fault in a segment of pores, where request [7] gives 26, which has no
+# place: in any, in a payload, and in numbers for one.
+PORE_FAULTS = (("type", "e under 2", "e above 8", "too few lines"),
+               ("under 3 bytes", "first element not zero", "all ones before a line",
+                "all ones before padding", "all ones at the end", "8 zero bits over",
+                "8 bits over, 1 among them", "1 in under e bits",
+                "1 behind a zero element"),
+               ("cut number", "under 2 numbers", "resolution above 65535",
+                "count too high", "distance 0", "numbers over"))
+
+# Where a removal meets another type (16), and whether 26 would be given without it: no
+# pores are at fault, or some are, before that segment or behind it.
+OTHER_TYPE_FAULTS = ("no pores at fault", "bad pores before", "bad pores behind")
+
 # What can be at fault in a list of pairs as a whole, where request [4] gives 25; it
 # has no place. The order's first number is above 1, or the last order is cut; also
 # where an order before would be refused with 15 or 18.
@@ -49,13 +64,16 @@ LIST_FAULTS = ("empty list", "cut order", "cut order after 15 or 18",
                "above 1, last order", "above 1 after 15 or 18")
 
 
+KNOWN_FAULTS = {16: OTHER_TYPE_FAULTS, 24: QUALITY_FAULTS, 25: LIST_FAULTS,
+                26: sum(PORE_FAULTS, ()), **FAULTS}
+
+
 class Refusal(Exception):
-    """A refusal: its number, for 2 to 12 its place, for these, 24 and 25 the fault."""
+    """A refusal: its number, for 2 to 12 its place, and for some the fault."""
 
     def __init__(self, number, place=0, fault=""):
         super().__init__(number, place, fault)
-        known = {24: QUALITY_FAULTS, 25: LIST_FAULTS, **FAULTS}.get(number, ("",))
-        if fault not in known:
+        if fault not in KNOWN_FAULTS.get(number, ("",)):
             raise ValueError("%d has no fault %r" % (number, fault))
         if number not in FAULTS and place != 0:
             raise ValueError("%d has no place" % number)

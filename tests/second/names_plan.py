@@ -11,8 +11,10 @@ from build import build
 from edges import small_records
 from edges_names import CROSSED, FIVE, name_edges, names_record
 from lend import lend, lend_enough
+from make_pores import with_numbers
 from names import find_view, name_of, views_of
 from pairs import JOIN, PART, bytes_of
+from pores import read
 from quality_plan import some
 
 
@@ -35,6 +37,11 @@ def right_arguments(call, view):
     if call == "set_quality":
         values = view.segments[0].payload
         return [0], [values[:4] + bytes([values[4] ^ 1]) + values[5:]]
+    if call == "pores":
+        return [1], []
+    if call == "set_pores":
+        pores = read(view, view.segments[1])
+        return [1], [with_numbers(pores, 0, pores.resolution ^ 1)]
     if call == "remove":
         return [count], [bytes([0, 1])]
     to_join, to_part = right_pairs(view.index)
@@ -51,7 +58,7 @@ def named_case(rng, call, name, view, data):
 
 def named_sequence(rng, call, record):
     """On each view of a record in turn an order that is accepted, the same once more
-    (only local quality can be rewritten twice so), and another that is accepted."""
+    (only a rewriting is accepted twice so), and another that is accepted."""
     data = build(record)
     for finger, number in sorted(name_of(view) for view in record.views):
         for again in (True, False):

@@ -1,14 +1,15 @@
 """The three orders on a record: removal, join and part, with 14 to 18.
 
 The view is found by its name first (names.py, 13). Each order gives a new structure
-in which only that view's lines and index differ; building it gives the new bytes, and
-19 where they are too many.
+in which only that view's lines and index differ, and after a removal its pores (26 in
+pores.py); building it gives the new bytes, and 19 where they are too many.
 """
 
 from dataclasses import replace
 
-from model import QUALITY_TYPE, Index, Refusal, least_width
+from model import PORES_TYPE, QUALITY_TYPE, Index, Refusal, least_width
 from names import name_of, named_view
+from pores import is_at_fault, left_by_removal
 
 
 def counted_view(record, finger, number, count):
@@ -40,16 +41,31 @@ def removal_list(data, count):
     return numbers
 
 
+def judge_types(view):
+    """16 where a segment is neither of local quality nor of pores, whether or not some
+    pores are at fault."""
+    others = [at for at, segment in enumerate(view.segments)
+              if segment.type not in (QUALITY_TYPE, PORES_TYPE)]
+    if not others:
+        return
+    bad = [at for at, segment in enumerate(view.segments) if is_at_fault(view, segment)]
+    if not bad:
+        raise Refusal(16, 0, "no pores at fault")
+    if bad[0] < others[0]:
+        raise Refusal(16, 0, "bad pores before")
+    raise Refusal(16, 0, "bad pores behind")
+
+
 def remove(record, finger, number, count, list_bytes):
-    """Removal: the survivors are renumbered, a removed line leaves all lists.
+    """Removal: the survivors are renumbered, a removed line leaves all lists, and its
+    pores go.
 
     Segments of local quality are carried as they stand; another type gives 16.
     """
     view = counted_view(record, finger, number, count)
     removed = set(removal_list(list_bytes, count))
-    for segment in view.segments:
-        if segment.type != QUALITY_TYPE:
-            raise Refusal(16)
+    judge_types(view)
+    segments = left_by_removal(view, removed)
     survivors = [line for line in range(count) if line not in removed]
     new_number = {old: new for new, old in enumerate(survivors)}
     index = None
@@ -61,7 +77,7 @@ def remove(record, finger, number, count, list_bytes):
                                if neighbour not in removed])
         index = Index(least_width(neighbours), neighbours)
     edited = replace(view, lines=[view.lines[old] for old in survivors],
-                     index=index)
+                     index=index, segments=segments)
     return with_view(record, edited)
 
 

@@ -2,18 +2,25 @@
 
 In a sequence each accepted result is lent to the next order, as document 01
 means it; a refused order leaves the record that now holds. Where lists of pairs or
-rewritings of local quality are chosen too, they stand among the orders.
+rewritings are chosen too, they stand among the orders. So do readings of pores; one
+stands behind each order that left pores in its view.
 """
 
-from answers import judged, outcome
+from answers import ORDERS, judged, outcome
 from build import build
 from lend import lend, line_count, place_in
 from make import fill, growing, random_record
 from make_names import any_name, name_in
 from make_pairs import random_list
-from model import LARGEST_RECORD, QUALITY_TYPE, Record
+from make_pores import random_payload
+from model import LARGEST_RECORD, PORES_TYPE, QUALITY_TYPE, Record, Segment
 from names import find_view, name_of
+from pores_plan import pores_case, readings_behind, record_with_pores, set_pores_case
 from quality_plan import set_quality_case
+
+# The calls that are planned elsewhere.
+CASES = {"set_quality": set_quality_case, "set_pores": set_pores_case,
+         "pores": pores_case}
 
 
 def numbers_as_bytes(numbers):
@@ -83,7 +90,7 @@ def pair_for(rng, call, index, count):
 def can_be_obeyed(call, view):
     """Whether some order of this call on the view is accepted, or likely is."""
     if call == "remove":
-        return view.lines and all(segment.type == QUALITY_TYPE
+        return view.lines and all(segment.type in (QUALITY_TYPE, PORES_TYPE)
                                   for segment in view.segments)
     return view.lines and view.index is not None
 
@@ -97,10 +104,10 @@ def chosen_name(rng, call, record):
 
 
 def order_case(rng, call, data):
-    """One order, a list of pairs, or a rewriting of local quality, on a record's
+    """One order, a list of pairs, a rewriting or a reading of pores, on a record's
     bytes."""
-    if call == "set_quality":
-        return set_quality_case(rng, data)
+    if call in CASES:
+        return CASES[call](rng, data)
     record = judged(data)
     name, count, index = any_name(rng), rng.randrange(3), None
     if isinstance(record, Record):
@@ -118,14 +125,19 @@ def order_case(rng, call, data):
 
 
 def sequence(rng, calls, length):
-    """Orders one after another; each accepted result is lent to the next."""
+    """Orders one after another; each accepted result is lent to the next. Many start
+    from a record of which every view has right pores."""
     size = rng.choices(("small", "middle", "fingers", "views"), (40, 27, 30, 3))[0]
     data = build(random_record(rng, size, 0.5))
+    if rng.random() < 0.5:
+        data = record_with_pores(rng)
     for _ in range(length):
         case = order_case(rng, rng.choice(calls), data)
         yield case
-        if case.expected.number == 0:
+        if case.call in ORDERS and case.expected.number == 0:
             data = case.expected.written
+            if "pores" in calls:
+                yield from readings_behind(rng, case)
 
 
 def growing_order(rng, call, view, middle):
@@ -140,22 +152,47 @@ def growing_order(rng, call, view, middle):
     return numbers + [rng.randint(middle + 1, lines - 1), 1], []
 
 
+def filled_to(record, call, arguments, past, view, type_):
+    """The bytes of a record filled with a segment in a view, so that what an order
+    leaves has `past` bytes more than 32,768, or what it is given has as many."""
+    data = build(record)
+    numbers, more = arguments
+    growth = outcome(call, numbers, [data] + more).length - len(data)
+    return build(fill(record, LARGEST_RECORD + min(growth, past) - growth, view, type_))
+
+
 def growing_case(rng, call):
     """An order that makes w grow, mostly up to 32,768 bytes or just past it: 19.
 
-    What fills the record stands in another view, or is carried as local quality.
+    What fills the record stands in another view, or is carried as local quality. Where
+    the edited view has few lines, it may have pores.
     """
     record, middle = growing(rng, rng.randint(2, 9))
     edited, other = record.views
-    numbers, more = growing_order(rng, call, edited, middle)
+    if middle < 64 and rng.random() < 0.5:
+        edited.segments.append(
+            Segment(PORES_TYPE, random_payload(rng, len(edited.lines), 0.9)))
+    arguments = growing_order(rng, call, edited, middle)
     data = build(record)
     if rng.random() < 0.8:
-        growth = outcome(call, numbers, [data] + more).length - len(data)
-        past = min(growth, rng.choice((-1, 0, 0, 1, 1, 2, 9)))
         view, type_ = rng.choice(((other, 0x0123), (edited, QUALITY_TYPE)))
-        data = build(fill(record, LARGEST_RECORD + past - growth, view, type_))
+        past = rng.choice((-1, 0, 0, 1, 1, 2, 9))
+        data = filled_to(record, call, arguments, past, view, type_)
     out_size = rng.choice((None, None, 0, 32767, 32768, 32769, 40000))
-    return lend(rng, call, numbers, [data] + more, out_size)
+    return lend(rng, call, arguments[0], [data] + arguments[1], out_size)
+
+
+def limit_cases(rng, call):
+    """Orders that make w grow in a view with pores: to 32,768 bytes, with just the room
+    for them and with a byte less, and to a byte more: 19."""
+    for past, out_size in ((0, LARGEST_RECORD), (0, LARGEST_RECORD - 1), (1, 40000)):
+        record, middle = growing(rng, 7)
+        edited, other = record.views
+        payload = random_payload(rng, len(edited.lines), 1.0)
+        edited.segments = [Segment(PORES_TYPE, payload)]
+        numbers, more = growing_order(rng, call, edited, middle)
+        data = filled_to(record, call, (numbers, more), past, other, 0x0123)
+        yield lend(rng, call, numbers, [data] + more, out_size)
 
 
 def order_stream(rng, call, calls, source):

@@ -7,7 +7,7 @@ records at the edges, and for names of views that are easily mistaken.
 
 from functools import partial
 
-from answers import NAMING, judged
+from answers import NAMING, ORDERS, judged
 from build import build
 from damage import KINDS, LONG_KINDS, damaged
 from damage_sheet import KINDS as SHEET_KINDS
@@ -20,10 +20,17 @@ from make_names import any_name, name_in
 from model import Record
 from names import find_view, name_of
 from names_plan import name_cases, small_names
-from orders_plan import order_case, order_stream
+from orders_plan import limit_cases, order_case, order_stream, sequence
+from pairs import JOIN, PART, bytes_of
 from pairs_plan import list_edge_cases, pairs_stream
+from pores_plan import pore_pairs, pore_removals, pores_stream, set_pores_stream
 from quality_plan import quality_stream, removal_edges, set_quality_stream
 from sheet import to_sheet
+
+# For each order about pairs what it takes behind the view, where there are three lines,
+# each next to the one before.
+ON_THREE_LINES = {"join": ([3, 0, 0], []), "part": ([3, 1, 0], []),
+                  "pairs": ([3], [bytes_of([(JOIN, 2, 2), (PART, 1, 0)])])}
 
 
 class Stock:
@@ -162,8 +169,7 @@ def holds_stream(rng, stock, _budget):
         old = right_bytes(rng, stock, 0.4)
         if rng.random() < 0.2:
             old = rng.randbytes(rng.randint(0, 60))
-        call = rng.choice(("remove", "join", "part", "pairs", "set_quality"))
-        case = order_case(rng, call, old)
+        case = order_case(rng, rng.choice(ORDERS), old)
         expected = case.expected
         second = expected.written + bytes([case.fill]) * (
             case.out_size - len(expected.written))
@@ -177,8 +183,12 @@ def holds_stream(rng, stock, _budget):
 
 def order_call_stream(call, sequenced, rng, stock, budget):
     """The edges, then one order's cases; their sequences use all calls chosen."""
+    yield from limit_cases(rng, call)
     if call == "remove":
         yield from removal_edges(rng, budget // 20)
+        yield from pore_removals(rng, "pores" in sequenced, budget // 20)
+    else:
+        yield from pore_pairs(rng, call, *ON_THREE_LINES[call], budget // 20)
     for data in some_edges(rng, stock, budget * 2 // 5):
         yield order_case(rng, call, data)
     segments = 0.4 if call == "remove" else 0.5
@@ -189,6 +199,7 @@ def order_call_stream(call, sequenced, rng, stock, budget):
 def pairs_call_stream(sequenced, rng, stock, budget):
     """Lists at the edges, records at the edges, then lists at random."""
     yield from list_edge_cases(rng, budget // 5)
+    yield from pore_pairs(rng, "pairs", *ON_THREE_LINES["pairs"], budget // 40)
     for data in some_edges(rng, stock, budget // 4):
         yield order_case(rng, "pairs", data)
     source = records(rng, stock, 0, 0.85)
@@ -199,6 +210,16 @@ def quality_call_stream(stream, rng, stock, budget):
     """The cases of a call on local quality; mostly there is such a segment."""
     source = records(rng, stock, budget // 3, 0.8, 0.97)
     yield from stream(rng, source, budget // 5)
+
+
+def pores_call_stream(stream, sequenced, rng, stock, budget):
+    """The cases of a call on pores; mostly there is such a segment. Sequences of the
+    calls chosen stand between them."""
+    source = records(rng, stock, budget // 3, 0.8, 0.97)
+    for turn, case in enumerate(stream(rng, source, budget // 5)):
+        yield case
+        if turn % 25 == 0:
+            yield from sequence(rng, sequenced, rng.choice((2, 4, 8)))
 
 
 def names_first(call, stream, rng, stock, budget):
@@ -214,7 +235,9 @@ def streams(calls):
               "holds": holds_stream,
               "quality": partial(quality_call_stream, quality_stream),
               "set_quality": partial(quality_call_stream, set_quality_stream)}
-    sequenced = [call for call in calls if call == "set_quality" or call not in makers]
+    sequenced = [call for call in calls if call in ORDERS or call == "pores"]
+    makers["pores"] = partial(pores_call_stream, pores_stream, sequenced)
+    makers["set_pores"] = partial(pores_call_stream, set_pores_stream, sequenced)
     for call in ("remove", "join", "part"):
         makers[call] = partial(order_call_stream, call, sequenced)
     makers["pairs"] = partial(pairs_call_stream, sequenced)

@@ -22,7 +22,7 @@ VALUE_FAULTS = tuple(fault for fault in QUALITY_FAULTS if fault != "1 in padding
 # The ways in which accepted calls differ; they are only counted.
 READINGS = ("no cells", "no padding", "padding")
 REWRITINGS = ("mended", "unchanged", "other cells", "longer", "shorter")
-CARRIED = ("no segments", "well formed", "not well formed")
+CARRIED = ("no segments", "quality well formed", "quality not well formed")
 
 
 @dataclass
@@ -157,8 +157,12 @@ def rewriting(view, place, new):
 
 
 def carried(view):
-    """What a removal carries along in a view: one of CARRIED."""
+    """What a removal carries along in a view: one of CARRIED; none where all segments
+    are of another type."""
     if not view.segments:
-        return "no segments"
-    right = all(is_well_formed(view, segment) for segment in view.segments)
-    return "well formed" if right else "not well formed"
+        return ("no segments",)
+    found = [segment for segment in view.segments if segment.type == QUALITY_TYPE]
+    if not found:
+        return ()
+    right = all(is_well_formed(view, segment) for segment in found)
+    return ("quality well formed" if right else "quality not well formed",)

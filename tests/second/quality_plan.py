@@ -28,14 +28,14 @@ def some(rng, members, most):
     return members if len(members) <= most else rng.sample(members, most)
 
 
-def named_segment(rng, data):
-    """The name of a view and the place of a segment: mostly one of local quality."""
+def named_segment(rng, data, type_=QUALITY_TYPE):
+    """The name of a view and the place of a segment: mostly one of this type."""
     record = judged(data)
     if not isinstance(record, Record):
         return [*any_name(rng), rng.randrange(2)]
     found = [(view, at) for view in record.views for at in range(len(view.segments))]
     right = [(view, at) for view, at in found
-             if view.segments[at].type == QUALITY_TYPE]
+             if view.segments[at].type == type_]
     for members, share in ((right, 0.85), (found, 0.5)):
         if members and rng.random() < share:
             view, at = rng.choice(members)

@@ -3,8 +3,8 @@
 All are assertions. Run it alone; it prints one line when all hold. It shows
 that the second program reads document 01 as its own samples do, and that every
 fault has the place worked out by hand, every direction the nearest heading, every
-name the view worked out by hand, and local quality and lists of pairs the bytes,
-before it judges anything.
+name the view worked out by hand, and local quality, lists of pairs and pores the
+bytes, before it judges anything.
 """
 
 from dataclasses import replace
@@ -18,6 +18,8 @@ from model import FAULTS, Index, Line, Record, Refusal, Segment, View, least_wid
 from names import name_of
 from samples_names import names_of_views
 from samples_pairs import lists_of_pairs
+from samples_pore_removals import removals_with_pores
+from samples_pores import pores_of_lines
 from samples_quality import local_quality
 from sheet import to_sheet
 from trail import first_heading, rounding, trail
@@ -152,7 +154,8 @@ def places():
                  "remove": ([2, 0, 1], [bytes([0, 0])]), "join": ([2, 1, 2, 0, 0], []),
                  "part": ([2, 1, 2, 1, 1], []), "quality": ([2, 1, 0], []),
                  "set_quality": ([2, 1, 0], [bytes([255, 255, 1])]),
-                 "pairs": ([2, 1, 2], [bytes(6)])}
+                 "pairs": ([2, 1, 2], [bytes(6)]), "pores": ([2, 1, 0], []),
+                 "set_pores": ([2, 1, 0], [bytes(8)])}
     lists = [(call, *lent_too) for call, lent_too in arguments.items()]
     lists += [(call, [11, 256] + arguments[call][0][2:], arguments[call][1])
               for call in NAMING]
@@ -180,7 +183,10 @@ def places_of_others():
             ("quality", [2, 2, 0], [], 13), ("quality", [2, 1, 1], [], 23),
             ("quality", [2, 1, 0], [], 24), ("set_quality", [2, 2, 0], [b""], 13),
             ("set_quality", [2, 1, 1], [b""], 23),
-            ("set_quality", [2, 1, 0], [b""], 24)):
+            ("set_quality", [2, 1, 0], [b""], 24),
+            ("pores", [2, 2, 0], [], 13), ("pores", [2, 1, 1], [], 23),
+            ("pores", [2, 1, 0], [], 26), ("set_pores", [2, 2, 0], [b""], 13),
+            ("set_pores", [2, 1, 1], [b""], 23), ("set_pores", [2, 1, 0], [b""], 26)):
         found = outcome(call, numbers, [base_bytes()] + more)
         assert (found.number, found.place) == (number, 0), found
     found = outcome("segment", [2, 1, 0], [base_bytes()])
@@ -229,5 +235,7 @@ if __name__ == "__main__":
     local_quality(SAMPLE_A)
     lists_of_pairs(SAMPLE_A)
     names_of_views(SAMPLE_A)
+    pores_of_lines()
+    removals_with_pores(SAMPLE_A)
     print("samples: P1 to P11, the run-only samples, %d places, the headings, local"
-          " quality, lists of pairs and names of views hold" % len(all_faults()))
+          " quality, lists of pairs, names of views and pores hold" % len(all_faults()))

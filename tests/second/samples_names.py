@@ -11,22 +11,24 @@ from answers import NAMING, ORDERS, outcome
 from judge import judge
 from model import Refusal
 from names import name_of
+from pores import bytes_of
 
-# Five views of 40 bytes each from byte 24 on. The view at place p has sample A's lines
+# Five views of 50 bytes each from byte 24 on. The view at place p has sample A's lines
 # twice, with the code p + 1, so that each trail is twice 16 + p + 1. Line 1 is next to
-# line 0. The payload of local quality, from byte 60 + 40 p on, has one cell, A0 + p.
+# line 0. The payload of local quality, from byte 60 + 50 p on, has one cell, A0 + p.
+# The pores, e = 8, are one at the distance B0 + p in line 0, and none in line 1.
 FIVE_VIEWS = bytes.fromhex(
-    "46534B00 30313000 000000E0 0000 05 C5 08 08 04 10 40 20 0000"
+    "46534B00 30313000 00000112 0000 05 C5 08 08 04 10 40 20 0000"
     "00 02 00 50 0001 0001 0010  5002850044C00E14 5002850044C00E14"
-    "0002 0160  0008  0003 0008 010108 A0"
+    "0002 0160  0012  0003 0008 010108 A0  0004 000A 00C8 08 00 B0 00"
     "00 07 00 50 0001 0001 0010  5002850048C00E14 5002850048C00E14"
-    "0002 0160  0008  0003 0008 010108 A1"
+    "0002 0160  0012  0003 0008 010108 A1  0004 000A 00C8 08 00 B1 00"
     "01 02 00 50 0001 0001 0010  500285004CC00E14 500285004CC00E14"
-    "0002 0160  0008  0003 0008 010108 A2"
+    "0002 0160  0012  0003 0008 010108 A2  0004 000A 00C8 08 00 B2 00"
     "00 00 00 50 0001 0001 0010  5002850050C00E14 5002850050C00E14"
-    "0002 0160  0008  0003 0008 010108 A3"
+    "0002 0160  0012  0003 0008 010108 A3  0004 000A 00C8 08 00 B3 00"
     "02 02 00 50 0001 0001 0010  5002850054C00E14 5002850054C00E14"
-    "0002 0160  0008  0003 0008 010108 A4")
+    "0002 0160  0012  0003 0008 010108 A4  0004 000A 00C8 08 00 B4 00")
 
 # The place of the view that each name means.
 PLACES = {(2, 0): 0, (7, 0): 1, (2, 1): 2, (0, 0): 3, (2, 2): 4}
@@ -50,10 +52,14 @@ NO_VIEW = (
 # views, and others that would be refused otherwise.
 RIGHT = {"trail": ([0], []), "segment": ([0], []), "quality": ([0], []),
          "set_quality": ([0], [b"\1\1\x08\x55"]), "remove": ([2], [b"\0\0"]),
-         "join": ([2, 0, 0], []), "part": ([2, 1, 0], []), "pairs": ([2], [bytes(6)])}
-OTHERS = {"trail": ([2], []), "segment": ([1], []), "quality": ([9], []),
+         "join": ([2, 0, 0], []), "part": ([2, 1, 0], []), "pairs": ([2], [bytes(6)]),
+         "pores": ([1], []), "set_pores": ([1], [bytes_of([200, 8, 0, 1, 9])])}
+OTHERS = {"trail": ([2], []), "segment": ([2], []), "quality": ([9], []),
           "set_quality": ([0], [b""]), "remove": ([9], [b""]), "join": ([1, 0, 0], []),
-          "part": ([2, 0, 2], []), "pairs": ([2], [b"\0"])}
+          "part": ([2, 0, 2], []), "pairs": ([2], [b"\0"]), "pores": ([2], []),
+          "set_pores": ([1], [b"\0"])}
+# The segment that a rewriting changes.
+REWRITTEN = {"set_quality": 0, "set_pores": 1}
 
 
 def call_on(call, name, data, arguments):
@@ -74,14 +80,20 @@ def place_meant(data, name):
     return place
 
 
+def has_pores(data, name, *numbers):
+    """Whether the named view has these pores."""
+    return call_on("pores", name, data, RIGHT).written == bytes_of(numbers)
+
+
 def five_views():
     """Each name means its place, in every call, and an order changes nothing else."""
     before = judge(FIVE_VIEWS).views
     assert [name_of(view) for view in before] == list(PLACES)
     for name, place in PLACES.items():
         assert place_meant(FIVE_VIEWS, name) == place
+        assert has_pores(FIVE_VIEWS, name, 200, 8, 1, 0xB0 + place, 0)
         found = call_on("segment", name, FIVE_VIEWS, RIGHT)
-        assert (found.number, found.place, found.length) == (0, 480 + 320 * place, 4)
+        assert (found.number, found.place, found.length) == (0, 480 + 400 * place, 4)
         for call in ORDERS:
             found = call_on(call, name, FIVE_VIEWS, RIGHT)
             assert found.number == 0, (call, name, found)
@@ -89,9 +101,10 @@ def five_views():
             assert [name_of(view) for view in after] == list(PLACES)
             changed = [at for at in range(5) if (after[at].lines, after[at].index) != (
                 before[at].lines, before[at].index)]
-            if call == "set_quality":
-                changed = [at for at in range(5) if after[at].segments[0].payload
-                           != before[at].segments[0].payload]
+            if call in REWRITTEN:
+                segment = REWRITTEN[call]
+                changed = [at for at in range(5) if after[at].segments[segment].payload
+                           != before[at].segments[segment].payload]
             assert changed == [place], (call, name, changed)
 
 
@@ -105,21 +118,27 @@ def no_view():
                 assert (found.length, found.written) == (0, b"")
     for call, number in (("trail", 15), ("segment", 23), ("quality", 23),
                          ("set_quality", 24), ("remove", 14), ("join", 14),
-                         ("part", 15), ("pairs", 25)):
+                         ("part", 15), ("pairs", 25), ("pores", 23),
+                         ("set_pores", 26)):
         for name in PLACES:
             assert call_on(call, name, FIVE_VIEWS, OTHERS).number == number, call
 
 
 def removed_from_five():
-    """Removing line 0 of (2, 1) takes 8 bytes from the third view's skeleton, bytes 114
-    to 129. Its index, 01 60, becomes 01 00. The names mean the same places; the same
-    removal again is 14, and on (2, 2) it leaves (2, 1) alone."""
+    """Removing line 0 of (2, 1) takes 8 bytes from the third view's skeleton, bytes 134
+    to 149, and two from its pores, bytes 168 to 173. Its index, 01 60, becomes 01 00.
+    The names mean the same places; the same removal again is 14, and on (2, 2) it
+    leaves (2, 1) alone."""
+    left = bytes.fromhex("0004 0008 00C8 08 00")
     removed = call_on("remove", (2, 1), FIVE_VIEWS, RIGHT).written
-    assert removed == (FIVE_VIEWS[:11] + b"\xD8" + FIVE_VIEWS[12:112] + b"\0\x08"
-                       + FIVE_VIEWS[122:130] + b"\0\2\1\0" + FIVE_VIEWS[134:])
+    assert removed == (FIVE_VIEWS[:11] + b"\x08" + FIVE_VIEWS[12:132] + b"\0\x08"
+                       + FIVE_VIEWS[142:150] + b"\0\2\1\0\0\x10" + FIVE_VIEWS[156:164]
+                       + left + FIVE_VIEWS[174:])
     for name, place in PLACES.items():
         assert place_meant(removed, name) == place
-    bits = {(2, 0): 480, (7, 0): 800, (2, 1): 1056, (0, 0): 1376, (2, 2): 1696}
+        pores = [0] if name == (2, 1) else [1, 0xB0 + place, 0]
+        assert has_pores(removed, name, 200, 8, *pores)
+    bits = {(2, 0): 480, (7, 0): 880, (2, 1): 1216, (0, 0): 1600, (2, 2): 2000}
     for name, bit in bits.items():
         assert call_on("segment", name, removed, RIGHT).place == bit
     for name in NO_VIEW:
@@ -127,16 +146,16 @@ def removed_from_five():
     assert call_on("remove", (2, 1), removed, RIGHT).number == 14
     assert outcome("remove", [2, 1, 1], [removed, b"\0\0"]).number == 0
     both = call_on("remove", (2, 2), removed, RIGHT).written
-    assert both == removed[:11] + b"\xD0" + removed[12:184] + b"\0\x08" + (
-        removed[194:202] + b"\0\2\1\0" + removed[206:])
+    assert both == removed[:10] + b"\0\xFE" + removed[12:222] + b"\0\x08" + (
+        removed[232:240] + b"\0\2\1\0\0\x10" + removed[246:254] + left)
 
 
 def renamed(names, value=0xA0):
     """As many views of FIVE_VIEWS' make, with these names; the lone cell of each has
     a value that counts up."""
-    size = 24 + 40 * len(names)
+    size = 24 + 50 * len(names)
     views = [bytes([number, finger]) + FIVE_VIEWS[26:63] + bytes([value + place])
-             for place, (finger, number) in enumerate(names)]
+             + FIVE_VIEWS[64:74] for place, (finger, number) in enumerate(names)]
     return (FIVE_VIEWS[:8] + size.to_bytes(4, "big") + b"\0\0" + bytes([len(names)])
             + FIVE_VIEWS[15:24] + b"".join(views))
 
@@ -149,15 +168,15 @@ def meant_of(data, names, places):
         if place is None:
             assert found.number == 13, (name, found)
             continue
-        assert (found.number, found.place) == (0, 480 + 320 * place), (name, found)
+        assert (found.number, found.place) == (0, 480 + 400 * place), (name, found)
         values = call_on("quality", name, data, RIGHT).written
-        assert values[3] == data[63 + 40 * place], name
+        assert values[3] == data[63 + 50 * place], name
 
 
 def exchanged():
     """Where both (0, 1) and (1, 0) are there, each means its own view."""
     data = renamed([(1, 0), (0, 0), (0, 1)])
-    assert len(data) == 144
+    assert len(data) == 174
     meant_of(data, [(1, 0), (0, 0), (0, 1), (1, 1), (0, 2), (2, 0)],
              [0, 1, 2, None, None, None])
 

@@ -177,7 +177,7 @@ def removed_from_a(sample_a):
     assert found.number == 0
     assert [each.payload for each in judge(found.written).views[0].segments] == [
         each.payload for each in bad]
-    for type_ in (0, 1, 2, 4, 0x0103, 0x0300):
+    for type_ in (0, 1, 2, 5, 0x0103, 0x0300):
         for at in range(4):
             mixed = bad[:at] + [Segment(type_, segment[4:])] + bad[at:]
             mixed_data = sample_a_with(sample_a, mixed)

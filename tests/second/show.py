@@ -13,7 +13,8 @@ from answers import CALLS, NAMING
 
 # The numbers that a call takes behind the finger and number of a view, or at all.
 NUMBERS = {"trail": ("line",), "segment": ("segment",), "quality": ("segment",),
-           "set_quality": ("segment",), "remove": ("count",), "pairs": ("count",),
+           "set_quality": ("segment",), "pores": ("segment",),
+           "set_pores": ("segment",), "remove": ("count",), "pairs": ("count",),
            "join": ("count", "line", "other line"),
            "part": ("count", "line", "other line"), "holds": ("number", "length")}
 MOST_SHOWN = 1024

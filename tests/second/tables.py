@@ -1,19 +1,22 @@
 """What the cases of each call have to meet, and tables of how often they did.
 
-Four things are counted: the numbers that a call gives; the faults behind them,
-which are what the place of 2 to 12 points at, the rule that 24 or 25 tells of, or
-where in its list an order stands that is refused; the ways in which a call was
-accepted, of which a list of pairs can have several at once; and what the names of
-views were like, in calls that were accepted and in those that 13 refused.
+Five things are counted: the numbers that a call gives; the faults behind them,
+which are what the place of 2 to 12 points at, the rule that 24, 25 or 26 tells of,
+whether 16 stands before bad pores, or where in its list an order stands that is
+refused; the ways in which a call was accepted, of which it can have several at once;
+behind which orders pores were read; and what the names of views were like, in calls
+that were accepted and in those that 13 refused.
 """
 
 from collections import Counter
 
+import pores
+import pores_ways
+import quality
 from answers import NAMING, ORDERS, judged
-from model import FAULTS, LIST_FAULTS, QUALITY_FAULTS
+from model import FAULTS, LIST_FAULTS, OTHER_TYPE_FAULTS, PORE_FAULTS, QUALITY_FAULTS
 from names import RIGHT_NAMES, WRONG_NAMES, right_kinds, wrong_kinds
 from pairs import LISTS, PAIR_FAULTS
-from quality import CARRIED, PAYLOAD_FAULTS, READINGS, REWRITINGS, VALUE_FAULTS
 from trail import ROUNDINGS
 
 OF_A_RECORD = {1} | set(FAULTS)
@@ -22,24 +25,35 @@ MUST_MEET = {
     "write": {0, 19, 20, 21, 22},
     "trail": {0, 13, 15, 20} | OF_A_RECORD,
     "segment": {0, 13, 23} | OF_A_RECORD,
-    "remove": {0, 13, 14, 15, 16, 19, 20} | OF_A_RECORD,
+    "remove": {0, 13, 14, 15, 16, 19, 20, 26} | OF_A_RECORD,
     "join": {0, 13, 14, 15, 17, 18, 19, 20} | OF_A_RECORD,
     "part": {0, 13, 14, 15, 17, 18, 19, 20} | OF_A_RECORD,
     "holds": {0, 1},
     "quality": {0, 13, 20, 23, 24} | OF_A_RECORD,
     "set_quality": {0, 13, 19, 20, 23, 24} | OF_A_RECORD,
     "pairs": {0, 13, 14, 15, 17, 18, 19, 20, 25} | OF_A_RECORD,
+    "pores": {0, 13, 20, 23, 26} | OF_A_RECORD,
+    "set_pores": {0, 13, 19, 20, 23, 26} | OF_A_RECORD,
 }
-NUMBERS = range(26)
-# The faults that a call alone tells apart.
-FAULTS_OF = {"quality": {24: PAYLOAD_FAULTS}, "set_quality": {24: VALUE_FAULTS},
+NUMBERS = range(27)
+# The faults that a call alone tells apart; a removal meets no pores of another type.
+FAULTS_OF = {"quality": {24: quality.PAYLOAD_FAULTS},
+             "set_quality": {24: quality.VALUE_FAULTS},
+             "pores": {26: pores.PAYLOAD_FAULTS},
+             "set_pores": {26: pores.NUMBER_FAULTS},
+             "remove": {16: OTHER_TYPE_FAULTS, 26: tuple(
+                 fault for fault in pores.PAYLOAD_FAULTS if fault != "type")},
              "pairs": {**PAIR_FAULTS, 25: LIST_FAULTS}}
 # What is told apart among accepted cases of a call, and in which ways.
 WAYS = {"trail": ("first heading rounded", ROUNDINGS),
-        "remove": ("segments carried", CARRIED),
-        "quality": ("payload read", READINGS),
-        "set_quality": ("payload rewritten", REWRITINGS),
-        "pairs": ("list accepted", LISTS)}
+        "remove": ("segments in a removal", quality.CARRIED + pores_ways.REMOVALS),
+        "quality": ("payload read", quality.READINGS),
+        "set_quality": ("payload rewritten", quality.REWRITINGS),
+        "pairs": ("list accepted", LISTS),
+        "pores": ("pores read", pores_ways.READINGS),
+        "set_pores": ("pores rewritten", pores_ways.REWRITINGS)}
+# An order behind which pores were read that it left in its view.
+MOVED_UP = "remove, pores moved up"
 # What is told apart among names of views: in accepted cases, in accepted orders on the
 # record that an order before left, and in cases that 13 refuses.
 FOLLOWING = ("after an order on this view", "after one on the same finger",
@@ -57,12 +71,12 @@ def following(name, before):
 
 
 class Met:
-    """How often each thing was met in the cases so far. The record that the last
-    accepted order left, and the name of the view that it changed, are kept."""
+    """How often each thing was met in the cases so far. The last accepted order is
+    kept."""
 
     def __init__(self):
         self.numbers, self.ways, self.names = Counter(), Counter(), Counter()
-        self.left, self.changed = None, None
+        self.behind, self.order = Counter(), None
 
     def add(self, case):
         """Counts a case."""
@@ -71,8 +85,21 @@ class Met:
         self.ways.update((case.call, way) for way in expected.ways)
         if case.call in NAMING:
             self.names.update((case.call, kind) for kind in self.kinds_of_name(case))
+        if case.call == "pores" and expected.number == 0:
+            self.behind.update(self.orders_behind(case))
         if case.call in ORDERS and expected.number == 0:
-            self.left, self.changed = expected.written, case.numbers[:2]
+            self.order = case
+
+    def is_left(self, record):
+        """Whether a record is what the last accepted order left."""
+        return self.order is not None and record == self.order.expected.written
+
+    def orders_behind(self, case):
+        """Behind which order pores were read that it left in its view, if any."""
+        if self.is_left(case.slices[0]) and case.numbers[:2] == self.order.numbers[:2]:
+            yield self.order.call
+            if "pores moved up" in self.order.expected.ways:
+                yield MOVED_UP
 
     def kinds_of_name(self, case):
         """What the name in a case is like, where it was accepted or refused with 13."""
@@ -81,13 +108,20 @@ class Met:
             yield from wrong_kinds(record, *name)
         if case.expected.number == 0:
             yield from right_kinds(record, *name)
-            if case.call in ORDERS and case.slices[0] == self.left:
-                yield following(name, self.changed)
+            if case.call in ORDERS and self.is_left(case.slices[0]):
+                yield following(name, self.order.numbers[:2])
 
 
 def faults_of(call, number):
     """The faults that are told apart where a call gives a number."""
     return FAULTS_OF.get(call, {}).get(number) or FAULTS.get(number, ("",))
+
+
+def orders_to_read_behind(calls):
+    """The orders among the calls, and the removal that moves pores up, where pores are
+    read too."""
+    found = [call for call in calls if call in ORDERS] if "pores" in calls else []
+    return found + ([MOVED_UP] if "remove" in found else [])
 
 
 def never_met(met, calls):
@@ -103,7 +137,9 @@ def never_met(met, calls):
         missing += ["%s, %s: %s" % (call, what, kind)
                     for what, known, naming in NAMES if call in naming
                     for kind in known if met.names[call, kind] == 0]
-    return missing
+    return missing + ["pores, read behind: %s" % order
+                      for order in orders_to_read_behind(calls)
+                      if met.behind[order] == 0]
 
 
 def number_table(met, calls):
@@ -122,7 +158,8 @@ def fault_table(met, calls):
     """How often each call on a record met each fault, as text."""
     calls = [call for call in calls if OF_A_RECORD <= MUST_MEET[call]]
     lines = ["%-28s" % "fault" + "".join("%12s" % call for call in calls)]
-    for number, faults in list(FAULTS.items()) + [(24, QUALITY_FAULTS)]:
+    for number, faults in (*FAULTS.items(), (16, OTHER_TYPE_FAULTS),
+                           (24, QUALITY_FAULTS), (26, sum(PORE_FAULTS, ()))):
         for fault in faults:
             lines.append("%2d %-25s" % (number, fault) + "".join(
                 "%12s" % (met.numbers[call, number, fault] or ".") for call in calls))
@@ -152,6 +189,15 @@ def way_tables(met, calls):
     return "\n".join(lines)
 
 
+def behind_table(met, calls):
+    """How often pores were read behind each order, as text."""
+    found = orders_to_read_behind(calls)
+    if not found:
+        return ""
+    return "\n".join(["%-28s%12s" % ("read behind", "pores")] + [
+        "   %-25s%12s" % (order, met.behind[order] or ".") for order in found])
+
+
 def name_tables(met, calls):
     """How often each call met each kind of name, as text."""
     lines = []
@@ -168,5 +214,5 @@ def name_tables(met, calls):
 def all_tables(met, calls):
     """The tables that have something to tell, one after another."""
     tables = [number_table(met, calls), fault_table(met, calls), list_table(met, calls),
-              way_tables(met, calls), name_tables(met, calls)]
+              way_tables(met, calls), behind_table(met, calls), name_tables(met, calls)]
     return "\n".join(table for table in tables if table)

@@ -7,10 +7,12 @@ listing, then of a refused record the refusal's place, else the sheet's size and
 first trails and segments of each view, which finger position and view number name:
 the fingers rise, and of each the views count up while there is one. Behind the line
 of a segment whose local quality can be read stand its values, where 256 bytes hold
-them. Here the same text comes from this program's own judge, sheet, trail, segment
-and quality code, and vectors_records.py, vectors_names.py and vectors_quality.py make
-records from plain values, so that neither rests on the library. Without an argument
-files and text are compared; with --write they are written and then compared.
+them, and behind that of one whose pores can be read its numbers, where 1,024 bytes do.
+Here the same text comes from this program's own judge, sheet, trail, segment, quality
+and pores code, and vectors_records.py, vectors_names.py, vectors_quality.py and
+vectors_pores.py make records from plain values, so that neither rests on the library.
+Without an argument files and text are compared; with --write they are written and then
+compared.
 """
 
 import argparse
@@ -22,8 +24,10 @@ from answers import lent, outcome
 from judge import judge
 from model import FAULTS, LARGEST_RECORD, Refusal
 from names import POSITIONS, find_view
+from pores import numbers_of
 from trail import trail
 from vectors_names import name_samples
+from vectors_pores import pores_samples
 from vectors_quality import quality_samples
 from vectors_records import (FINGERS, heading_samples, limit_samples,
                              refused_samples)
@@ -32,6 +36,7 @@ FOLDER = Path(__file__).resolve().parents[2] / "crates" / "vectors"
 MOST_READ = LARGEST_RECORD + 1
 SHEET_ROOM = 65536
 QUALITY_ROOM = 256
+PORES_ROOM = 1024
 MOST_SHOWN = 8
 
 # The samples that are not made here; only their text is worked out.
@@ -44,7 +49,7 @@ FOUND = ("a", "p3", "p5", "p6", "p7", "p8-b3", "p8-b4", "p9", "p10", "p11",
 def new_samples():
     """All samples made here, by name."""
     return {**limit_samples(), **heading_samples(), **quality_samples(),
-            **name_samples(), **refused_samples()}
+            **pores_samples(), **name_samples(), **refused_samples()}
 
 
 def view_text(view):
@@ -66,7 +71,8 @@ def sheet_text(data):
 
 
 def segment_rows(data, finger, number, segment):
-    """A segment's size, and the values of its local quality if the room holds them."""
+    """A segment's size, and the values of its local quality or the numbers of its pores
+    if the room holds them."""
     named = [finger, number, segment]
     found = outcome("segment", named, [data])
     rows = ["segment %d %d %d: %d bytes" % (*named, found.length)]
@@ -74,6 +80,10 @@ def segment_rows(data, finger, number, segment):
     if read.number == 0:
         values = "".join(" %d" % value for value in read.written)
         rows.append("quality %d %d %d:%s" % (*named, values))
+    read = lent(outcome("pores", named, [data]), PORES_ROOM)
+    if read.number == 0:
+        numbers = "".join(" %d" % number for number in numbers_of(read.written))
+        rows.append("pores %d %d %d:%s" % (*named, numbers))
     return rows
 
 

@@ -74,10 +74,10 @@ module _ {A : Type 0} (w : Block A) (e n : ℕ) where
   unfoldable pub sizedDec : Bits → Read Bool A
   sizedDec s = pick (leb (8 * n) (length s)) (inside (drop (8 * n) s) (w .dec (take (8 * n) s))) (refused e (length s))
 
--- a codec, then a block to the end
-module _ {A B : Type 0} (c : Codec Bool A) (w : Block B) where
+-- a codec, then a block to the end that may look at the codec's value
+module _ {A B : Type 0} (c : Codec Bool A) (w : A → Block B) where
   unfoldable pub aheadDec : Bits → Read Bool (A × B)
-  aheadDec s = next (c .dec s) (λ a r. next (w .dec r) (λ b q. got (a, b) q))
+  aheadDec s = next (c .dec s) (λ a r. next (w a .dec r) (λ b q. got (a, b) q))
 
 -- only the values that pass a test; e is the refusal of the others
 module _ {A : Type 0} (w : Block A) (e : ℕ) (t : A → Bool) where

@@ -30,7 +30,7 @@ few-lt n t = let h = ltb-yes {a = n} t in omega arith
 
 -- ---- zeros
 
-zeros-there : (e n : ℕ) → zerosDec e (zeros n) ≡ got tt []
+pub zeros-there : (e n : ℕ) → zerosDec e (zeros n) ≡ got tt []
 zeros-there e zero = refl
 zeros-there e (suc n) = zeros-there e n
 

@@ -21,6 +21,11 @@ abbrev pub next : {S A B : Type 0} → Read S A → (A → List S → Read S B) 
 next (got a r) f = f a r
 next (refused e l) f = refused e l
 
+-- the value alone, where what is left and why it is refused do not matter
+abbrev pub valueOf : {S A : Type 0} → Read S A → Option A
+valueOf (got a r) = some a
+valueOf (refused e l) = none
+
 pub record Codec (S A : Type 0) : Type 1 where
   pub Fits : A → Type 0
   pub enc : A → List S

@@ -1,5 +1,5 @@
 -- The ways of Codec, each with its two laws, made into codecs. For a reader: the line of each codec (`field`, `then`, `times`, `along`,
--- `via`, `only`, `fixed`, `ranged`, `counted`) says which values fit and what is written; `encAll`, `encAlong`, `TimesFits`,
+-- `via`, `only`, `fixed`, `ranged`, `counted`) says which values fit and what is written; `encEach`, `encAll`, `encAlong`, `TimesFits`,
 -- `AlongFits` and `Ranged` are words of these lines. All else are laws, and `there` and `back` cite them.
 use mathlib.Core.Path.{_≡_, refl, sym, ap, ap₂, _∙_}
 use Prim.Native.Nat.{ℕ, zero, suc, _^_, _<_}
@@ -86,10 +86,14 @@ module _ {S A B : Type 0} (c : Codec S A) (d : A → Codec S B) where
 
 -- ---- times
 
+-- what f writes of each, one behind the other
+abbrev pub encEach : {S A : Type 0} → (A → List S) → List A → List S
+encEach f [] = []
+encEach f (x ∷ xs) = f x ++ encEach f xs
+
 module _ {S A : Type 0} (c : Codec S A) where
   abbrev pub encAll : List A → List S
-  encAll [] = []
-  encAll (x ∷ xs) = c .enc x ++ encAll xs
+  encAll xs = encEach (c .enc) xs
 
   abbrev pub TimesFits : ℕ → List A → Type 0
   TimesFits n xs = (length xs ≡ n) × All (c .Fits) xs

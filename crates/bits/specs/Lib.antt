@@ -14,3 +14,4 @@ pub mod Bytes
 pub mod BytesLaws
 pub mod Reads
 pub mod OfBlock
+pub mod BlockBytes

@@ -31,6 +31,11 @@ all-at P d [] p l h = absurd (omega arith)
 all-at P d (x ∷ xs) zero l h = h .0
 all-at P d (x ∷ xs) (suc p) l h = all-at P d xs p (omega arith) (h .1)
 
+-- and what holds at each place holds of all
+pub at-all : {A : Type 0} (P : A → Type 0) (d : A) (xs : List A) → ((p : ℕ) → p < length xs → P (getD xs p d)) → All P xs
+at-all P d [] f = tt
+at-all P d (x ∷ xs) f = (f 0 (omega arith), at-all P d xs (λ p l. f (suc p) (omega arith)))
+
 pub all-set : {A : Type 0} (P : A → Type 0) (xs : List A) (p : ℕ) (y : A) → P y → All P xs → All P (set xs p y)
 all-set P [] p y h a = tt
 all-set P (x ∷ xs) zero y h a = (h, a .1)
@@ -48,6 +53,15 @@ pub map-at : {A B : Type 0} (f : A → B) (l : List A) (n : ℕ) (d : A) (e : B)
 map-at f [] n d e h = absurd (omega arith)
 map-at f (x ∷ xs) zero d e h = refl
 map-at f (x ∷ xs) (suc n) d e h = map-at f xs n d e (omega arith)
+
+-- changed element by element
+pub all-to : {A : Type 0} (P Q : A → Type 0) (xs : List A) → ((x : A) → P x → Q x) → All P xs → All Q xs
+all-to P Q [] f h = tt
+all-to P Q (x ∷ xs) f h = (f x (h .0), all-to P Q xs f (h .1))
+
+pub all-both : {A : Type 0} (P Q R : A → Type 0) (xs : List A) → ((x : A) → P x → Q x → R x) → All P xs → All Q xs → All R xs
+all-both P Q R [] f h k = tt
+all-both P Q R (x ∷ xs) f h k = (f x (h .0) (k .0), all-both P Q R xs f (h .1) (k .1))
 
 -- ---- Along
 

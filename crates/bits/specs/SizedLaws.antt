@@ -17,37 +17,38 @@ use Rattle.bits.specs.Block.{Block, inside, sizedDec, aheadDec, passDec,
 
 -- ---- ahead
 
-module _ {A B : Type 0} (c : Codec Bool A) (whole : (a : A) → length (c .enc a) % 8 ≡ 0) (w : Block B) where
-  pub ahead-there : (p : A × B) → c .Fits (p .0) × w .Fits (p .1) → aheadDec c w (c .enc (p .0) ++ w .enc (p .1)) ≡ got p []
+module _ {A B : Type 0} (c : Codec Bool A) (whole : (a : A) → length (c .enc a) % 8 ≡ 0) (w : A → Block B) where
+  pub ahead-there : (p : A × B) → c .Fits (p .0) × w (p .0) .Fits (p .1) → aheadDec c w (c .enc (p .0) ++ w (p .0) .enc (p .1)) ≡ got p []
   unfolding aheadDec
-  ahead-there p h = rw (c .there (p .0) (w .enc (p .1)) (h .0), w .there (p .1) (h .1))
+  ahead-there p h = rw (c .there (p .0) (w (p .0) .enc (p .1)) (h .0), w (p .0) .there (p .1) (h .1))
 
-  pub ahead-back : (s : Bits) (p : A × B) → length s % 8 ≡ 0 → aheadDec c w s ≡ got p [] → (c .Fits (p .0) × w .Fits (p .1)) × (s ≡ c .enc (p .0) ++ w .enc (p .1))
+  pub ahead-back : (s : Bits) (p : A × B) → length s % 8 ≡ 0 → aheadDec c w s ≡ got p []
+      → (c .Fits (p .0) × w (p .0) .Fits (p .1)) × (s ≡ c .enc (p .0) ++ w (p .0) .enc (p .1))
   unfolding aheadDec
   ahead-back s p l h =
       next-got (c .dec s) _ h λ a r e h1.
-      next-got (w .dec r) _ h1 λ b q e2 h2.
+      next-got (w a .dec r) _ h1 λ b q e2 h2.
       let u : (a, b) ≡ p = cc in
       let v : q ≡ [] = cc in
       let (f, g) = c .back s a r e in
       let z : length (c .enc a) + length r ≡ length s = sym (ap length g ∙ simp length-append) in
-      let (f2, g2) = w .back r b (omega (arith, whole a)) (e2 ∙ ap (got b) v) in
+      let (f2, g2) = w a .back r b (omega (arith, whole a)) (e2 ∙ ap (got b) v) in
       rw (← u) ((f, f2), g ∙ ap (λ (x : Bits). c .enc a ++ x) g2)
 
   pub ahead-all : (s : Bits) (p : A × B) (r : Bits) → aheadDec c w s ≡ got p r → r ≡ []
   unfolding aheadDec
   ahead-all s p r h =
       next-got (c .dec s) _ h λ a q e h1.
-      next-got (w .dec q) _ h1 λ b v e2 h2.
-      let u : v ≡ r = cc in sym u ∙ w .all q b v e2
+      next-got (w a .dec q) _ h1 λ b v e2 h2.
+      let u : v ≡ r = cc in sym u ∙ w a .all q b v e2
 
   abbrev pub ahead : Block (A × B)
   ahead =
       record {
-        Fits = λ p. c .Fits (p .0) × w .Fits (p .1);
-        enc = λ p. c .enc (p .0) ++ w .enc (p .1);
+        Fits = λ p. c .Fits (p .0) × w (p .0) .Fits (p .1);
+        enc = λ p. c .enc (p .0) ++ w (p .0) .enc (p .1);
         dec = aheadDec c w;
-        bytes = λ p. simp length-append (omega (arith, whole (p .0), w .bytes (p .1)));
+        bytes = λ p. simp length-append (omega (arith, whole (p .0), w (p .0) .bytes (p .1)));
         there = ahead-there;
         back = ahead-back;
         all = ahead-all;

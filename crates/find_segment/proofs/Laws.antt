@@ -19,19 +19,21 @@ use Rattle.format.specs.Places.{noViewThere, noSegmentThere, viewAt, segmentAt,
 use Rattle.format.specs.Call.{inSegment, onSegment}
 use Rattle.format.specs.declared.Scale.{Scale}
 use Rattle.format.specs.declared.ViewName.{ViewName}
-use Rattle.format.proofs.Laws.Record.{read-is, read-back}
+use Rattle.format.proofs.Laws.Record.{narrow, read-is, read-back}
 use Rattle.format.proofs.Laws.Call.{no-segment}
 use Rattle.find_parts.specs.Stored.{headBytes, blocksOut}
-use Rattle.find_parts.specs.Finds.{SegmentsLeft, SegmentsPassed}
+use Rattle.find_parts.specs.Finds.{LinesThere, LinesPassed, SegmentsLeft, SegmentsPassed}
 use Rattle.find_parts.specs.declared.view.Blocks.{Blocks}
 use Rattle.find_parts.specs.declared.Passed.{Passed}
 use Rattle.find_parts.proofs.Laws.Apart.{ahead, behind, ahead-long, apart}
-use Rattle.find_parts.proofs.Laws.Blocks.{cut, cut-long, block-bits}
+use Rattle.find_parts.proofs.Laws.Blocks.{cut, cut-long, block-bits, lines-there, few-lines}
+use Rattle.find_parts.proofs.Laws.Lines.{lines-counted}
 use Rattle.find_parts.proofs.Laws.Segments.{two-there, SegmentAt, segment-next, segments-none, its-type, its-size, its-payload}
 use Rattle.find_parts.proofs.Laws.Record.{record-apart}
 use Rattle.find_parts.proofs.Laws.Written.{written}
 use Rattle.find_view.specs.Found.{Stands, Refuses}
-use Rattle.find_segment.specs.Found.{SegmentStands, SegmentRefuses}
+use Rattle.find_view.proofs.Laws.{its-lines}
+use Rattle.find_segment.specs.Found.{SegmentStands, SpotThere, LinesOf, SegmentRefuses}
 use Rattle.find_segment.specs.declared.Spot.{Spot}
 
 -- ---- refused
@@ -154,6 +156,8 @@ module _ {s : List ℕ} {view : ViewName} {c : Scale} {x : Blocks} (h : Stands s
           → kind ≡ getD s (first + p .next) 0 * 256 + getD s (first + p .next + 1) 0
           → SegmentStands s view place (record {
             image = record { width = width; height = height };
+            widths = c .widths;
+            skeleton = x .skeleton;
             extended = x .extended;
             kind = kind;
             payload = record { from = first + p .next + 4; to = first + p .next + n };
@@ -171,6 +175,8 @@ module _ {s : List ℕ} {view : ViewName} {c : Scale} {x : Blocks} (h : Stands s
               there = h .means .there;
               below = is-there .0;
               image = ap₂ (λ (a b : ℕ). record { width = a; height = b }) (ew ∙ its-width) (eh ∙ its-height);
+              widths = ap (λ (y : Scale). y .widths) (h .scale);
+              lines = its-lines h;
               kind = ek ∙ kind-is ∙ ap (λ (y : Segment). y .kind) g;
               before = extended-bits;
               extended = h .blocks .segments;
@@ -195,3 +201,20 @@ module _ {s : List ℕ} {name : ViewName} {place : ℕ} {x : Spot} (h : SegmentS
       let r : Record = h .value in
       let (_, f) = along-at tellSeen (λ s v. view (r .head .scale .widths) s .Fits v) noViewThere [] (r .views) (h .i) (h .at .there) (read-is s r [] (h .reads) .0 .fits .views) in
       rw (h .at .image) (f .0 .0 .0 .width, f .0 .0 .0 .height)
+
+-- ---- the lines of its view
+
+module _ {s : List ℕ} {x : Spot} where
+  -- they can be counted
+  pub view-lines : SpotThere s x → LinesThere (x .widths) (cut s (x .skeleton .from) (x .skeleton .to))
+  view-lines t =
+      let h = t .stands in
+      let a = record-apart s (h .reads) in
+      lines-there (rw (h .at .widths) (narrow (a .fits))) (a .short) (h .at .lines)
+
+  pub lines-are : {p : Passed} → LinesPassed (x .widths) (cut s (x .skeleton .from) (x .skeleton .to)) 1024 p → LinesOf s x (p .count)
+  lines-are P = record { is = λ r i place a. lines-counted (a .lines) P }
+
+  -- there are at most 1,024
+  pub few-counted : {n : ℕ} → SpotThere s x → LinesOf s x n → n ≤ 1024
+  few-counted t n = let h = t .stands in omega (arith, n .is (h .value) (h .i) (t .place) (h .at), few-lines (x .widths) (h .at .lines))

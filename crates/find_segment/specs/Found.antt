@@ -5,9 +5,10 @@ use mathlib.Core.List.{List, []}
 use lib.ListN.{length, take, drop}
 use Rattle.bits.specs.Codec.{got}
 use Rattle.outcome.specs.Outcome.{Outcome, refused}
+use Rattle.format.specs.Line.{skeleton}
 use Rattle.format.specs.Segments.{segments}
 use Rattle.format.specs.Record.{Record, read}
-use Rattle.format.specs.Places.{viewAt, imageOf, segmentAt, bitsBefore, bitsAhead, firstBit}
+use Rattle.format.specs.Places.{viewAt, imageOf, count, segmentAt, bitsBefore, bitsAhead, firstBit}
 use Rattle.format.specs.Call.{onSegment}
 use Rattle.format.specs.Named.{Means}
 use Rattle.format.specs.declared.ViewName.{ViewName}
@@ -22,6 +23,8 @@ pub record SpotOf (r : Record) (s : List ℕ) (i place : ℕ) (x : Spot) : Type 
   pub there : i < length (r .views)
   pub below : place < length (viewAt r i .segments)
   pub image : x .image ≡ imageOf (viewAt r i)
+  pub widths : x .widths ≡ r .head .scale .widths
+  pub lines : BlockAt (skeleton (x .widths)) s (x .skeleton .from) (x .skeleton .to) (viewAt r i .lines)
   pub kind : x .kind ≡ segmentAt (viewAt r i) place .kind
   pub before : 8 * x .extended .from ≡ bitsBefore r i + bitsAhead (r .head .scale .widths) (viewAt r i)
   pub extended : BlockAt segments s (x .extended .from) (x .extended .to) (viewAt r i .segments)
@@ -43,6 +46,10 @@ pub record SpotThere (s : List ℕ) (x : Spot) : Type 0 where
   pub view : ViewName
   pub place : ℕ
   pub stands : SegmentStands s view place x
+
+-- n is how many lines its view has, whatever view stands there
+pub record LinesOf (s : List ℕ) (x : Spot) (n : ℕ) : Type 0 where
+  pub is : (r : Record) (i place : ℕ) → SpotOf r s i place x → n ≡ count (viewAt r i)
 
 -- every call on the segment is refused with the number e at the place p, whatever it asks
 pub record SegmentRefuses (s : List ℕ) (view : ViewName) (place e p : ℕ) : Type 0 where

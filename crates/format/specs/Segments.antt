@@ -36,6 +36,13 @@ localQuality = 0x0003
 abbrev pub isQuality : Segment → Bool
 isQuality g = eqb (g .kind) localQuality
 
+-- and one of sweat pores (clause 7.5.5)
+abbrev pub sweatPores : ℕ
+sweatPores = 0x0004
+
+abbrev pub isPores : Segment → Bool
+isPores g = eqb (g .kind) sweatPores
+
 -- ---- the block
 
 pub segment-length : (g : Segment) → length (segment .enc g) ≡ 32 + 8 * length (g .payload)

@@ -64,6 +64,8 @@ pub struct SegmentType;
 
 impl SegmentType {
     pub const LOCAL_QUALITY: usize = 3;
+
+    pub const PORES: usize = 4;
 }
 
 // Where a line starts or ends. Kinds: 0 imaginary end, 1 ridge end, 2 bifurcation, 3 imaginary continuation.

@@ -1,12 +1,13 @@
 // The calls that a host written in C links. Each is a call of the library under its C name; host/fsk.h explains them.
 ghost use mathlib.Core.Path.{_≡_};
 ghost use mathlib.Core.Bool.{true, false};
-ghost use Rattle.outcome.specs.Outcome.{Answers, AnswersInBytes};
+ghost use Rattle.outcome.specs.Outcome.{Answers, AnswersInBytes, AnswersInFours};
 ghost use Rattle.format.specs.Named.{named};
 ghost use Rattle.sheet.specs.Sheet.{reading, writing};
 ghost use Rattle.trail.specs.Trail.{trailing};
 ghost use Rattle.segment.specs.Segment.{segmentAnswer};
 ghost use Rattle.quality.specs.Quality.{quality, setQuality};
+ghost use Rattle.pores.specs.Calls.{pores, setPores};
 ghost use Rattle.orders.specs.Order.{order};
 ghost use Rattle.order_holds.specs.Held.{held};
 ghost use Rattle.orders.specs.Called.{removalOrder, pairOrder};
@@ -19,6 +20,8 @@ use ordering::pairs;
 use ordering::part;
 use ordering::remove;
 use outcome::Answer;
+use pores_reading::pores;
+use pores_setting::set_pores;
 use quality_reading::quality;
 use quality_setting::set_quality;
 use reading::read;
@@ -85,6 +88,39 @@ pub extern "C" fn fsk_set_quality(
     ensures { λ r. ⌜ Answers (setQuality (named finger number) place (now (values .entry)) (now (bytes .entry))) (now (out .entry)) (now (out .exit)) r ⌝ }
 {
     set_quality(
+        bytes,
+        ViewName { finger, number },
+        place as usize,
+        values,
+        out,
+    )
+}
+
+#[no_mangle]
+pub extern "C" fn fsk_pores(
+    bytes: &[u8],
+    finger: u32,
+    number: u32,
+    place: u32,
+    values: &mut [u8],
+) -> Answer
+    ensures { λ r. ⌜ AnswersInFours (pores (named finger number) place (now (bytes .entry))) (now (values .entry)) (now (values .exit)) r ⌝ }
+{
+    pores(bytes, ViewName { finger, number }, place as usize, values)
+}
+
+#[no_mangle]
+pub extern "C" fn fsk_set_pores(
+    bytes: &[u8],
+    finger: u32,
+    number: u32,
+    place: u32,
+    values: &[u8],
+    out: &mut [u8],
+) -> Answer
+    ensures { λ r. ⌜ Answers (setPores (named finger number) place (now (values .entry)) (now (bytes .entry))) (now (out .entry)) (now (out .exit)) r ⌝ }
+{
+    set_pores(
         bytes,
         ViewName { finger, number },
         place as usize,

@@ -1,4 +1,4 @@
 -- The laws of the lines that a removal leaves, by topic.
 pub mod Copy
+pub mod Each
 pub mod Lines
-pub mod Put

@@ -6,7 +6,7 @@ use lib.ListN.{length, drop}
 use Rattle.bits.specs.Lists.{All}
 use Rattle.bits.specs.Bits.{Bits}
 use Rattle.bits.specs.Bytes.{bitsOf, inBytes}
-use Rattle.bits.specs.CodecLaws.{encAll}
+use Rattle.bits.specs.CodecLaws.{encEach}
 use Rattle.put_bytes.specs.Laid.{Laid}
 use Rattle.format.specs.Line.{Line, FitsLine, line, skeleton}
 use Rattle.format.specs.Record.{Narrow}
@@ -15,19 +15,22 @@ use Rattle.orders.specs.Listed.{removalLines}
 use Rattle.order_removal.specs.Rank.{Rising}
 use Rattle.order_removal.specs.Kept.{kept}
 
--- of the lines from l on, those that the removal of rs leaves
-abbrev pub keptFrom : List ℕ → ℕ → List Line → List Line
+-- of the values of the lines from l on, those whose line the removal of rs leaves
+abbrev pub keptFrom : {A : Type 0} → List ℕ → ℕ → List A → List A
 keptFrom rs l xs = kept (λ i x. x) rs l xs
 
--- their block
+-- the block of such lines
 abbrev pub keptBlock : Widths → List ℕ → List Line → List ℕ
 keptBlock w removal ls = inBytes (skeleton w .enc (keptFrom (removalLines removal) 0 ls))
 
--- lines stand from place p of the block s on, and the bits u follow them
-pub record LinesAt (w : Widths) (s : List ℕ) (p : ℕ) (ls : List Line) (u : Bits) : Type 0 where
-  pub bits : drop p (bitsOf s) ≡ encAll (line w) ls ++ u
-  pub fits : All (FitsLine w) ls
+-- values stand from place p of the block s on, one behind the other, each as enc writes it; the bits u follow them
+pub record EachAt {A : Type 0} (enc : A → Bits) (Fits : A → Type 0) (s : List ℕ) (p : ℕ) (xs : List A) (u : Bits) : Type 0 where
+  pub bits : drop p (bitsOf s) ≡ encEach enc xs ++ u
+  pub fits : All Fits xs
   pub within : p ≤ 8 * length s
+
+abbrev pub LinesAt : Widths → List ℕ → ℕ → List Line → Bits → Type 0
+LinesAt w s p ls u = EachAt (line w .enc) (FitsLine w) s p ls u
 
 pub record LinesToKeep (w : Widths) (s : List ℕ) (count : ℕ) (removal : List ℕ) : Type 0 where
   pub narrow : Narrow w

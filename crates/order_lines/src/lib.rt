@@ -44,7 +44,7 @@ fn copy_bytes(out: &mut [u8], a: usize, block: &[u8], p: usize, count: usize)
 
 // The bits of `block` from place p up to place `end`, put at place `at` of `out`: those that fill up its byte under way, then whole
 // bytes, then the rest. The answer is the place behind them.
-fn copy_bits(out: &mut [u8], at: usize, block: &[u8], p: usize, end: usize) -> usize
+pub fn copy_bits(out: &mut [u8], at: usize, block: &[u8], p: usize, end: usize) -> usize
     requires { ⌜ CopyThere (now block) p end (now out) at ⌝ }
     ensures { λ r. ⌜ Copied (now (block .entry)) p end (now (out .entry)) at (now (out .exit)) r ⌝ }
 {

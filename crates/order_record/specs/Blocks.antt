@@ -1,10 +1,12 @@
--- The blocks that an order leaves, and what the code that measures and puts them asks and answers. The order is known by a removal's
+-- The three blocks that an order leaves, and what the code that measures and puts them asks and answers. The order is known by a removal's
 -- bytes and the bytes of words about pairs.
 use mathlib.Core.Path.{_≡_}
+use mathlib.Core.Logic.{_≢_}
 use Prim.Native.Nat.{ℕ, _+_, _≤_, _<_}
 use mathlib.Core.Option.{Option, some, Option·map}
 use mathlib.Core.List.{List, []}
 use lib.ListN.{length}
+use lib.Dec.{T}
 use Rattle.bits.specs.Lists.{All, Along}
 use Rattle.bits.specs.Bytes.{Byte, bitsOf, inBytes}
 use Rattle.bits.specs.Codec.{got}
@@ -12,14 +14,17 @@ use Rattle.put_bytes.specs.Laid.{Laid}
 use Rattle.format.specs.Line.{Line, skeleton}
 use Rattle.format.specs.Differences.{Falls}
 use Rattle.format.specs.Index.{Index, up, indexBlock}
+use Rattle.format.specs.Segments.{Segment, segments}
 use Rattle.format.specs.Record.{Narrow}
 use Rattle.format.specs.declared.Widths.{Widths}
+use Rattle.pores.specs.Keep.{allPoresRight}
 use Rattle.orders.specs.Least.{leastWidth, indexOf}
 use Rattle.order_removal.specs.Rank.{Rising}
 use Rattle.find_parts.specs.Stored.{sized}
 use Rattle.order_lists.specs.Index.{left}
 use Rattle.order_lists.specs.declared.index.Size.{Size}
 use Rattle.order_lines.specs.Lines.{keptBlock}
+use Rattle.order_extended.specs.Extended.{keptExtended}
 
 -- ---- the skeleton block of a view with `lines` lines, whose old bytes are s
 
@@ -81,3 +86,27 @@ pub record IndexRoom (s : List ℕ) (lines : ℕ) (words removal : List ℕ) (wi
 
 pub record IndexLaid (s : List ℕ) (lines : ℕ) (words removal before after : List ℕ) (r : ℕ) : Type 0 where
   pub is : (o : Option Index) → indexBlock lines .dec (bitsOf s) ≡ got o [] → Laid (sized (newIndexBlock removal words o)) before after r
+
+-- ---- the extended block of a view with `lines` lines, whose old bytes are s
+
+-- where lines are removed, its pores are right
+pub record OldExtended (s : List ℕ) (lines : ℕ) (removal : List ℕ) : Type 0 where
+  pub bytes : All Byte s
+  pub short : length s ≤ 65535
+  pub rising : Rising removal
+  pub few : lines ≤ 1024
+  pub value : List Segment
+  pub reads : segments .dec (bitsOf s) ≡ got value []
+  pub right : length removal ≢ 0 → T (allPoresRight lines value)
+
+pub record ExtendedMeasured (s : List ℕ) (lines : ℕ) (removal : List ℕ) (r : ℕ) : Type 0 where
+  pub is : (gs : List Segment) → segments .dec (bitsOf s) ≡ got gs [] → r ≡ length (keptExtended lines removal gs)
+
+pub record ExtendedRoom (s : List ℕ) (lines : ℕ) (removal : List ℕ) (n : ℕ) (out : List ℕ) : Type 0 where
+  pub there : OldExtended s lines removal
+  pub size : n ≡ length (keptExtended lines removal (there .value))
+  pub small : n < 65536
+  pub room : 2 + n ≤ length out
+
+pub record ExtendedLaid (s : List ℕ) (lines : ℕ) (removal before after : List ℕ) (r : ℕ) : Type 0 where
+  pub is : (gs : List Segment) → segments .dec (bitsOf s) ≡ got gs [] → Laid (sized (keptExtended lines removal gs)) before after r

@@ -1,18 +1,20 @@
 // How long the blocks that an order changes become, and the record.
-ghost use Rattle.order_record.specs.Blocks.{OldSkeleton, SkeletonMeasured, OldIndex, IndexMeasured};
+ghost use Rattle.order_record.specs.Blocks.{OldSkeleton, SkeletonMeasured, OldIndex, IndexMeasured, OldExtended, ExtendedMeasured};
 ghost use Rattle.order_record.specs.Rebuilt.{Placed, Measured};
 use find_parts::site::Site;
 use format::Widths;
+use order_extended::extended_size;
 use order_lines::lines_size;
 use order_lists::index::Size;
 use order_lists::index::index_size;
 
-// How many bytes the new skeleton block has, how many bits the numbers of the new index have and how many bytes its block, and how
-// many bytes the new record has.
+// How many bytes the new skeleton block has, how many bits the numbers of the new index have and how many bytes its block, how many
+// bytes the new extended block has, and the new record.
 pub struct Sizes {
     pub skeleton: usize,
     pub width: usize,
     pub index: usize,
+    pub extended: usize,
     pub bytes: usize,
 }
 
@@ -38,6 +40,17 @@ fn lists_size(block: &[u8], lines: usize, words: &[u8], removal: &[u8]) -> Size
     index_size(block, lines, words, removal)
 }
 
+// How many bytes the new extended block has. The old one is `block`, of a view with `lines` lines; a pair order changes none.
+fn segments_size(block: &[u8], lines: usize, removal: &[u8]) -> usize
+    requires { ⌜ OldExtended (now block) lines (now removal) ⌝ }
+    ensures { λ r. ⌜ ExtendedMeasured (now (block .entry)) lines (now (removal .entry)) r ⌝ }
+{
+    if removal.len() == 0 {
+        return block.len();
+    }
+    extended_size(block, lines, removal)
+}
+
 // The sizes of the new record. The old one is `old`, and `site` says where the view stands that the order names.
 pub fn measure(old: &[u8], site: Site, words: &[u8], removal: &[u8]) -> Sizes
     requires { ⌜ Placed (now old) site (now words) (now removal) ⌝ }
@@ -49,10 +62,14 @@ pub fn measure(old: &[u8], site: Site, words: &[u8], removal: &[u8]) -> Sizes
     let index = site.index.from;
     let end = site.index.to;
     let lists = lists_size(&old[index..end], site.lines, words, removal);
+    let first = site.extended.from;
+    let last = site.extended.to;
+    let extended = segments_size(&old[first..last], site.lines, removal);
     Sizes {
         skeleton,
         width: lists.width,
         index: lists.bytes,
-        bytes: from + skeleton + 2 + lists.bytes + (old.len() - end),
+        extended,
+        bytes: from + skeleton + 2 + lists.bytes + 2 + extended + (old.len() - last),
     }
 }

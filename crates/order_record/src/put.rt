@@ -1,9 +1,10 @@
 // The new record, written to the lent buffer: each block is put together in the part that starts where the block before ended.
-ghost use Rattle.order_record.specs.Blocks.{SkeletonRoom, SkeletonLaid, IndexRoom, IndexLaid};
+ghost use Rattle.order_record.specs.Blocks.{SkeletonRoom, SkeletonLaid, IndexRoom, IndexLaid, ExtendedRoom, ExtendedLaid};
 ghost use Rattle.order_record.specs.Rebuilt.{RebuildRoom, Rebuilt};
 use crate::measure::Sizes;
 use find_parts::site::Site;
 use format::Widths;
+use order_extended::extended_put;
 use order_lines::lines_put;
 use order_lists::index::index_put;
 use put_bytes::copy;
@@ -51,6 +52,20 @@ fn lists_put(
     at + index_put(&mut out[at..], block, lines, words, removal, width)
 }
 
+// The length `bytes`, and behind it the new extended block. The old one is `block`, of a view with `lines` lines, and a pair order
+// copies it.
+fn segments_put(out: &mut [u8], block: &[u8], lines: usize, removal: &[u8], bytes: usize) -> usize
+    requires { ⌜ ExtendedRoom (now block) lines (now removal) bytes (now out) ⌝ }
+    ensures { λ r. ⌜ ExtendedLaid (now (block .entry)) lines (now (removal .entry)) (now (out .entry)) (now (out .exit)) r ⌝ }
+{
+    let at = put_two(out, bytes);
+    if removal.len() != 0 {
+        at + extended_put(&mut out[at..], block, lines, removal)
+    } else {
+        at + copy(&mut out[at..], block)
+    }
+}
+
 // The new record, whose sizes are `sizes`; the answer is how many bytes it has. The old one is `old`, and `site` says where the view
 // stands that the order names.
 pub fn put(
@@ -87,6 +102,15 @@ pub fn put(
         sizes.width,
         sizes.index,
     );
-    at += copy(&mut out[at..], &old[end..]);
+    let first = site.extended.from;
+    let last = site.extended.to;
+    at += segments_put(
+        &mut out[at..],
+        &old[first..last],
+        lines,
+        removal,
+        sizes.extended,
+    );
+    at += copy(&mut out[at..], &old[last..]);
     at
 }

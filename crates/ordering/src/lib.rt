@@ -13,7 +13,8 @@ use order_carry::carry_out;
 use order_pairs::judge::Judged;
 use order_pairs::judge::judge_list;
 use order_removal::lines_right;
-use order_segments::only_quality;
+use order_segments::all_carried;
+use order_segments::pores_right;
 use order_view::NamedView;
 use order_view::named_view;
 use order_words::one_word;
@@ -23,7 +24,7 @@ use outcome::Refusal;
 use outcome::refuse;
 use outcome::refuse_at;
 
-// Lines removed: the numbers of `removal`, two bytes each, high byte first. 15, 16 are its own.
+// Lines removed: the numbers of `removal`, two bytes each, high byte first. 15, 16, 26 are its own.
 pub fn remove(bytes: &[u8], view: ViewName, count: usize, removal: &[u8], out: &mut [u8]) -> Answer
     ensures { λ r. ⌜ Answers (order (removalOrder view count (now (removal .entry))) (now (bytes .entry))) (now (out .entry)) (now (out .exit)) r ⌝ }
 {
@@ -33,8 +34,13 @@ pub fn remove(bytes: &[u8], view: ViewName, count: usize, removal: &[u8], out: &
             if lines_right(removal, count) {
                 let from = site.extended.from;
                 let to = site.extended.to;
-                if only_quality(&bytes[from..to]) {
-                    carry_out(bytes, site, &bytes[0..0], removal, 0, out)
+                let block = &bytes[from..to];
+                if all_carried(block) {
+                    if pores_right(block, count) {
+                        carry_out(bytes, site, &bytes[0..0], removal, 0, out)
+                    } else {
+                        refuse(Refusal::BAD_PORES)
+                    }
                 } else {
                     refuse(Refusal::EXTENDED)
                 }

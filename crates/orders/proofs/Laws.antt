@@ -6,10 +6,12 @@ pub mod Numbers
 pub mod Accept
 pub mod Refuse
 pub mod Right
+pub mod Pores
 pub mod Keep
 pub mod Story
 pub mod Bytes
 pub mod Sequence
+pub mod PoresFollow
 pub mod Holds
 pub mod AcceptCall
 pub mod Turn

@@ -1,14 +1,16 @@
 -- What an order does to its view. Being neighbours is mutual and is written once, at the higher line.
 use Prim.Native.Nat.{ℕ, min, max}
-use mathlib.Core.Bool.{Bool, true, false}
+use mathlib.Core.Bool.{Bool}
 use mathlib.Core.Option.{Option, none, some, Option·map}
 use mathlib.Core.List.{List, [], _∷_, map}
 use lib.ListN.{getD, set}
 use lib.Dec.{ltb, eqb}
-use Rattle.bits.specs.Choice.{pick}
+use Rattle.bits.specs.Choice.{pick, some?}
 use Rattle.format.specs.Line.{Line}
+use Rattle.format.specs.Segments.{Segment}
 use Rattle.format.specs.View.{View}
 use Rattle.format.specs.Places.{count, lineAt}
+use Rattle.pores.specs.Keep.{keepSegments}
 use Rattle.orders.specs.Survive.{elem, survivors, renumber}
 use Rattle.orders.specs.Least.{indexOf}
 
@@ -28,10 +30,6 @@ pub record Word : Type 0 where
 -- the lists of neighbours, where there is an index
 abbrev pub lists : View → Option (List (List ℕ))
 lists v = Option·map (λ i. i .lists) (v .index)
-
-abbrev pub some? : {A : Type 0} → Option A → Bool
-some? none = false
-some? (some a) = true
 
 abbrev pub indexed? : View → Bool
 indexed? v = some? (v .index)
@@ -70,7 +68,13 @@ newLines (remove rs) v = map (lineAt v) (survivors (count v) rs)
 newLines (join a b) v = v .lines
 newLines (part a b) v = v .lines
 
--- header and segments stay; an index gets its least width
+-- a removal "drops the removed lines' pores and keeps the others"; all else of the segments stays
+abbrev pub newSegments : Act → View → List Segment
+newSegments (remove rs) v = keepSegments (count v) (survivors (count v) rs) (v .segments)
+newSegments (join a b) v = v .segments
+newSegments (part a b) v = v .segments
+
+-- the header stays; an index gets its least width
 unfoldable pub after : Act → View → View
 after a v =
-    record { head = v .head; lines = newLines a v; index = Option·map (λ ls. indexOf (newLists a (count v) ls)) (lists v); segments = v .segments }
+    record { head = v .head; lines = newLines a v; index = Option·map (λ ls. indexOf (newLists a (count v) ls)) (lists v); segments = newSegments a v }

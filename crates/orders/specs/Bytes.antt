@@ -2,9 +2,10 @@
 -- before it, "without gaps"; so view i ends where the next one starts, and "the last view ends where the record ends".
 use Prim.Native.Nat.{ℕ, suc, _+_, _-_, _/_}
 use mathlib.Core.List.{List}
+use lib.ListN.{take}
 use lib.Seq.{slice}
 use Rattle.format.specs.Record.{Record}
-use Rattle.format.specs.Places.{viewAt, bitsBefore, bitsAhead}
+use Rattle.format.specs.Places.{viewAt, bitsBefore, bitsAhead, segmentBits}
 
 -- ---- view i of the record r, in the bytes of r; `slice from to` is what stands from one byte on and before the other
 
@@ -27,3 +28,12 @@ viewHeaderPart r i bytes = slice (viewStart r i) (viewStart r i + 8) bytes
 -- the extended length and the segments, up to the view's end
 abbrev pub extendedPart : Record → ℕ → List ℕ → List ℕ
 extendedPart r i bytes = slice (extendedStart r i) (viewStart r (suc i)) bytes
+
+-- ---- the segment at a place of view i
+
+-- its first byte; behind the last segment, the view's end
+abbrev pub segmentStart : Record → (i place : ℕ) → ℕ
+segmentStart r i place = (bitsBefore r i + bitsAhead (r .head .scale .widths) (viewAt r i) + segmentBits (take place (viewAt r i .segments))) / 8
+
+abbrev pub segmentPart : Record → (i place : ℕ) → List ℕ → List ℕ
+segmentPart r i place bytes = slice (segmentStart r i place) (segmentStart r i (suc place)) bytes

@@ -6,7 +6,7 @@ use mathlib.Core.Bool.{Bool, true, false, _&&_}
 use mathlib.Core.Option.{some}
 use mathlib.Core.List.{List, [], _∷_, map}
 use lib.ListN.{length}
-use lib.Dec.{eqb}
+use lib.Dec.{T, eqb}
 use Rattle.bits.specs.Choice.{pick}
 use Rattle.outcome.specs.Outcome.{Outcome, refused, given, room, numberOf}
 use Rattle.format.specs.Index.{Index}
@@ -14,6 +14,7 @@ use Rattle.format.specs.View.{View}
 use Rattle.format.specs.Places.{count, lineAt}
 use Rattle.format.specs.Named.{sameName}
 use Rattle.format.specs.declared.ViewName.{ViewName}
+use Rattle.pores.specs.Keep.{keepSegments, allPoresRight}
 use Rattle.orders.specs.Survive.{at, upFrom, survivors, RisesFrom}
 use Rattle.orders.specs.Least.{leastWidth}
 use Rattle.orders.specs.Act.{Act, remove, join, part, Word, near, indexed?}
@@ -76,9 +77,8 @@ said (w ∷ ws) x y start = pick (about (w .one) (w .other) x y) (w .joins) (sai
 
 -- v is what the history makes of v₀
 pub record Follows (v₀ v : View) (h : History) : Type 0 where
-  -- header and segments are what they were, and an index stays or stays absent
+  -- the header is what it was, and an index stays or stays absent
   pub head : v .head ≡ v₀ .head
-  pub segments : v .segments ≡ v₀ .segments
   pub indexed : indexed? v ≡ indexed? v₀
   -- a view on which no order was accepted is as it was; any other has its least width
   pub spared : h .accepted ≡ 0 → v ≡ v₀
@@ -88,6 +88,10 @@ pub record Follows (v₀ v : View) (h : History) : Type 0 where
   pub rises : RisesFrom 0 (h .left)
   pub below : (p : ℕ) → p < length (h .left) → at (h .left) p < count v₀
   pub same : (p : ℕ) → p < length (h .left) → lineAt v p ≡ lineAt v₀ (at (h .left) p)
+  -- each has its pores, in every segment of pores, and any other segment is what it was
+  pub segments : v .segments ≡ keepSegments (count v₀) (h .left) (v₀ .segments)
+  -- where a line is gone, these segments said pores of all lines
+  pub right : length (h .left) < count v₀ → T (allPoresRight (count v₀) (v₀ .segments))
   -- two are neighbours as the last accepted order about them says
   pub told : (p q : ℕ) → p < length (h .left) → q < length (h .left)
       → near v p q ≡ said (h .words) (at (h .left) p) (at (h .left) q) (near v₀ (at (h .left) p) (at (h .left) q))

@@ -1,24 +1,25 @@
--- An order on a record: when it is refused (14 to 19; 13 is for the view that it names), the record it leaves, the outcome of the
+-- An order on a record: when it is refused (14 to 19 and 26; 13 is for the view that it names), the record it leaves, the outcome of the
 -- call, and the record that then holds. An order names "the view by finger position and view number", and "the line count it was made
 -- for". What it is about is told by the place of that view.
 use mathlib.Core.Path.{_≡_}
 use Prim.Native.Nat.{ℕ, suc, _≤_}
-use mathlib.Core.Bool.{Bool, true, not, _&&_}
+use mathlib.Core.Bool.{Bool, true, not, _&&_, _||_}
 use mathlib.Core.List.{List, [], _∷_, _++_}
 use lib.ListN.{length, take}
 use lib.Dec.{T, leb, ltb, eqb}
 use Rattle.bits.specs.Choice.{pick}
 use Rattle.bits.specs.Lists.{All, every, empty?}
-use Rattle.outcome.specs.Refusals.{otherCount, badLines, extended, noIndex, alreadySo, tooLong}
+use Rattle.outcome.specs.Refusals.{otherCount, badLines, extended, noIndex, alreadySo, tooLong, badPores}
 use Rattle.outcome.specs.Outcome.{Outcome, refused, given}
 use Rattle.format.specs.Limits.{mostBytes}
-use Rattle.format.specs.Segments.{Segment, isQuality}
+use Rattle.format.specs.Segments.{Segment, isQuality, isPores}
 use Rattle.format.specs.View.{View}
 use Rattle.format.specs.Record.{Record, write, size}
 use Rattle.format.specs.Places.{viewAt, withView, count}
 use Rattle.format.specs.Named.{Means}
 use Rattle.format.specs.Call.{onView}
 use Rattle.format.specs.declared.ViewName.{ViewName}
+use Rattle.pores.specs.Keep.{allPoresRight}
 use Rattle.orders.specs.Act.{Act, remove, join, part, indexed?, near, after}
 
 pub record Order : Type 0 where
@@ -47,17 +48,21 @@ risesOk m n (r ∷ rs) = leb m r && ltb r n && risesOk (suc r) n rs
 abbrev pub linesOk : ℕ → List ℕ → Bool
 linesOk n rs = not (empty? rs) && risesOk 0 n rs
 
--- "refusal 16 is given only where some segment has another type": each segment of the view is one of local quality
-abbrev pub onlyQuality : List Segment → Bool
-onlyQuality gs = every isQuality gs
+-- "refusal 16 is given only where some segment has another type": each segment of the view is one of local quality or of pores
+abbrev pub carried : Segment → Bool
+carried g = isQuality g || isPores g
 
--- "removal 15, 16; pair 17, 15, 18"
+abbrev pub allCarried : List Segment → Bool
+allCarried gs = every carried gs
+
+-- "removal 15, 16; pair 17, 15, 18"; "a removal meeting such a payload gives 26, after 16"
 unfoldable pub tests : Act → View → List (Bool × ℕ)
-tests (remove rs) v = (linesOk (count v) rs, badLines) ∷ (onlyQuality (v .segments), extended) ∷ []
+tests (remove rs) v =
+    (linesOk (count v) rs, badLines) ∷ (allCarried (v .segments), extended) ∷ (allPoresRight (count v) (v .segments), badPores) ∷ []
 tests (join a b) v = (indexed? v, noIndex) ∷ (ltb a (count v) && ltb b (count v), badLines) ∷ (not (near v a b), alreadySo) ∷ []
 tests (part a b) v = (indexed? v, noIndex) ∷ (ltb a (count v) && ltb b (count v), badLines) ∷ (near v a b, alreadySo) ∷ []
 
--- "Orders: 13, 14, then removal 15, 16; pair 17, 15, 18; then 19"; 13 is for the view
+-- "Orders: 13, 14, then removal 15, 16; pair 17, 15, 18; then 19"; 13 is for the view, and 26 comes after 16
 unfoldable pub allTests : Order → ℕ → Record → List (Bool × ℕ)
 allTests o i r =
     (eqb (count (viewAt r i)) (o .count), otherCount) ∷ tests (o .act) (viewAt r i) ++ (leb (size (edited i (o .act) r)) mostBytes, tooLong) ∷ []

@@ -1,17 +1,17 @@
 -- The laws of an outcome: what is given fits the lent buffer, and the statement of a call leaves one answer and one buffer;
 -- and how code that refuses or writes meets that statement.
-use mathlib.Core.Path.{_≡_, refl, sym, ap, ap₂, _∙_}
+use mathlib.Core.Path.{_≡_, refl, sym, ap, _∙_}
 use mathlib.Core.Logic.{_≢_}
 use Prim.Native.Nat.{ℕ, _≤_, _<_}
 use native.Mathlib.Omega.{arith}
 use mathlib.Core.List.{List, _++_}
 use lib.ListN.{length, take, drop, length-append}
-use lib.Seq.{take-append-seam}
+use lib.Seq.{take-at}
 use lib.Dec.{leb, le→leb, leb→le}
 use Rattle.bits.specs.ChoiceLaws.{pick-yes, pick-no, pick-case}
 use mir.Facts.{no-leb}
 use Rattle.outcome.specs.Refusals.{noRoom}
-use Rattle.outcome.specs.Outcome.{Outcome, refused, given, room, numberOf, placeOf, lengthOf, laidAs, AnswersAs, Answers, Gave, told}
+use Rattle.outcome.specs.Outcome.{Outcome, refused, given, room, numberOf, placeOf, lengthOf, laidAs, AnswersAs, Answers, GaveAs, Gave, told}
 use Rattle.outcome.specs.declared.Answer.{Answer}
 
 -- an equation allows one value: "It is proved that two outcomes allowed by it are equal."
@@ -94,16 +94,21 @@ room-answers {form = form} {lent = lent} {o = o} {before = before} h =
       buffer = h .buffer ∙ ap (laidAs form before) e;
     }
 
--- ---- what an answer says, where elements stand as they are
+-- ---- what an answer says
 
+-- given room, what is given is there: n is how many places the elements take in their form
+pub answer-laid : {A B : Type 0} {form : List A → List B} {lent : ℕ} {o : Outcome A} {before after : List B} {a : Answer} → AnswersAs form lent o before after a
+    → (xs : List A) → o ≡ given xs → length xs ≤ lent → (n : ℕ) → (a .length ≡ length xs → length (form xs) ≡ n) → GaveAs form n xs after a
+answer-laid {form = form} {lent = lent} {o = o} {before = before} {after = after} {a = a} h xs e k n w =
+    let q : room lent o ≡ given xs = ap (room lent) e ∙ room-enough lent xs k in
+    let l : a .length ≡ length xs = h .written ∙ ap lengthOf q in
+    let b : after ≡ form xs ++ drop (length (form xs)) before = h .buffer ∙ ap (laidAs form before) q in
+    (h .number ∙ ap numberOf q, l, ap (take n) b ∙ take-at (form xs) (drop (length (form xs)) before) n (w l))
+
+-- elements that stand as they are
 module _ {A : Type 0} {o : Outcome A} {before after : List A} {a : Answer} (h : Answers o before after a) where
-  -- given room, what is given is there
   pub answer-there : (xs : List A) → o ≡ given xs → length xs ≤ length before → Gave xs after a
-  answer-there xs e k =
-      let q : room (length before) o ≡ given xs = ap (room (length before)) e ∙ room-enough (length before) xs k in
-      let l : a .length ≡ length xs = h .written ∙ ap lengthOf q in
-      let b : after ≡ xs ++ drop (length xs) before = h .buffer ∙ ap (laidAs (λ ys. ys) before) q in
-      (h .number ∙ ap numberOf q, l, ap₂ (λ (n : ℕ) (ys : List A). take n ys) l b ∙ take-append-seam xs _)
+  answer-there xs e k = answer-laid h xs e k (a .length) (λ l. sym l)
 
   -- an answer of 0 is given something, where no refusal has that number
   pub answer-accepted : {P : Type 0} → ((e p : ℕ) → o ≡ refused e p → e ≢ 0) → a .number ≡ 0

@@ -34,9 +34,9 @@ trailNumbers = (1, 13) ∷ (15, 15) ∷ (20, 20) ∷ []
 abbrev pub segmentNumbers : List (ℕ × ℕ)
 segmentNumbers = (1, 13) ∷ (23, 23) ∷ []
 
--- "Orders: 13, 14, then removal 15, 16; .. then 19, 20", behind 1 to 12
+-- "Orders: 13, 14, then removal 15, 16; .. then 19, 20", behind 1 to 12; "a removal meeting such a payload gives 26, after 16"
 abbrev pub removalNumbers : List (ℕ × ℕ)
-removalNumbers = (1, 16) ∷ (19, 20) ∷ []
+removalNumbers = (1, 16) ∷ (19, 20) ∷ (26, 26) ∷ []
 
 -- "Orders: 13, 14, then .. pair 17, 15, 18; then 19, 20", behind 1 to 12
 abbrev pub pairNumbers : List (ℕ × ℕ)
@@ -52,3 +52,10 @@ qualityNumbers = (1, 13) ∷ (20, 20) ∷ (23, 24) ∷ []
 
 abbrev pub setQualityNumbers : List (ℕ × ℕ)
 setQualityNumbers = (1, 13) ∷ (19, 20) ∷ (23, 24) ∷ []
+
+-- pores: "26, as 24 for pores"
+abbrev pub poresNumbers : List (ℕ × ℕ)
+poresNumbers = (1, 13) ∷ (20, 20) ∷ (23, 23) ∷ (26, 26) ∷ []
+
+abbrev pub setPoresNumbers : List (ℕ × ℕ)
+setPoresNumbers = (1, 13) ∷ (19, 20) ∷ (23, 23) ∷ (26, 26) ∷ []

@@ -7,7 +7,7 @@ use mathlib.Core.List.{List, _++_}
 use lib.ListN.{length, take, drop}
 use lib.Dec.{leb}
 use Rattle.bits.specs.Choice.{pick}
-use Rattle.put_bytes.specs.HighFirst.{two, joined}
+use Rattle.put_bytes.specs.HighFirst.{two, four, joined}
 use Rattle.outcome.specs.Refusals.{noRoom}
 use Rattle.outcome.specs.declared.Answer.{Answer}
 
@@ -58,9 +58,17 @@ Answers o before after a = AnswersAs (λ xs. xs) (length before) o before after 
 abbrev pub AnswersInBytes : Outcome ℕ → (before after : List ℕ) → Answer → Type 0
 AnswersInBytes o before after a = AnswersAs (joined two) (length before / 2) o before after a
 
--- the elements xs were given: accepted, so many, and they stand at the start of the buffer
+-- the same with numbers of 32 bits
+abbrev pub AnswersInFours : Outcome ℕ → (before after : List ℕ) → Answer → Type 0
+AnswersInFours o before after a = AnswersAs (joined four) (length before / 4) o before after a
+
+-- the elements xs were given: accepted, so many, and they stand, as form has them, in the first n places of the buffer
+abbrev pub GaveAs : {A B : Type 0} → (List A → List B) → ℕ → List A → (after : List B) → Answer → Type 0
+GaveAs form n xs after a = (a .number ≡ 0) × (a .length ≡ length xs) × (take n after ≡ form xs)
+
+-- as they are
 abbrev pub Gave : {A : Type 0} → List A → (after : List A) → Answer → Type 0
-Gave xs after a = (a .number ≡ 0) × (a .length ≡ length xs) × (take (a .length) after ≡ xs)
+Gave xs after a = GaveAs (λ ys. ys) (a .length) xs after a
 
 -- The answer of a call that writes nothing and says where what it gives stands, which is at place p.
 abbrev pub told : {A : Type 0} → ℕ → Outcome A → Answer

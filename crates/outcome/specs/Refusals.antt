@@ -61,7 +61,7 @@ otherCount = 14
 abbrev pub badLines : ℕ
 badLines = 15
 
--- 16: removal in a view that has a segment of another type than local quality
+-- 16: removal in a view that has a segment of another type than local quality and pores
 abbrev pub extended : ℕ
 extended = 16
 
@@ -100,3 +100,8 @@ badQuality = 24
 -- 25: a list of pairs that is empty or has another shape
 abbrev pub badPairs : ℕ
 badPairs = 25
+
+-- 26: a segment of another type than pores, or a payload or numbers to be written that break their rules; a removal that meets such a
+-- payload
+abbrev pub badPores : ℕ
+badPores = 26

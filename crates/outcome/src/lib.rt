@@ -93,4 +93,6 @@ impl Refusal {
     pub const BAD_QUALITY: u32 = 24;
 
     pub const BAD_PAIRS: u32 = 25;
+
+    pub const BAD_PORES: u32 = 26;
 }

@@ -1,15 +1,15 @@
 -- What decides a refusal 2 to 12, of each call on a record: each refuses with these where the record is refused, and has other
 -- numbers of its own.
 use mathlib.Core.Path.{_≡_, refl, sym, ap, subst, _∙_}
-use Prim.Native.Nat.{ℕ, _+_, _-_, _*_}
+use Prim.Native.Nat.{ℕ, _+_, _-_, _*_, _≤_}
 use native.Mathlib.Omega.{arith}
-use mathlib.Core.Bool.{Bool}
+use mathlib.Core.Bool.{Bool, not}
 use mathlib.Core.List.{List, []}
 use lib.ListN.{length}
 use lib.Dec.{T, ltb, eqb}
 use mir.Facts.{eqb-no}
 use Rattle.bits.specs.Choice.{within}
-use Rattle.bits.specs.ChoiceLaws.{pick-case}
+use Rattle.bits.specs.ChoiceLaws.{pick-case, within-not-high}
 use Rattle.bits.specs.Codec.{Read}
 use Rattle.bits.specs.Codec as C
 use Rattle.outcome.specs.Outcome.{Outcome, refused, given, AnswersAs, Answers}
@@ -25,8 +25,9 @@ use Rattle.places.proofs.Laws.Calls.{Other, Own, Shows, answer-shows, told-show
 use Rattle.sheet.specs.Sheet.{sheetOf, reading}
 use Rattle.trail.specs.Trail.{trailIn, trailing}
 use Rattle.segment.specs.Segment.{payloadIn, payload, firstBitRead, segmentAnswer}
-use Rattle.quality.specs.Quality.{qualityIn, quality, setQualityIn, setQuality}
-use Rattle.quality.proofs.Laws.Numbers.{quality-refused, setting-refused}
+use Rattle.rewrite.specs.Format.{PayloadFormat}
+use Rattle.rewrite.specs.Called.{readIn, readPayload, setIn, setPayload}
+use Rattle.rewrite.proofs.Laws.PayloadNumbers.{reading-refused, setting-refused}
 use Rattle.orders.specs.Order.{Order, verdict, ordered, order}
 use Rattle.orders.specs.Pairs.{PairsCall, pairsCall, pairs}
 use Rattle.orders.proofs.Laws.Numbers.{verdict-above}
@@ -76,18 +77,24 @@ order-decided o a b h k =
     view-alike (o .view) (ordered o) (λ i r. pick-case Own (eqb (verdict o i r) 0) _ _ (λ t. tt) (λ t. verdict-above o i r (eqb-no t))) a b
     (answer-shows h) (answer-shows k)
 
-pub quality-decided : (view : ViewName) (place : ℕ) (a b : List ℕ) {before after before₂ after₂ : List ℕ} {x y : Answer} → Answers (quality view place a) before after x
-    → Answers (quality view place b) before₂ after₂ y → T (within 2 12 (x .number)) → Agree (x .place + reach (x .number)) a b → AnsweredAlike x y
-unfolding quality
-quality-decided view place a b h k =
-    segment-alike view place (qualityIn place) (quality-refused Other tt place) a b (answer-shows h) (answer-shows k)
+-- the two calls on payloads of a format, whose number is above 12
+module _ {A : Type 0} (F : PayloadFormat A) (high : 24 ≤ F .bad) (view : ViewName) (place : ℕ) where
+  other : T (not (within 2 12 (F .bad)))
+  other = within-not-high 2 12 (F .bad) (omega arith)
 
-pub setting-decided : (view : ViewName) (place : ℕ) (vs a b : List ℕ) {before after before₂ after₂ : List ℕ} {x y : Answer}
-    → Answers (setQuality view place vs a) before after x → Answers (setQuality view place vs b) before₂ after₂ y → T (within 2 12 (x .number))
-    → Agree (x .place + reach (x .number)) a b → AnsweredAlike x y
-unfolding setQuality
-setting-decided view place vs a b h k =
-    segment-alike view place (setQualityIn place vs) (setting-refused Other tt tt place vs) a b (answer-shows h) (answer-shows k)
+  pub payload-decided : (a b : List ℕ) {B : Type 0} {form : List ℕ → List B} {lent lent₂ : ℕ} {before after before₂ after₂ : List B} {x y : Answer}
+      → AnswersAs form lent (readPayload F view place a) before after x → AnswersAs form lent₂ (readPayload F view place b) before₂ after₂ y
+      → T (within 2 12 (x .number)) → Agree (x .place + reach (x .number)) a b → AnsweredAlike x y
+  unfolding readPayload
+  payload-decided a b h k =
+      segment-alike view place (readIn F place) (reading-refused F Other other place) a b (answer-shows h) (answer-shows k)
+
+  pub setting-decided : (values a b : List ℕ) {B : Type 0} {form : List ℕ → List B} {lent lent₂ : ℕ} {before after before₂ after₂ : List B} {x y : Answer}
+      → AnswersAs form lent (setPayload F view place values a) before after x → AnswersAs form lent₂ (setPayload F view place values b) before₂ after₂ y
+      → T (within 2 12 (x .number)) → Agree (x .place + reach (x .number)) a b → AnsweredAlike x y
+  unfolding setPayload
+  setting-decided values a b h k =
+      segment-alike view place (setIn F place values) (setting-refused F Other other tt place values) a b (answer-shows h) (answer-shows k)
 
 -- ---- a list of pairs
 

@@ -6,4 +6,5 @@ pub mod Unnamed
 pub mod Promises
 pub mod PromisesCalls
 pub mod PromisesQuality
+pub mod PromisesPores
 pub mod PromisesPairs

@@ -21,8 +21,9 @@ use Rattle.format.proofs.Laws.Numbers.{record-placed, view-placed, segment-plac
 use Rattle.sheet.specs.Sheet.{sheetOf, readSheet, writes, reading, writing}
 use Rattle.trail.specs.Trail.{trailIn, trailing}
 use Rattle.segment.specs.Segment.{payloadIn, payload, firstBitRead, segmentAnswer}
-use Rattle.quality.specs.Quality.{qualityIn, quality, setQualityIn, setQuality}
-use Rattle.quality.proofs.Laws.Numbers.{quality-refused, setting-refused}
+use Rattle.rewrite.specs.Format.{PayloadFormat}
+use Rattle.rewrite.specs.Called.{readIn, readPayload, setIn, setPayload}
+use Rattle.rewrite.proofs.Laws.PayloadNumbers.{reading-refused, setting-refused}
 use Rattle.orders.specs.Order.{Order, verdict, ordered, order}
 
 pub read-place : {before after : List ℕ} {a : Answer} (bytes : List ℕ) → Answers (reading bytes) before after a
@@ -64,14 +65,18 @@ order-place o bytes =
     (view-placed bytes (o .view) (ordered o) λ i r.
     pick-case (Refused (Placed (8 * length bytes))) (eqb (verdict o i r) 0) _ _ (λ t. tt) (λ t. no-place (8 * length bytes) (verdict o i r)))
 
-pub quality-place : {before after : List ℕ} {a : Answer} (view : ViewName) (place : ℕ) (bytes : List ℕ) → Answers (quality view place bytes) before after a
-    → Placed (8 * length bytes) (a .number) (a .place)
-unfolding quality
-quality-place view place bytes =
-    answer-place (8 * length bytes) (segment-placed bytes view place (qualityIn place) (quality-refused (Placed (8 * length bytes)) tt place))
+-- the two calls on payloads of a format
+module _ {A : Type 0} (F : PayloadFormat A) (view : ViewName) (place : ℕ) where
+  pub payload-place : (bytes : List ℕ) {B : Type 0} {form : List ℕ → List B} {lent : ℕ} {before after : List B} {a : Answer}
+      → AnswersAs form lent (readPayload F view place bytes) before after a → Placed (8 * length bytes) (a .number) (a .place)
+  unfolding readPayload
+  payload-place bytes =
+      answer-place (8 * length bytes)
+      (segment-placed bytes view place (readIn F place) (reading-refused F (Placed (8 * length bytes)) (no-place (8 * length bytes) (F .bad)) place))
 
-pub setting-place : {before after : List ℕ} {a : Answer} (view : ViewName) (place : ℕ) (vs bytes : List ℕ) → Answers (setQuality view place vs bytes) before after a
-    → Placed (8 * length bytes) (a .number) (a .place)
-unfolding setQuality
-setting-place view place vs bytes =
-    answer-place (8 * length bytes) (segment-placed bytes view place (setQualityIn place vs) (setting-refused (Placed (8 * length bytes)) tt tt place vs))
+  pub setting-place : (values bytes : List ℕ) {B : Type 0} {form : List ℕ → List B} {lent : ℕ} {before after : List B} {a : Answer}
+      → AnswersAs form lent (setPayload F view place values bytes) before after a → Placed (8 * length bytes) (a .number) (a .place)
+  unfolding setPayload
+  setting-place values bytes =
+      answer-place (8 * length bytes)
+      (segment-placed bytes view place (setIn F place values) (setting-refused F (Placed (8 * length bytes)) (no-place (8 * length bytes) (F .bad)) tt place values))

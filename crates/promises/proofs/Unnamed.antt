@@ -2,7 +2,7 @@
 -- has other numbers of its own.
 use mathlib.Core.Path.{_≡_, ap, _∙_}
 use mathlib.Core.Logic.{_≢_}
-use Prim.Native.Nat.{ℕ}
+use Prim.Native.Nat.{ℕ, _≤_}
 use native.Mathlib.Omega.{arith}
 use mathlib.Core.List.{List}
 use lib.Dec.{ltb}
@@ -19,8 +19,9 @@ use Rattle.format.specs.declared.ViewName.{ViewName}
 use Rattle.format.proofs.Laws.Finger.{Other, SaysNone, unnamed-refused, refused-unnamed, unnamed-segment, segment-unnamed}
 use Rattle.trail.specs.Trail.{trailIn, trailing}
 use Rattle.segment.specs.Segment.{payloadIn, payload, firstBitRead, segmentAnswer}
-use Rattle.quality.specs.Quality.{qualityIn, quality, setQualityIn, setQuality}
-use Rattle.quality.proofs.Laws.Numbers.{quality-refused, setting-refused}
+use Rattle.rewrite.specs.Format.{PayloadFormat}
+use Rattle.rewrite.specs.Called.{readIn, readPayload, setIn, setPayload}
+use Rattle.rewrite.proofs.Laws.PayloadNumbers.{reading-refused, setting-refused}
 use Rattle.orders.specs.Order.{Order, ordered, order}
 use Rattle.orders.specs.Pairs.{PairsCall, pairsCall, pairs}
 use Rattle.orders.proofs.Laws.Numbers.{ordered-other}
@@ -61,21 +62,23 @@ pub order-unnamed : (o : Order) (bytes : List ℕ) {before after : List ℕ} {a 
 unfolding order
 order-unnamed o bytes = answer-exactly (refused-unnamed (o .view) (ordered o) bytes (λ i r _ _. ordered-other o i r)) (unnamed-refused (o .view) (ordered o) bytes)
 
-pub quality-unnamed : (view : ViewName) (place : ℕ) (bytes : List ℕ) {before after : List ℕ} {a : Answer}
-    → Answers (quality view place bytes) before after a → Exactly view bytes (a .number)
-unfolding quality
-quality-unnamed view place bytes =
-    answer-exactly (segment-unnamed view place (qualityIn place) bytes (quality-refused (λ e p. e ≢ noView) (λ z. absurd (omega arith)) place))
-    (unnamed-segment view place (qualityIn place) bytes)
+-- the two calls on payloads of a format, whose number is another one
+module _ {A : Type 0} (F : PayloadFormat A) (high : 24 ≤ F .bad) (view : ViewName) (place : ℕ) where
+  pub payload-unnamed : (bytes : List ℕ) {B : Type 0} {form : List ℕ → List B} {lent : ℕ} {before after : List B} {a : Answer}
+      → AnswersAs form lent (readPayload F view place bytes) before after a → Exactly view bytes (a .number)
+  unfolding readPayload
+  payload-unnamed bytes =
+      answer-exactly (segment-unnamed view place (readIn F place) bytes (reading-refused F (λ e p. e ≢ noView) (λ z. absurd (omega arith)) place))
+      (unnamed-segment view place (readIn F place) bytes)
 
-pub setting-unnamed : (view : ViewName) (place : ℕ) (vs bytes : List ℕ) {before after : List ℕ} {a : Answer}
-    → Answers (setQuality view place vs bytes) before after a → Exactly view bytes (a .number)
-unfolding setQuality
-setting-unnamed view place vs bytes =
-    answer-exactly
-    (segment-unnamed view place (setQualityIn place vs) bytes
-    (setting-refused (λ e p. e ≢ noView) (λ z. absurd (omega arith)) (λ z. absurd (omega arith)) place vs))
-    (unnamed-segment view place (setQualityIn place vs) bytes)
+  pub setting-unnamed : (values bytes : List ℕ) {B : Type 0} {form : List ℕ → List B} {lent : ℕ} {before after : List B} {a : Answer}
+      → AnswersAs form lent (setPayload F view place values bytes) before after a → Exactly view bytes (a .number)
+  unfolding setPayload
+  setting-unnamed values bytes =
+      answer-exactly
+      (segment-unnamed view place (setIn F place values) bytes
+      (setting-refused F (λ e p. e ≢ noView) (λ z. absurd (omega arith)) (λ z. absurd (omega arith)) place values))
+      (unnamed-segment view place (setIn F place values) bytes)
 
 pub pairs-answer-unnamed : (view : ViewName) (n : ℕ) (orders bytes : List ℕ) {before after : List ℕ} {a : Answer}
     → Answers (pairs (pairsCall view n orders before) bytes) before after a → Exactly view bytes (a .number)

@@ -63,12 +63,15 @@ bytes-take (suc m) (suc n) xs l = ap (λ (r : List ℕ). numberOfBits (take 8 xs
 -- ---- filled
 
 -- whole bytes in front
+pub filled-behind : (n : ℕ) (xs ys : Bits) → length xs ≡ 8 * n → filled (xs ++ ys) ≡ xs ++ filled ys
+filled-behind n xs ys l =
+    let p : pad (length (xs ++ ys)) ≡ pad (length ys) = ap pad (length-append xs ys) ∙ omega arith in
+    ap (λ (k : ℕ). (xs ++ ys) ++ zeros k) p ∙ append-assoc xs ys (zeros (pad (length ys)))
+
 pub filled-append : (n : ℕ) (xs ys : Bits) → length xs ≡ 8 * n → inBytes (filled (xs ++ ys)) ≡ bytesOf n xs ++ inBytes (filled ys)
 filled-append n xs ys l =
-    let p : pad (length (xs ++ ys)) ≡ pad (length ys) = ap pad (length-append xs ys) ∙ omega arith in
-    let e : filled (xs ++ ys) ≡ xs ++ filled ys = ap (λ (k : ℕ). (xs ++ ys) ++ zeros k) p ∙ append-assoc xs ys (zeros (pad (length ys))) in
     let d : length (xs ++ filled ys) / 8 ≡ n + length (filled ys) / 8 = ap (λ (k : ℕ). k / 8) (length-append xs (filled ys)) ∙ omega arith in
-    ap inBytes e ∙ ap (λ (k : ℕ). bytesOf k (xs ++ filled ys)) d ∙ bytes-append n (length (filled ys) / 8) xs (filled ys) l
+    ap inBytes (filled-behind n xs ys l) ∙ ap (λ (k : ℕ). bytesOf k (xs ++ filled ys)) d ∙ bytes-append n (length (filled ys) / 8) xs (filled ys) l
 
 pub filled-length : (xs : Bits) → length (inBytes (filled xs)) ≡ (length xs + 7) / 8
 filled-length xs = length-in (filled xs) ∙ ap (λ (k : ℕ). k / 8) (filled-long xs) ∙ omega arith

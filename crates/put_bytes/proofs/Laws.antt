@@ -5,8 +5,8 @@ use Prim.Native.Nat.{ℕ, suc, _+_, _-_, _*_, _≤_, _<_}
 use native.Mathlib.Nat.{zero-add}
 use native.Mathlib.Numerals.{add-one}
 use native.Mathlib.Omega.{arith}
-use lib.ListN.{length, take, drop, getD, set, length-append, length-drop, drop-of-length-le}
-use lib.Seq.{set-split, paste-suc, sets, sets-eq, take-at, drop-at, drop-drop, take-all}
+use lib.ListN.{length, take, drop, getD, set, length-append, length-drop, drop-of-length-le, take-append-drop}
+use lib.Seq.{set-split, paste-suc, sets, sets-eq, take-at, drop-at, drop-drop, take-all, length-take-le}
 use Rattle.put_bytes.specs.Laid.{Laid}
 use Rattle.put_bytes.specs.HighFirst.{two, joined}
 
@@ -62,6 +62,45 @@ laid-next {d} {done} {new} {xs} {ys} {a} {n} h k =
       count = simp length-append (omega (arith, h .count, k .count));
       is = rw (e3, k .is, e4, e1, e2) (simp (append-nil, append-assoc, length-append, drop-drop));
     }
+
+-- ---- what is laid last stands between
+
+lent-is : (xs : List ℕ) (a : ℕ) → lent xs a ≡ drop a xs
+lent-is xs a = take-all (length xs - a) (drop a xs) (omega (arith, length-drop a xs))
+
+back-is : (xs : List ℕ) (a : ℕ) (ys : List ℕ) → back xs a ys ≡ take a xs ++ ys
+back-is xs a ys =
+    let l : length (drop a xs) ≤ length xs - a = omega (arith, length-drop a xs) in
+    ap (λ (r : List ℕ). take a xs ++ (ys ++ r)) (drop-of-length-le (drop a xs) l) ∙ ap (λ (r : List ℕ). take a xs ++ r) (append-nil ys)
+
+-- New is laid from b on, and then t in front of it, behind what is done: a length that is known only when the rest is laid.
+pub laid-between : (t : List ℕ) {d done new xs ys zs : List ℕ} {a b n m : ℕ} → Laid done d xs a → b ≡ a + length t → b ≤ length d → Laid new (lent xs b) ys n
+    → Laid t (lent (back xs b ys) a) zs m → Laid (done ++ (t ++ new)) d (back (back xs b ys) a zs) (b + n)
+laid-between t {d} {done} {new} {xs} {ys} {zs} {a} {b} {n} h e l k j =
+    let r : List ℕ = drop a d in
+    let gap : List ℕ = take (length t) r in
+    let at : drop (length done) d ≡ r = ap (λ (i : ℕ). drop i d) (sym (h .count)) in
+    let x : xs ≡ done ++ r = h .is ∙ ap (λ (u : List ℕ). done ++ u) at in
+    let x2 : xs ≡ (done ++ gap) ++ drop (length t) r = x ∙ ap (λ (u : List ℕ). done ++ u) (sym (take-append-drop (length t) r)) ∙ sym (append-assoc done gap (drop (length t) r)) in
+    let g : length gap ≡ length t = length-take-le (length t) r (omega (arith, length-drop a d)) in
+    let c : length (done ++ gap) ≡ b = simp length-append (omega (arith, h .count, g)) in
+    let y : drop b xs ≡ drop b d = ap (drop b) x2 ∙ drop-at (done ++ gap) (drop (length t) r) b c ∙ drop-drop (length t) a d ∙ ap (λ (i : ℕ). drop i d) (sym e) in
+    let z : ys ≡ new ++ drop (length new) (drop b d) = k .is ∙ ap (λ (u : List ℕ). new ++ drop (length new) u) (lent-is xs b ∙ y) in
+    let w : back xs b ys ≡ done ++ (gap ++ ys) =
+    back-is xs b ys ∙ ap (λ (u : List ℕ). u ++ ys) (ap (take b) x2 ∙ take-at (done ++ gap) (drop (length t) r) b c) ∙ append-assoc done gap ys in
+    let v : zs ≡ t ++ ys =
+    j .is ∙ ap (λ (u : List ℕ). t ++ drop (length t) u) (lent-is (back xs b ys) a ∙ ap (drop a) w ∙ drop-at done (gap ++ ys) a (sym (h .count)))
+    ∙ ap (λ (u : List ℕ). t ++ u) (drop-at gap ys (length t) g) in
+    record {
+      count = simp length-append (omega (arith, h .count, k .count));
+      is = back-is (back xs b ys) a zs ∙ ap (λ (u : List ℕ). u ++ zs) (ap (take a) w ∙ take-at done (gap ++ ys) a (sym (h .count)))
+          ∙ ap (λ (u : List ℕ). done ++ u) (v ∙ ap (λ (u : List ℕ). t ++ u) z) ∙ last-part done t new (h .count) e;
+    }
+  where
+    last-part : (done t new : List ℕ) → a ≡ length done → b ≡ a + length t → done ++ (t ++ (new ++ drop (length new) (drop b d))) ≡ (done ++ (t ++ new)) ++ drop (length (done ++ (t ++ new))) d
+    last-part done t new p q =
+        let i : length (done ++ (t ++ new)) ≡ b + length new = simp length-append (omega arith) in
+        rw i (ap (λ (u : List ℕ). done ++ (t ++ (new ++ u))) (drop-drop (length new) b d) ∙ simp append-assoc)
 
 -- ---- lists, one element behind the other
 

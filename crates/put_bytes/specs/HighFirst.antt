@@ -1,9 +1,13 @@
--- Numbers as bytes, "high byte first": one of 16 bits, the start of a tagged field, and what a list has one behind the other.
+-- Numbers as bytes, "high byte first": one of 16 bits or of 32, the start of a tagged field, and what a list has one behind the other.
 use Prim.Native.Nat.{ℕ, _/_, _%_}
 use mathlib.Core.List.{List, [], _∷_, _++_}
 
 abbrev pub two : ℕ → List ℕ
 two n = n / 256 ∷ n % 256 ∷ []
+
+-- of 32 bits
+abbrev pub four : ℕ → List ℕ
+four n = two (n / 65536) ++ two (n % 65536)
 
 -- how a field with tag t and n bytes starts
 abbrev pub start : ℕ → ℕ → List ℕ

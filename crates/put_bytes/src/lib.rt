@@ -3,7 +3,7 @@
 ghost use Prim.Native.Nat.{_≤_, _<_};
 ghost use lib.ListN.{length};
 ghost use Rattle.put_bytes.specs.Laid.{Laid};
-ghost use Rattle.put_bytes.specs.HighFirst.{two, start};
+ghost use Rattle.put_bytes.specs.HighFirst.{two, four, start};
 
 // The bytes of src.
 pub fn copy(out: &mut [u8], src: &[u8]) -> usize
@@ -26,6 +26,15 @@ pub fn put_two(out: &mut [u8], n: usize) -> usize
     out[0] = (n / 256 % 256) as u8;
     out[1] = (n % 256) as u8;
     2
+}
+
+// A number of 32 bits, high byte first: its two halves.
+pub fn put_four(out: &mut [u8], n: usize) -> usize
+    requires { ⌜ (4 ≤ length (now out)) × (n < 4294967296) ⌝ }
+    ensures { λ r. ⌜ Laid (four n) (now (out .entry)) (now (out .exit)) r ⌝ }
+{
+    let at = put_two(out, n / 65536);
+    at + put_two(&mut out[at..], n % 65536)
 }
 
 // A byte, then a number of 16 bits: how a tagged field starts.

@@ -19,6 +19,7 @@ use Rattle.format.specs.Named.{named}
 use Rattle.format.specs.Call.{onRecord, onView, onSegment}
 use Rattle.format.specs.Sample.{headerA}
 use Rattle.rewrite.specs.Rewrite.{rewritten, rewriting}
+use Rattle.rewrite.specs.Called.{readPayload, setPayload}
 use Rattle.quality.specs.Parts.{cells}
 use Rattle.quality.specs.Payload.{values, qualityBlock}
 use Rattle.quality.specs.Quality.{quality, setQuality}
@@ -82,7 +83,7 @@ abbrev expected : Row → Outcome ℕ
 expected r = r .gives
 
 pub read-verdicts : map computed table ≡ map expected table
-unfolding numberOfBits bitsOfNumber bitsOf bytesOf thenDec viaDec onlyDec judgedDec wholeDec roomDec endedDec sizedDec mostLines leastBytes mostBytes end line skeleton index indexBlock segment segments view viewHeader header views recordOf read size write onRecord onView onSegment cells values qualityBlock quality
+unfolding numberOfBits bitsOfNumber bitsOf bytesOf thenDec viaDec onlyDec judgedDec wholeDec roomDec endedDec sizedDec mostLines leastBytes mostBytes end line skeleton index indexBlock segment segments view viewHeader header views recordOf read size write onRecord onView onSegment cells values qualityBlock readPayload
 read-verdicts = refl
 
 -- ---- rewriting
@@ -132,5 +133,5 @@ abbrev left : Rewriting → Outcome ℕ
 left r = r .new
 
 pub set-verdicts : map rewrote rewritings ≡ map left rewritings
-unfolding numberOfBits bitsOfNumber bitsOf bytesOf thenDec viaDec onlyDec judgedDec wholeDec roomDec endedDec sizedDec mostLines leastBytes mostBytes end line skeleton index indexBlock segment segments view viewHeader header views recordOf read size write onRecord onView onSegment cells values qualityBlock rewritten rewriting setQuality
+unfolding numberOfBits bitsOfNumber bitsOf bytesOf thenDec viaDec onlyDec judgedDec wholeDec roomDec endedDec sizedDec mostLines leastBytes mostBytes end line skeleton index indexBlock segment segments view viewHeader header views recordOf read size write onRecord onView onSegment cells values qualityBlock rewritten rewriting setPayload
 set-verdicts = refl

@@ -1,5 +1,5 @@
 pub mod Parts
 pub mod PartsLaws
 pub mod Payload
+pub mod PayloadLaws
 pub mod Quality
-pub mod Accepted

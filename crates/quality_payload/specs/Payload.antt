@@ -7,7 +7,7 @@ use lib.Dec.{T}
 use Rattle.put_bytes.specs.Laid.{Laid}
 use Rattle.format.specs.declared.Image.{Image}
 use Rattle.quality.specs.Parts.{valuesRight}
-use Rattle.quality.specs.Quality.{payloadFor}
+use Rattle.quality.specs.Payload.{payloadFor}
 use Rattle.quality_cells.specs.Grid.{Started}
 use Rattle.quality_cells.specs.declared.Grid.{Grid}
 use Rattle.quality_payload.specs.declared.JudgedValues.{JudgedValues}

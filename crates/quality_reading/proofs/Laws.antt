@@ -3,27 +3,28 @@ use mathlib.Core.Path.{_≡_, sym, ap, ap₂, _∙_}
 use mathlib.Core.Logic.{_≢_}
 use Prim.Native.Nat.{ℕ, _+_, _-_, _≤_, _<_}
 use native.Mathlib.Omega.{arith}
+use mathlib.Core.Option.{none}
 use mathlib.Core.List.{List}
 use lib.ListN.{length}
-use mir.Facts.{yes-eqb, no-eqb}
-use Rattle.bits.specs.ChoiceLaws.{pick-yes, pick-no}
+use Rattle.bits.specs.Codec.{valueOf}
 use Rattle.bits.specs.Lists.{All}
 use Rattle.bits.specs.Bytes.{Byte, bitsOf}
 use Rattle.bits.proofs.Laws.Parts.{part, part-bytes, part-length}
 use Rattle.put_bytes.specs.Laid.{Laid}
 use Rattle.outcome.specs.Refusals.{badQuality, noRoom}
-use Rattle.outcome.specs.Outcome.{refused, given, Answers}
+use Rattle.outcome.specs.Outcome.{given, Answers}
 use Rattle.outcome.proofs.Laws.{answer-refused, answer-full, answer-given}
-use Rattle.format.specs.Segments.{localQuality, isQuality}
-use Rattle.format.specs.Places.{viewAt, segmentAt}
+use Rattle.format.specs.Segments.{localQuality}
 use Rattle.format.specs.declared.Image.{Image}
 use Rattle.format.specs.declared.ViewName.{ViewName}
-use Rattle.format.proofs.Laws.Call.{on-segment}
 use Rattle.find_segment.specs.Found.{SegmentStands, SegmentRefuses, SpotThere}
 use Rattle.find_segment.specs.declared.Spot.{Spot}
 use Rattle.find_segment.proofs.Laws.{bounds, small-image}
+use Rattle.rewrite.specs.Called.{valuesGiven, readIn, readPayload}
+use Rattle.rewrite.proofs.Laws.Payload.{reading-is, reading-other}
+use Rattle.rewrite_put.proofs.Laws.Answered.{found-there}
 use Rattle.quality.specs.Payload.{qualityBlock}
-use Rattle.quality.specs.Quality.{valuesRead, qualityIn, quality}
+use Rattle.quality.specs.Quality.{qualityFormat, quality}
 use Rattle.quality_cells.specs.declared.Grid.{Grid}
 use Rattle.quality_values.specs.Values.{RightPayload, PayloadThere, ValuesLaid}
 use Rattle.quality_values.proofs.Laws.Valued.{right-valued}
@@ -33,8 +34,8 @@ use Rattle.quality_reading.specs.Reading.{ValuesGiven}
 
 pub not-found : {s : List ℕ} {view : ViewName} {place e p : ℕ} (before : List ℕ) → SegmentRefuses s view place e p
     → Answers (quality view place s) before before (record { number = e; place = p; length = 0 })
-unfolding quality
-not-found {place = place} before h = answer-refused (λ xs. xs) (length before) before (h .is (qualityIn place))
+unfolding readPayload
+not-found {place = place} before h = answer-refused (λ xs. xs) (length before) before (h .is (readIn qualityFormat place))
 
 -- ---- the segment at x
 
@@ -54,33 +55,25 @@ module _ {s : List ℕ} {x : Spot} where
 
   module _ (before : List ℕ) where
     pub other-type : x .kind ≢ localQuality → ValuesGiven s x before before (record { number = badQuality; place = 0; length = 0 })
-    unfolding quality
     other-type n =
-        record {
-          is = λ view place h.
-              let a = h .at in
-              answer-refused (λ xs. xs) (length before) before
-              (on-segment view place (qualityIn place) s (h .reads) (h .means) (a .below)
-              ∙ pick-no (isQuality (segmentAt (viewAt (h .value) (h .i)) place)) _ _ (no-eqb (λ e. n (a .kind ∙ e))));
-        }
+        record { is = λ view place h. answer-refused (λ xs. xs) (length before) before (reading-other qualityFormat (found-there h) (λ e. n (h .at .kind ∙ e))) }
 
     module _ (k : x .kind ≡ localQuality) where
       -- the outcome is what its payload reads as
-      reads-as : {view : ViewName} {place : ℕ} → SegmentStands s view place x → quality view place s ≡ valuesRead (qualityBlock (x .image) .dec (bitsOf (payload s x)))
-      unfolding quality
-      reads-as {view} {place} h =
+      reads-as : {view : ViewName} {place : ℕ} → SegmentStands s view place x
+          → quality view place s ≡ valuesGiven qualityFormat (valueOf (qualityBlock (x .image) .dec (bitsOf (payload s x))))
+      reads-as h =
           let a = h .at in
-          on-segment view place (qualityIn place) s (h .reads) (h .means) (a .below)
-          ∙ pick-yes (isQuality (segmentAt (viewAt (h .value) (h .i)) place)) _ _ (yes-eqb (sym (a .kind) ∙ k))
-          ∙ ap₂ (λ (i : Image) (p : List ℕ). valuesRead (qualityBlock i .dec (bitsOf p))) (sym (a .image)) (sym (a .is))
+          reading-is qualityFormat (found-there h) (sym (a .kind) ∙ k)
+          ∙ ap₂ (λ (i : Image) (p : List ℕ). valuesGiven qualityFormat (valueOf (qualityBlock i .dec (bitsOf p)))) (sym (a .image)) (sym (a .is))
 
-      pub broken : valuesRead (qualityBlock (x .image) .dec (bitsOf (payload s x))) ≡ refused badQuality 0
+      pub broken : valueOf (qualityBlock (x .image) .dec (bitsOf (payload s x))) ≡ none
           → ValuesGiven s x before before (record { number = badQuality; place = 0; length = 0 })
-      broken e = record { is = λ view place h. answer-refused (λ xs. xs) (length before) before (reads-as h ∙ e) }
+      broken e = record { is = λ view place h. answer-refused (λ xs. xs) (length before) before (reads-as h ∙ ap (valuesGiven qualityFormat) e) }
 
       module _ {g : Grid} (R : RightPayload (x .image) (payload s x) g) (bytes : All Byte s) where
         gives : {view : ViewName} {place : ℕ} → SegmentStands s view place x → quality view place s ≡ given (R .values)
-        gives h = reads-as h ∙ ap valuesRead (R .reads)
+        gives h = reads-as h ∙ ap (λ o. valuesGiven qualityFormat (valueOf o)) (R .reads)
 
         pub no-room : length before < 3 + g .cells → ValuesGiven s x before before (record { number = noRoom; place = 0; length = 0 })
         no-room l = record { is = λ view place h. answer-full (λ xs. xs) (length before) before (gives h) (omega (arith, right-valued R (payload-bytes s x bytes) .long)) }

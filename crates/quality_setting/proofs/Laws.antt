@@ -1,46 +1,43 @@
 -- A segment that is found, its type, the values as they are judged, the new record's size and the room: what the call then answers,
 -- and that the bytes that code lays are the new record.
-use mathlib.Core.Path.{_≡_, sym, ap, _∙_, subst}
+use mathlib.Core.Path.{_≡_, sym, ap, _∙_}
 use mathlib.Core.Logic.{_≢_}
 use Prim.Native.Nat.{ℕ, _+_, _-_, _*_, _/_, _^_, _≤_, _<_}
 use native.Mathlib.Omega.{arith}
-use mathlib.Core.Bool.{Bool, false, not, _&&_}
-use mathlib.Core.List.{List, [], _++_}
-use lib.ListN.{length, drop, length-append, length-replicate, length-drop}
-use lib.Seq.{take-all}
-use lib.Dec.{T, eqb→eq}
-use mir.Facts.{T-not, not-T, yes-eqb, and-yes, yes-and}
-use Rattle.bits.specs.ChoiceLaws.{pick-yes, pick-no, within-high}
+use mathlib.Core.Bool.{false, not}
+use mathlib.Core.Option.{Option}
+use mathlib.Core.List.{List}
+use lib.ListN.{length, length-append, length-replicate}
+use lib.Dec.{T}
+use Rattle.bits.specs.ChoiceLaws.{pick-no, within-high}
 use Rattle.bits.specs.Lists.{All}
 use Rattle.bits.specs.Bits.{Bits, zeros, pad, filled}
 use Rattle.bits.specs.Bytes.{Byte}
 use Rattle.bits.specs.BytesLaws.{length-in}
+use Rattle.bits.specs.BlockBytes.{value-bytes}
 use Rattle.bits.proofs.Laws.Parts.{part}
 use Rattle.put_bytes.specs.Laid.{Laid}
-use Rattle.put_bytes.proofs.Laws.{laid-next, lent, back}
+use Rattle.put_bytes.proofs.Laws.{lent, back}
 use Rattle.outcome.specs.Refusals.{badQuality, tooLong, noRoom}
-use Rattle.outcome.specs.Outcome.{given, Answers}
-use Rattle.outcome.proofs.Laws.{answer-refused, answer-full, answer-given}
-use Rattle.format.specs.Limits.{mostBytes}
-use Rattle.format.specs.Segments.{localQuality, isQuality}
-use Rattle.format.specs.Record.{Record, size, write, Allowed}
-use Rattle.format.specs.Places.{viewAt, imageOf, segmentAt}
+use Rattle.outcome.specs.Outcome.{Answers}
+use Rattle.outcome.proofs.Laws.{answer-refused}
+use Rattle.format.specs.Segments.{localQuality}
 use Rattle.format.specs.declared.Image.{Image}
 use Rattle.format.specs.declared.ViewName.{ViewName}
-use Rattle.format.proofs.Laws.Call.{on-segment}
-use Rattle.format.proofs.Laws.Record.{read-back}
-use Rattle.format.proofs.Laws.Size.{write-long}
 use Rattle.find_segment.specs.Found.{SegmentStands, SegmentRefuses, SpotThere}
 use Rattle.find_segment.specs.declared.Spot.{Spot}
 use Rattle.find_segment.proofs.Laws.{small-image}
-use Rattle.rewrite.specs.Rewrite.{rewritten, rewriting}
-use Rattle.rewrite.proofs.Laws.Record.{rewritten-allowed, given-rewriting, rewriting-long}
+use Rattle.rewrite.specs.Rewrite.{rewriting}
+use Rattle.rewrite.specs.Called.{valuesSet, setIn, setPayload}
+use Rattle.rewrite.proofs.Laws.Payload.{setting-is, setting-other}
 use Rattle.rewrite_put.specs.Front.{newLength, frontOf, FrontRoom}
-use Rattle.rewrite_put.proofs.Laws.{size-is, bytes-are, room-behind, front-end}
+use Rattle.rewrite_put.proofs.Laws.Front.{in-all, tail-fits, all-put}
+use Rattle.rewrite_put.proofs.Laws.Answered.{found-there}
+use Rattle.rewrite_put.proofs.Laws.Answered as A
 use Rattle.quality.specs.Parts.{valuesRight}
-use Rattle.quality.specs.Payload.{qualityBlock}
-use Rattle.quality.specs.Quality.{payloadFor, setQualityIn, setQuality}
-use Rattle.quality.proofs.Laws.Both.{payload-bytes}
+use Rattle.quality.specs.Payload.{qualityBlock, payloadFor, valuesLent}
+use Rattle.quality.specs.PayloadLaws.{lent-there}
+use Rattle.quality.specs.Quality.{qualityFormat, setQuality}
 use Rattle.quality_cells.specs.Grid.{SmallImage}
 use Rattle.quality_cells.specs.declared.Grid.{Grid}
 use Rattle.quality_cells.proofs.Laws.Start.{few-bits}
@@ -69,8 +66,8 @@ few {g = g} h =
 
 pub not-found : (vs before : List ℕ) {s : List ℕ} {view : ViewName} {place e p : ℕ} → SegmentRefuses s view place e p
     → Answers (setQuality view place vs s) before before (record { number = e; place = p; length = 0 })
-unfolding setQuality
-not-found vs before {place = place} h = answer-refused (λ xs. xs) (length before) before (h .is (setQualityIn place vs))
+unfolding setPayload
+not-found vs before {place = place} h = answer-refused (λ xs. xs) (length before) before (h .is (setIn qualityFormat place vs))
 
 -- ---- the segment at x
 
@@ -78,77 +75,39 @@ pub image-small : {s : List ℕ} {x : Spot} → SpotThere s x → SmallImage (x 
 image-small t = let (w, h) = small-image (t .stands) in record { width = w; height = h }
 
 module _ {s : List ℕ} {x : Spot} (vs before : List ℕ) where
-  -- refused, by the type or by the values
-  wrong : ((view : ViewName) (place : ℕ) (h : SegmentStands s view place x) → T (isQuality (segmentAt (viewAt (h .value) (h .i)) place))
-      → T (valuesRight (imageOf (viewAt (h .value) (h .i))) vs) → ⊥)
-      → PayloadSet s x vs before before (record { number = badQuality; place = 0; length = 0 })
-  unfolding setQuality
-  wrong n =
-      record {
-        is = λ view place h.
-            let a = h .at in
-            let kind : Bool = isQuality (segmentAt (viewAt (h .value) (h .i)) place) in
-            let right : Bool = valuesRight (imageOf (viewAt (h .value) (h .i))) vs in
-            answer-refused (λ xs. xs) (length before) before
-            (on-segment view place (setQualityIn place vs) s (h .reads) (h .means) (a .below)
-            ∙ pick-no (kind && right) _ _ (not-T (kind && right) λ t. let (p, q) = and-yes kind right t in n view place h p q));
-      }
-
   pub other-type : x .kind ≢ localQuality → PayloadSet s x vs before before (record { number = badQuality; place = 0; length = 0 })
-  other-type n = wrong λ view place h p q. n (h .at .kind ∙ eqb→eq (segmentAt (viewAt (h .value) (h .i)) place .kind) localQuality p)
+  other-type n =
+      record { is = λ view place h. answer-refused (λ xs. xs) (length before) before (setting-other qualityFormat (found-there h) (λ e. n (h .at .kind ∙ e)) vs) }
 
-  pub broken : T (not (valuesRight (x .image) vs)) → PayloadSet s x vs before before (record { number = badQuality; place = 0; length = 0 })
-  broken t = wrong λ view place h p q. T-not (valuesRight (x .image) vs) (subst (λ (i : Image). T (valuesRight i vs)) (sym (h .at .image)) q) t
+  module _ (q : x .kind ≡ localQuality) where
+    -- the outcome is what the values say
+    says : {view : ViewName} {place : ℕ} {o : Option (List ℕ)} (h : SegmentStands s view place x) → valuesLent (x .image) vs ≡ o
+        → setQuality view place vs s ≡ valuesSet qualityFormat place (h .i) (h .value) o
+    says {place = place} h e =
+        let a = h .at in
+        setting-is qualityFormat (found-there h) (sym (a .kind) ∙ q) vs
+        ∙ ap (valuesSet qualityFormat place (h .i) (h .value)) (ap (λ (i : Image). valuesLent i vs) (sym (a .image)) ∙ e)
+
+    pub broken : T (not (valuesRight (x .image) vs)) → PayloadSet s x vs before before (record { number = badQuality; place = 0; length = 0 })
+    broken t = record { is = λ view place h. answer-refused (λ xs. xs) (length before) before (says h (pick-no (valuesRight (x .image) vs) _ _ t)) }
 
   -- ---- accepted so far: the type is right, and the values are
 
   module _ {g : Grid} {k : ℕ} (q : x .kind ≡ localQuality) (R : RightValues (x .image) vs g) (z : k ≡ 3 + (g .cells * g .bits + 7) / 8) (bytes : All Byte s) where
     goes-on : {view : ViewName} {place : ℕ} (h : SegmentStands s view place x) → setQuality view place vs s ≡ rewriting (h .i) place (payloadFor (x .image) vs) (h .value)
-    unfolding setQuality
-    goes-on {view} {place} h =
-        let a = h .at in
-        on-segment view place (setQualityIn place vs) s (h .reads) (h .means) (a .below)
-        ∙ pick-yes (isQuality (segmentAt (viewAt (h .value) (h .i)) place) && valuesRight (imageOf (viewAt (h .value) (h .i))) vs) _ _
-        (yes-and (isQuality (segmentAt (viewAt (h .value) (h .i)) place)) (valuesRight (imageOf (viewAt (h .value) (h .i))) vs) (yes-eqb (sym (a .kind) ∙ q)) (subst (λ (i : Image). T (valuesRight i vs)) (a .image) (R .right)))
-        ∙ ap (λ (i : Image). rewriting (h .i) place (payloadFor i vs) (h .value)) (sym (a .image))
-
-    -- how long the new record is
-    long : {view : ViewName} {place : ℕ} (h : SegmentStands s view place x) → size (rewritten (h .i) place (payloadFor (x .image) vs) (h .value)) ≡ newLength s x k
-    long h = size-is h bytes (payloadFor (x .image) vs) ∙ ap (newLength s x) (payload-size R ∙ sym z)
+    goes-on {place = place} h =
+        says q h (lent-there (x .image) vs (R .right)) ∙ ap (λ (i : Image). rewriting (h .i) place (payloadFor i vs) (h .value)) (sym (h .at .image))
 
     pub too-long : 32768 < newLength s x k → PayloadSet s x vs before before (record { number = tooLong; place = 0; length = 0 })
-    unfolding mostBytes
-    too-long l =
-        record {
-          is = λ view place h.
-              answer-refused (λ xs. xs) (length before) before (goes-on h ∙ rewriting-long (h .i) place (payloadFor (x .image) vs) (h .value) (omega (arith, long h)));
-        }
+    too-long l = record { is = λ view place h. A.too-long h bytes (payloadFor (x .image) vs) (goes-on h) (payload-size R ∙ sym z) before l }
 
     module _ (small : newLength s x k ≤ 32768) where
-      gives : {view : ViewName} {place : ℕ} (h : SegmentStands s view place x) → setQuality view place vs s ≡ given (write (rewritten (h .i) place (payloadFor (x .image) vs) (h .value)))
-      unfolding mostBytes
-      gives {view} {place} h = goes-on h ∙ given-rewriting (h .i) place (payloadFor (x .image) vs) (h .value) (omega (arith, long h))
-
       pub no-room : length before < newLength s x k → PayloadSet s x vs before before (record { number = noRoom; place = 0; length = 0 })
-      no-room l =
-          record {
-            is = λ view place h.
-                answer-full (λ xs. xs) (length before) before (gives h) (omega (arith, write-long (rewritten (h .i) place (payloadFor (x .image) vs) (h .value)), long h));
-          }
+      no-room l = record { is = λ view place h. A.no-room h bytes (payloadFor (x .image) vs) (goes-on h) (payload-size R ∙ sym z) before small l }
 
       pub put : {after : List ℕ} {n : ℕ} → newLength s x k ≤ length before → RecordPut s x vs before after n
           → PayloadSet s x vs before after (record { number = 0; place = 0; length = n })
-      unfolding mostBytes
-      put {after} {n} l D =
-          record {
-            is = λ view place h.
-                let a = h .at in
-                let r : Record = h .value in
-                let (old, _, _) = read-back s r [] bytes (h .reads) in
-                let ok : Allowed (rewritten (h .i) place (payloadFor (x .image) vs) r) = rewritten-allowed (h .i) place (payloadFor (x .image) vs) r (a .there) (a .below) (payload-bytes (x .image) vs) (omega (arith, long h)) old in
-                let L : Laid (write (rewritten (h .i) place (payloadFor (x .image) vs) r)) before after n = subst (λ (xs : List ℕ). Laid xs before after n) (bytes-are h bytes (payloadFor (x .image) vs) ok) D in
-                answer-given (λ xs. xs) (length before) before (gives h) after n (omega (arith, write-long (rewritten (h .i) place (payloadFor (x .image) vs) r), long h)) (L .count) (L .is);
-          }
+      put l D = record { is = λ view place h. A.put h bytes (payloadFor (x .image) vs) (goes-on h) (payload-size R ∙ sym z) before small (value-bytes (qualityBlock (x .image)) vs) l D }
 
 -- ---- the new record, part by part
 
@@ -156,32 +115,20 @@ module _ {s : List ℕ} {x : Spot} {vs : List ℕ} {g : Grid} {k : ℕ} {out : L
   pub front-room : FrontRoom s x k out
   front-room = record { spot = t .spot; small = t .small; room = t .room }
 
-  pub in-all : x .payload .from + k + (length s - x .payload .to) ≡ newLength s x k
-  in-all = let p = t .spot in omega (arith, p .order, p .inside, p .within)
-
   long-payload : length (payloadFor (x .image) vs) ≡ k
   long-payload = payload-size (t .right) ∙ sym (t .size)
 
   pub payload-end : {o o1 : List ℕ} {b : ℕ} → PayloadLaid vs g o o1 b → b ≡ k
   payload-end h = h .is (x .image) (t .right) .count ∙ long-payload
 
-  tail-is : part s (x .payload .to) (length s - x .payload .to) ≡ drop (x .payload .to) s
-  tail-is = take-all (length s - x .payload .to) (drop (x .payload .to) s) (omega (arith, length-drop (x .payload .to) s))
-
-  pub tail-long : length (part s (x .payload .to) (length s - x .payload .to)) ≡ length s - x .payload .to
-  tail-long = ap length tail-is ∙ length-drop (x .payload .to) s
-
   pub put-room : {rest : List ℕ} → k ≤ length rest → PayloadRoom vs g rest
   put-room l =
-      record { image = x .image; right = t .right; small = omega (arith, t .size, in-all, t .small); room = omega (arith, t .size) }
+      record { image = x .image; right = t .right; small = omega (arith, t .size, in-all front-room, t .small); room = omega (arith, t .size) }
 
   module _ {o1 o2 : List ℕ} {a b : ℕ} (F : Laid (frontOf s x k) out o1 a) (P : PayloadLaid vs g (lent o1 a) o2 b) where
-    both : Laid (frontOf s x (length (payloadFor (x .image) vs)) ++ payloadFor (x .image) vs) out (back o1 a o2) (a + b)
-    both = laid-next (subst (λ (n : ℕ). Laid (frontOf s x n) out o1 a) (sym long-payload) F) (P .is (x .image) (t .right))
+    pub tail-room : length (part s (x .payload .to) (length s - x .payload .to)) ≤ length (lent (back o1 a o2) (a + b))
+    tail-room = tail-fits front-room (sym long-payload) F (P .is (x .image) (t .right))
 
-    pub tail-fits : length (part s (x .payload .to) (length s - x .payload .to)) ≤ length (lent (back o1 a o2) (a + b))
-    tail-fits = room-behind (length (part s (x .payload .to) (length s - x .payload .to))) both (omega (arith, front-end front-room F, payload-end P, tail-long, in-all, t .room))
-
-    pub all-put : {o3 : List ℕ} {c : ℕ} → Laid (part s (x .payload .to) (length s - x .payload .to)) (lent (back o1 a o2) (a + b)) o3 c
+    pub record-put : {o3 : List ℕ} {c : ℕ} → Laid (part s (x .payload .to) (length s - x .payload .to)) (lent (back o1 a o2) (a + b)) o3 c
         → RecordPut s x vs out (back (back o1 a o2) (a + b) o3) (a + b + c)
-    all-put {o3} {c} C = laid-next both (subst (λ (xs : List ℕ). Laid xs (lent (back o1 a o2) (a + b)) o3 c) tail-is C)
+    record-put C = all-put front-room (sym long-payload) F (P .is (x .image) (t .right)) C

@@ -9,7 +9,8 @@ use Rattle.outcome.specs.declared.Answer.{Answer}
 use Rattle.format.specs.declared.ViewName.{ViewName}
 use Rattle.find_segment.specs.Found.{SegmentStands}
 use Rattle.find_segment.specs.declared.Spot.{Spot}
-use Rattle.quality.specs.Quality.{payloadFor, setQuality}
+use Rattle.quality.specs.Payload.{payloadFor}
+use Rattle.quality.specs.Quality.{setQuality}
 use Rattle.quality_cells.specs.declared.Grid.{Grid}
 use Rattle.quality_payload.specs.Payload.{RightValues}
 use Rattle.rewrite_put.specs.Front.{newLength, frontOf, SpotIn}

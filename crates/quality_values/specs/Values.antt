@@ -1,16 +1,14 @@
 -- What the code that judges a stored payload of local quality, and that lays its values, asks and answers.
 use mathlib.Core.Path.{_≡_}
 use Prim.Native.Nat.{ℕ, _+_, _≤_}
+use mathlib.Core.Option.{none}
 use mathlib.Core.List.{List, []}
 use lib.ListN.{length}
 use Rattle.bits.specs.Bytes.{bitsOf}
-use Rattle.bits.specs.Codec.{got}
-use Rattle.outcome.specs.Refusals.{badQuality}
-use Rattle.outcome.specs.Outcome.{refused}
+use Rattle.bits.specs.Codec.{got, valueOf}
 use Rattle.put_bytes.specs.Laid.{Laid}
 use Rattle.format.specs.declared.Image.{Image}
 use Rattle.quality.specs.Payload.{qualityBlock}
-use Rattle.quality.specs.Quality.{valuesRead}
 use Rattle.quality_cells.specs.Grid.{SmallImage, Started}
 use Rattle.quality_cells.specs.declared.Grid.{Grid}
 use Rattle.quality_values.specs.declared.JudgedPayload.{JudgedPayload}
@@ -28,7 +26,7 @@ pub record PayloadThere (image : Image) (s : List ℕ) : Type 0 where
 
 abbrev pub PayloadJudged : Image → List ℕ → JudgedPayload → Type 0
 PayloadJudged image s (j.Right g) = RightPayload image s g
-PayloadJudged image s j.Broken = valuesRead (qualityBlock image .dec (bitsOf s)) ≡ refused badQuality 0
+PayloadJudged image s j.Broken = valueOf (qualityBlock image .dec (bitsOf s)) ≡ none
 
 -- ---- its values: the first three bytes and a byte per cell
 

@@ -56,7 +56,7 @@ codesValue k = fill (codeValue k) badValue (λ n. byte-some (signExtended k n)) 
 
 unfoldable pub lineValue : Widths → Block Line
 lineValue w =
-    recast (ahead (then (endValue w) λ _. endValue w) ends-whole (codesValue (w .k))) lineOfValue valueOfLine (LineValue w) (line-value-matches w)
+    recast (ahead (then (endValue w) λ _. endValue w) ends-whole (λ _. codesValue (w .k))) lineOfValue valueOfLine (LineValue w) (line-value-matches w)
 
 -- ---- 04: w; 05: "a line's neighbours by number, 2 bytes each, highest first"
 
@@ -79,5 +79,5 @@ listValue w l = pass (fill (field badValue 16) badValue two-some two-whole) badV
 
 unfoldable pub segmentValue : Block Segment
 segmentValue =
-    recast (ahead (field badValue 16) two-whole (fill (field badValue 8) badValue byte-some byte-whole)) segmentOfValue valueOfSegment SegmentValue
+    recast (ahead (field badValue 16) two-whole (λ _. fill (field badValue 8) badValue byte-some byte-whole)) segmentOfValue valueOfSegment SegmentValue
     segment-value-matches

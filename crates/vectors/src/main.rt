@@ -1,6 +1,7 @@
 // Runs the library's calls on each file that an argument names, and prints what came of it: the listing, the place of a refusal, the
 // sheet's length, and for each view, named by finger position and number, the trails of its first lines, the lengths of its first
-// segments and the values of their local quality.
+// segments, and the values of their local quality or the numbers of their pores.
+use bits::four_at;
 use format::Header;
 use format::ViewName;
 use judge::Verdict;
@@ -8,6 +9,7 @@ use judge::judge;
 use list_text::number;
 use list_text::text;
 use outcome::Refusal;
+use pores_reading::pores;
 use quality_reading::quality;
 use reading::read;
 use segment::payload;
@@ -99,6 +101,31 @@ fn quality_of(bytes: &[u8], view: ViewName, place: usize) {
     text(b"\n");
 }
 
+// The first `count` numbers of pores, four bytes each.
+fn distances(out: &[u8], count: usize) {
+    let mut i: usize = 0;
+    while i < count {
+        if out.len() / 4 <= i {
+            return;
+        }
+        text(b" ");
+        number(four_at(out, 4 * i));
+        i += 1;
+    }
+}
+
+// The numbers of pores, where the segment has some.
+fn pores_of(bytes: &[u8], view: ViewName, place: usize) {
+    let mut out = [0u8; 1024];
+    let answer = pores(bytes, view, place, &mut out);
+    if answer.number != 0 {
+        return;
+    }
+    start(b"pores ", view, place);
+    distances(&out, answer.length);
+    text(b"\n");
+}
+
 // Whether the view has that segment.
 fn segment_of(bytes: &[u8], view: ViewName, place: usize) -> bool {
     let answer = segment(bytes, view, place);
@@ -111,6 +138,7 @@ fn segment_of(bytes: &[u8], view: ViewName, place: usize) -> bool {
     number(part.len());
     text(b" bytes\n");
     quality_of(bytes, view, place);
+    pores_of(bytes, view, place);
     true
 }
 

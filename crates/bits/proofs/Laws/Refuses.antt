@@ -177,9 +177,9 @@ module _ {P : ℕ → Type 0} where
             pick-refusal (leb m (length s)) (rw z at (inside-refusal (drop m s) (h .at (take m s)))) (by (p, le-refl (length s)));
       }
 
-  pub ahead-refuses : {A B : Type 0} (c : Codec Bool A) (w : Block B) → Refuses P (c .dec) → Refuses P (w .dec) → Refuses P (aheadDec c w)
+  pub ahead-refuses : {A B : Type 0} (c : Codec Bool A) (w : A → Block B) → Refuses P (c .dec) → ((a : A) → Refuses P (w a .dec)) → Refuses P (aheadDec c w)
   unfolding aheadDec
-  ahead-refuses c w h k = next-refuses c h λ a. map-refuses _ k
+  ahead-refuses c w h k = next-refuses c h λ a. map-refuses _ (k a)
 
   pub pass-refuses : {A : Type 0} (w : Block A) (e : ℕ) (t : A → Bool) → P e → Refuses P (w .dec) → Refuses P (passDec w e t)
   unfolding passDec

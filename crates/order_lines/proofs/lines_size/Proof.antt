@@ -4,11 +4,12 @@ use native.Mathlib.Omega.{arith}
 use mathlib.Core.Path.{sym, _∙_}
 use Prim.Native.Nat.{_+_, _-_, _*_, _≤_}
 use lib.ListN.{length}
+use Rattle.bits.specs.Bits.{Bits}
 use Rattle.orders.specs.Listed.{removalLines}
-use Rattle.format.specs.Line.{line}
-use Rattle.order_lines.specs.Lines.{keptFrom}
+use Rattle.format.specs.Line.{FitsLine, line}
 use Rattle.order_removal.proofs.Laws.Going.{Turn, turn}
-use Rattle.order_lines.proofs.Laws.Lines.{same, Stand, next-reads, next-end, Sized, SizingAll, sizing-first, sizing-gone, sizing-stays, sized}
+use Rattle.order_lines.proofs.Laws.Each.{same, Stand, Ends, first-within, Sized, next-gone, next-sized}
+use Rattle.order_lines.proofs.Laws.Lines.{line-reads, line-ends, keptBits, SizingAll, sizing-first, sized}
 use Rattle.order_lines.proofs.lines_size.Statement.{statement}
 use Rattle.order_lines.proofs.lines_size.Tie as tie
 
@@ -20,14 +21,17 @@ abbrev μ-loop : tie.MeasureT-loop
 μ-loop s w count removal p₀ l₀ bits₀ p l bits =
     count - l
 
-next : (c : tie.In-loop Inv-loop μ-loop) → Turn same (removalLines (c .before .before .before .before .args .removal .now)) (c .before .before .before .before .args .count) (Stand (c .before .before .before .before .args .w) (c .before .before .before .before .args .block .now) (c .before .before .before .before .pre .behind)) (Sized (c .before .before .before .before .args .w) (keptFrom (removalLines (c .before .before .before .before .args .removal .now)) 0 (c .before .before .before .before .pre .value)) (c .before .loop .bits)) (c .before .loop .l) (c .before .loop .p)
+next : (c : tie.In-loop Inv-loop μ-loop) → Turn same (removalLines (c .before .before .before .before .args .removal .now)) (c .before .before .before .before .args .count) (Stand (line (c .before .before .before .before .args .w) .enc) (FitsLine (c .before .before .before .before .args .w)) (c .before .before .before .before .args .block .now) (c .before .before .before .before .pre .behind)) (Sized (line (c .before .before .before .before .args .w) .enc) (keptBits (c .before .before .before .before .args .w) (c .before .before .before .before .args .removal .now) (c .before .before .before .before .pre .value)) 0 (c .before .loop .bits)) (c .before .loop .l) (c .before .loop .p)
 next c = let p = c .before .before .before .before .pre in turn (c .before .loop .inv .2 (p .value) (p .behind) (p .at) (p .counts)) (c .loop-test .taken)
+
+end : (c : tie.After-line-end Inv-loop μ-loop) (u : Bits) → Ends (line (c .before .before .before .before .before .args .w) .enc) (FitsLine (c .before .before .before .before .before .args .w)) (c .before .before .before .before .before .args .block .now) u (c .before .before .loop .p) (c .line-end .result)
+end c u = line-ends (c .before .before .before .before .before .args .w) (c .before .before .before .before .before .args .block .now) (c .before .before .loop .p) u (c .line-end .ensures)
 
 ends : (c : tie.After-line-end Inv-loop μ-loop) → (c .before .before .loop .p ≤ c .line-end .result) × (c .line-end .result ≤ 8 * length (c .before .before .before .before .before .args .block .now))
 ends c =
     let x = next (c .before) in
-    let z = next-end x (c .line-end .ensures) in
-    (omega (arith, z), omega (arith, z, next-reads x .within))
+    let z = end c (c .before .before .before .before .before .pre .behind) (x .value) (x .others) (x .at) in
+    (omega (arith, z), omega (arith, z, first-within (x .at)))
 
 loop-holds : tie.Need-loop-holds Inv-loop μ-loop
 loop-holds c =
@@ -37,7 +41,7 @@ line-end-requires : tie.Need-line-end-requires Inv-loop μ-loop
 line-end-requires c κs =
     let p = c .before .before .before .before .pre in
     let x = next (c) in
-    record { narrow = p .narrow; short = p .short; value = x .value; behind = c .before .loop .p + length (line (c .before .before .before .before .args .w) .enc (x .value)); reads = next-reads x }
+    record { narrow = p .narrow; short = p .short; value = x .value; behind = c .before .loop .p + length (line (c .before .before .before .before .args .w) .enc (x .value)); reads = line-reads (c .before .before .before .before .args .w) (c .before .before .before .before .args .block .now) (c .before .loop .p) (x .value) (x .others) (x .at) }
 
 rank-of-requires : tie.Need-rank-of-requires Inv-loop μ-loop
 rank-of-requires c κs =
@@ -53,7 +57,7 @@ loop-less c =
 
 loop-again : tie.Need-loop-again Inv-loop μ-loop
 loop-again c =
-    (omega (arith, c .before .before .before .before .loop .inv .0, ends (c .before .before) .0), ends (c .before .before) .1, sizing-gone (c .before .before .before .before .before .before .before .args .w) (c .before .before .before .before .before .before .before .args .block .now) (c .before .before .before .before .before .before .before .args .removal .now) (c .before .before .before .before .before .before .before .args .count) (c .before .before .before .before .loop .inv .2) (c .before .before .before .loop-test .taken) (c .before .before .line-end .ensures) (sym (c .before .rank-of .ensures .gone) ∙ c .if1 .taken))
+    (omega (arith, c .before .before .before .before .loop .inv .0, ends (c .before .before) .0), ends (c .before .before) .1, λ ls u a n. next-gone (c .before .before .before .loop-test .taken) (end (c .before .before) u) (c .before .before .before .before .loop .inv .2 ls u a n) (sym (c .before .rank-of .ensures .gone) ∙ c .if1 .taken))
 
 sub-bits : tie.Need-sub-bits Inv-loop μ-loop
 sub-bits c =
@@ -69,7 +73,7 @@ loop-less-2 c =
 
 loop-again-2 : tie.Need-loop-again-2 Inv-loop μ-loop
 loop-again-2 c =
-    (omega (arith, c .before .before .before .before .loop .inv .0, ends (c .before .before) .0), ends (c .before .before) .1, sizing-stays (c .before .before .before .before .before .before .before .args .w) (c .before .before .before .before .before .before .before .args .block .now) (c .before .before .before .before .before .before .before .args .removal .now) (c .before .before .before .before .before .before .before .args .count) (c .before .before .before .before .loop .inv .2) (c .before .before .before .loop-test .taken) (c .before .before .line-end .ensures) (sym (c .before .rank-of .ensures .gone) ∙ c .if1 .left))
+    (omega (arith, c .before .before .before .before .loop .inv .0, ends (c .before .before) .0), ends (c .before .before) .1, λ ls u a n. next-sized (c .before .before .before .loop-test .taken) (end (c .before .before) u) (c .before .before .before .before .loop .inv .2 ls u a n) (sym (c .before .rank-of .ensures .gone) ∙ c .if1 .left))
 
 add-result : tie.Need-add-result Inv-loop μ-loop
 add-result c =
@@ -77,7 +81,7 @@ add-result c =
 
 returns : tie.Need-returns Inv-loop μ-loop
 returns c =
-    sized (c .before .before .before .before .args .w) (c .before .before .before .before .args .block .now) (c .before .before .before .before .args .removal .now) (c .before .before .before .before .args .count) (c .before .loop .inv .2) (omega (arith, c .loop-test .left))
+    sized (c .before .before .before .before .args .w) (c .before .before .before .before .args .block .now) (c .before .before .before .before .args .removal .now) (c .before .before .before .before .args .count) (omega (arith, c .loop-test .left)) (c .before .loop .inv .2)
 
 pub lines-size-spec : {M : Type 1} → statement M
 lines-size-spec =

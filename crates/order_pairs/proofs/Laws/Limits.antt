@@ -37,6 +37,7 @@ module _ {s : List ℕ} {x : Site} {words : List ℕ} where
         at = I .at;
         rising = record { even = refl; rises = tt };
         keeps = words-keeps words (viewAt (I .value) (I .place)) (site-right (I .reads) (I .at)) (t .passed) few;
+        right = λ d. absurd (d refl);
       }
 
   pub size-measured : {m : Sizes} {k lent : ℕ} → Measured s x words [] m → k ≡ sizeNumber lent (m .bytes) → SizeSeen s x words lent k

@@ -25,6 +25,7 @@ use Rattle.order_words.specs.After.{heard, heardIn, viewAfter, recordAfter, Pas
 use Rattle.order_words.proofs.Laws.Listed.{words-long, heard-part}
 use Rattle.order_words.proofs.Laws.Shape.{shaped}
 use Rattle.order_view.specs.Named.{Named}
+use Rattle.order_record.proofs.Laws.Extended.{all-fit}
 use Rattle.order_record.proofs.Laws.Acts.{record-worded}
 use Rattle.order_carry.specs.Carried.{sizeNumber}
 use Rattle.order_pairs.specs.Sizes.{Indexed, SizeThere, SizeSeen}
@@ -114,7 +115,7 @@ module _ {s : List ℕ} {x : Site} {list : List ℕ} {lent i : ℕ} (t : Trying 
           → m ≡ sizeNumber lent (size (recordAfter (F .place) (heard (words list) (suc i)) (F .value)))
       size-is F =
           let p : Passed (heardIn first) (viewAt (F .value) (F .place)) = rw heard-first (passed F) in
-          let w = record-worded (F .place) first (F .value) (F .at .there) (site-right (F .reads) (F .at)) p (omega (arith, first-long)) in
+          let w = record-worded (F .place) first (F .value) (F .at .there) (all-fit _ (F .at .segments .value)) (site-right (F .reads) (F .at)) p (omega (arith, first-long)) in
           Z .is (F .value) (F .place) (F .reads) (F .at) p
           ∙ ap (λ (r : Record). sizeNumber lent (size r)) (w ∙ ap (λ (hs : List Word). recordAfter (F .place) hs (F .value)) heard-first)
 

@@ -7,10 +7,11 @@ use native.Mathlib.Omega.{arith}
 use mathlib.Core.Option.{Option, none, some, Option·map}
 use mathlib.Core.List.{List, [], _∷_}
 use lib.ListN.{length, length-map}
-use Rattle.bits.specs.Lists.{Along}
+use Rattle.bits.specs.Lists.{All, Along}
 use Rattle.bits.specs.ListsLaws.{up-along}
 use Rattle.format.specs.Differences.{Falls}
 use Rattle.format.specs.Index.{Index, up}
+use Rattle.format.specs.Segments.{FitsSegment}
 use Rattle.format.specs.View.{View}
 use Rattle.format.specs.Record.{Record}
 use Rattle.format.specs.Places.{lineAt, viewAt, withView, count}
@@ -34,6 +35,7 @@ use Rattle.order_lists.specs.Index.{left}
 use Rattle.order_lists.proofs.Laws.Acts.{remove-lists, words-lists}
 use Rattle.order_lines.proofs.Laws.Lines.{remove-lines}
 use Rattle.order_record.specs.Blocks.{newIndex, Keeps}
+use Rattle.order_record.proofs.Laws.Extended.{same-segments}
 use Rattle.order_record.specs.Rebuilt.{newView, newRecord}
 
 -- ---- a view and its lists
@@ -101,22 +103,22 @@ module _ (words : List ℕ) (v : View) (r : Right v) (p : Passed (heardIn words)
   pub words-left : (i : Index) → v .index ≡ some i → left [] words i ≡ listsAfter (heardIn words) (i .lists)
   words-left i e = words-lists (heardIn words) v (i .lists) (lists-of v e) r p
 
-  pub words-view : 6 ≤ length words → newView [] words v ≡ viewAfter (heardIn words) v
+  pub words-view : All FitsSegment (v .segments) → 6 ≤ length words → newView [] words v ≡ viewAfter (heardIn words) v
   unfolding newView
-  words-view l =
+  words-view f l =
       let hs : List Word = heardIn words in
       let i = new-index [] words (listsAfter hs) (v .index) words-left in
       same-view (sym (head-words hs v)) (kept-all 0 (v .lines) ∙ sym (lines-words hs v)) (i ∙ sym (index-words hs v (omega (arith, heard-count words))))
-      (sym (segments-words hs v))
+      (same-segments (length (v .lines)) [] (v .segments) f refl ∙ sym (segments-words hs v))
 
   pub words-keeps : count v ≤ 1024 → Keeps [] words (v .index)
   words-keeps few i e = subst Kept (sym (words-left i e)) (lists-kept (right-lists v (i .lists) (lists-of v e) r (heardIn words) p) few)
 
-pub record-worded : (i : ℕ) (words : List ℕ) (r : Record) → i < length (r .views) → Right (viewAt r i) → Passed (heardIn words) (viewAt r i) → 6 ≤ length words
+pub record-worded : (i : ℕ) (words : List ℕ) (r : Record) → i < length (r .views) → All FitsSegment (viewAt r i .segments) → Right (viewAt r i) → Passed (heardIn words) (viewAt r i) → 6 ≤ length words
     → newRecord [] words i r ≡ recordAfter i (heardIn words) r
 unfolding newRecord
-record-worded i words r t k p l =
-    ap (withView r i) (words-view words (viewAt r i) k p l) ∙ sym (go (heardIn words) (omega (arith, heard-count words)))
+record-worded i words r t f k p l =
+    ap (withView r i) (words-view words (viewAt r i) k p f l) ∙ sym (go (heardIn words) (omega (arith, heard-count words)))
   where
     go : (hs : List Word) → 0 < length hs → recordAfter i hs r ≡ withView r i (viewAfter hs (viewAt r i))
     go [] m = absurd (omega arith)

@@ -10,7 +10,7 @@ use Rattle.format.specs.Places.{viewAt, count}
 use Rattle.format.proofs.Laws.Record.{narrow}
 use Rattle.find_parts.proofs.Laws.Blocks.{cut, cut-long, few-lines}
 use Rattle.find_parts.proofs.Laws.Record.{record-apart}
-use Rattle.order_record.specs.Blocks.{OldSkeleton, OldIndex}
+use Rattle.order_record.specs.Blocks.{OldSkeleton, OldIndex, OldExtended}
 use Rattle.order_record.specs.Rebuilt.{Placed}
 use Rattle.find_parts.specs.declared.site.Site.{Site}
 
@@ -44,4 +44,16 @@ module _ {s : List ℕ} {x : Site} {words removal : List ℕ} (t : Placed s x wo
         value = viewAt (t .value) (t .place) .index;
         reads = t .at .index .value;
         keeps = t .keeps;
+      }
+
+  unfoldable pub old-extended : All Byte s → OldExtended (cut s (x .extended .from) (x .extended .to)) (x .lines) removal
+  old-extended f =
+      record {
+        bytes = part-bytes s (x .extended .from) (x .extended .to - x .extended .from) f;
+        short = omega (arith, short, cut-long (t .at .segments), t .at .segments .within);
+        rising = t .rising;
+        few = few;
+        value = viewAt (t .value) (t .place) .segments;
+        reads = t .at .segments .value;
+        right = t .right;
       }

@@ -11,7 +11,7 @@ use lib.Dec.{T}
 use Rattle.bits.specs.Choice.{pick}
 use Rattle.format.specs.View.{View}
 use Rattle.format.specs.Places.{count}
-use Rattle.orders.specs.Act.{Word, lists, indexed?, near, insert, delete, change, newLists, newLines, after}
+use Rattle.orders.specs.Act.{Word, lists, indexed?, near, insert, delete, change, newLists, newLines, newSegments, after}
 use Rattle.orders.specs.Order.{Pass, tests}
 use Rattle.orders.specs.Called.{pairAct, wordAct}
 use Rattle.orders.specs.History.{about, said}
@@ -35,6 +35,13 @@ module _ (w : Word) where
   word-lines v = go (w .joins)
     where
       go : (j : Bool) → newLines (pairAct j (w .one) (w .other)) v ≡ v .lines
+      go true = refl
+      go false = refl
+
+  word-segments : (v : View) → newSegments (wordAct w) v ≡ v .segments
+  word-segments v = go (w .joins)
+    where
+      go : (j : Bool) → newSegments (pairAct j (w .one) (w .other)) v ≡ v .segments
       go true = refl
       go false = refl
 
@@ -71,7 +78,7 @@ head-words (w ∷ hs) v = head-after (wordAct w) (viewAfter hs v) ∙ head-words
 
 pub segments-words : (hs : List Word) (v : View) → viewAfter hs v .segments ≡ v .segments
 segments-words [] v = refl
-segments-words (w ∷ hs) v = segments-after (wordAct w) (viewAfter hs v) ∙ segments-words hs v
+segments-words (w ∷ hs) v = segments-after (wordAct w) (viewAfter hs v) ∙ word-segments w (viewAfter hs v) ∙ segments-words hs v
 
 pub lines-words : (hs : List Word) (v : View) → viewAfter hs v .lines ≡ v .lines
 lines-words [] v = refl

@@ -28,6 +28,7 @@ use Rattle.order_words.specs.After.{heardIn, recordAfter}
 use Rattle.order_words.specs.Looked.{OneThere, OneWord}
 use Rattle.order_words.proofs.Laws.Shape.{shaped}
 use Rattle.order_record.specs.Rebuilt.{newRecord, Placed}
+use Rattle.order_record.proofs.Laws.Extended.{all-fit}
 use Rattle.order_record.proofs.Laws.Acts.{record-worded}
 use Rattle.order_view.specs.Named.{Named}
 use Rattle.order_carry.specs.Carried.{heldTo, CarriedOut}
@@ -57,7 +58,7 @@ module _ {s : List ℕ} {x : Site} {list : List ℕ} (t : PairsThere s x list) w
         is = λ view n F.
             let S = shaped list (t .shape) in
             let z : newRecord [] list (F .place) (F .value) ≡ recordAfter (F .place) (heardIn list) (F .value) =
-            record-worded (F .place) list (F .value) (F .at .there) (right F) (A .passed view n F) (omega (arith, S .whole, S .some)) in
+            record-worded (F .place) list (F .value) (F .at .there) (all-fit _ (F .at .segments .value)) (right F) (A .passed view n F) (omega (arith, S .whole, S .some)) in
             let h = C .is (F .value) (F .place) (F .reads) (F .at) (λ l. rw z (A .allowed view n F (rw z at l))) in
             subst (λ (u : Outcome ℕ). Answers u before after a) (ap (heldTo last (length before)) z ∙ sym (A .is view n F)) h;
       }

@@ -17,6 +17,7 @@ use Rattle.format.specs.Limits.{mostLines, mostBytes}
 use Rattle.format.specs.Line.{Line, line, skeleton}
 use Rattle.format.specs.Differences.{Falls}
 use Rattle.format.specs.Index.{Index, FitsList, FitsIndex, up, index, indexBlock}
+use Rattle.format.specs.Segments.{segment, segments}
 use Rattle.format.specs.View.{View, view, viewHeader}
 use Rattle.format.specs.Record.{Record, tellSeen, Allowed}
 use Rattle.format.specs.declared.Widths.{Widths}
@@ -27,10 +28,11 @@ use Rattle.format.specs.Named.{placeIn, Means}
 use Rattle.format.specs.declared.ViewName.{ViewName}
 use Rattle.orders.specs.Survive.{survivors}
 use Rattle.orders.specs.Least.{indexOf}
-use Rattle.orders.specs.Act.{Act, remove, join, part, lists, newLines, after}
+use Rattle.orders.specs.Act.{Act, remove, join, part, lists, newLines, newSegments, after}
 use Rattle.orders.specs.Order.{Order, edited, tests, Pass, Accepted}
 use Rattle.orders.proofs.Laws.Survive.{survivors-le, survivors-below}
 use Rattle.orders.proofs.Laws.Near.{head-after, segments-after, lines-after, index-after}
+use Rattle.orders.proofs.Laws.Pores.{segments-fit}
 use Rattle.orders.proofs.Laws.Least.{least-fits}
 use Rattle.orders.proofs.Laws.Right.{RightLists, Right, after-right}
 
@@ -67,6 +69,12 @@ lines-keep c n (remove rs) v h =
 lines-keep c n (join a b) v h = h
 lines-keep c n (part a b) v h = h
 
+new-segments : (a : Act) (v : View) → segments .Fits (v .segments) → segments .Fits (newSegments a v)
+unfolding segments segment
+new-segments (remove rs) v f = segments-fit (count v) rs (v .segments) f
+new-segments (join a b) v f = f
+new-segments (part a b) v f = f
+
 -- ---- a view
 
 view-right : (w : Widths) (seen : List ℕ) (v : View) → view w seen .Fits v → Right v
@@ -81,7 +89,7 @@ view-keep w a v p seen f small =
     let m : ManyFits (line w) mostLines (u .lines) = rw (lines-after a v) (lines-keep (line w) mostLines a v (f .0 .1)) in
     let r : Right u = after-right a v p (view-right w seen v f) in
     let i : indexBlock (count u) .Fits (u .index) = rw (index-after a v) (right-index (count u) (lists u) (m .most) r) in
-    (((rw (head-after a v) (f .0 .0 .0), omega (arith, z)), m), ((omega (arith, z), i), rw (segments-after a v) (f .1 .1)))
+    (((rw (head-after a v) (f .0 .0 .0), omega (arith, z)), m), ((omega (arith, z), i), (omega (arith, z), rw (segments-after a v) (new-segments a v (f .1 .1 .1)))))
 
 -- ---- the record
 

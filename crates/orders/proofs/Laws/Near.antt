@@ -10,7 +10,7 @@ use lib.ListN.{length, getD}
 use lib.Dec.{eqb, ltb, eqb→eq}
 use lib.Seq.{getD-set-same, getD-set-other}
 use mir.Facts.{eqb-no}
-use Rattle.bits.specs.Choice.{pick}
+use Rattle.bits.specs.Choice.{pick, some?}
 use Rattle.bits.specs.ChoiceLaws.{pick-case, eqb-true, eqb-false, eq-split}
 use Rattle.bits.specs.ListsLaws.{map-at, mapped}
 use Rattle.format.specs.Index.{Index}
@@ -18,7 +18,7 @@ use Rattle.format.specs.View.{View}
 use Rattle.format.specs.Places.{count}
 use Rattle.orders.specs.Survive.{elem, at, survivors, renumber, RisesFrom}
 use Rattle.orders.specs.Least.{leastWidth, indexOf}
-use Rattle.orders.specs.Act.{Act, remove, join, part, lists, some?, indexed?, listAt, near, insert, delete, change, newLists, newLines, after}
+use Rattle.orders.specs.Act.{Act, remove, join, part, lists, indexed?, listAt, near, insert, delete, change, newLists, newLines, newSegments, after}
 use Rattle.orders.specs.History.{about}
 use Rattle.orders.proofs.Laws.Survive.{at-ends, renumber-elem, survivors-rise}
 
@@ -28,7 +28,7 @@ pub head-after : (a : Act) (v : View) → after a v .head ≡ v .head
 unfolding after
 head-after a v = refl
 
-pub segments-after : (a : Act) (v : View) → after a v .segments ≡ v .segments
+pub segments-after : (a : Act) (v : View) → after a v .segments ≡ newSegments a v
 unfolding after
 segments-after a v = refl
 

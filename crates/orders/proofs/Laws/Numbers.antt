@@ -12,7 +12,7 @@ use Rattle.bits.specs.Choice.{within}
 use Rattle.bits.specs.ChoiceLaws.{pick-case}
 use Rattle.bits.specs.Lists.{All}
 use Rattle.bits.specs.ListsLaws.{all-append}
-use Rattle.outcome.specs.Refusals.{noView, otherCount, badLines, extended, noIndex, alreadySo, tooLong, noRoom}
+use Rattle.outcome.specs.Refusals.{noView, otherCount, badLines, extended, noIndex, alreadySo, tooLong, noRoom, badPores}
 use Rattle.outcome.specs.Numbers.{among, Gives, removalNumbers, pairNumbers}
 use Rattle.outcome.specs.Outcome.{Answers}
 use Rattle.outcome.specs.declared.Answer.{Answer}
@@ -39,7 +39,7 @@ TestsBy a = All (λ t. T (among (numbersOf a) (t .1)))
 
 tests-by : (a : Act) (v : View) → TestsBy a (tests a v)
 unfolding tests
-tests-by (remove rs) v = (tt, (tt, tt))
+tests-by (remove rs) v = (tt, (tt, (tt, tt)))
 tests-by (join a b) v = (tt, (tt, (tt, tt)))
 tests-by (part a b) v = (tt, (tt, (tt, tt)))
 
@@ -65,30 +65,30 @@ pub first-of : (P : ℕ → Type 0) (ts : List (Bool × ℕ)) → All (λ t. P (
 first-of P [] h n = absurd (n refl)
 first-of P (t ∷ ts) h n = pick-case (λ (x : ℕ). x ≢ 0 → P x) (t .0) _ _ (λ u. first-of P ts (h .1)) (λ u _. h .0) n
 
--- what is so of 14 to 19 is so of an order's own numbers
-own-numbers : (P : ℕ → Type 0) → P otherCount → P badLines → P extended → P noIndex → P alreadySo → P tooLong
+-- what is so of 14 to 19 and of 26 is so of an order's own numbers
+own-numbers : (P : ℕ → Type 0) → P otherCount → P badLines → P extended → P badPores → P noIndex → P alreadySo → P tooLong
     → (o : Order) (i : ℕ) (r : Record) → verdict o i r ≢ 0 → P (verdict o i r)
 unfolding verdict allTests tests
-own-numbers P count lines segments index so long o i r =
+own-numbers P count lines segments pores index so long o i r =
     first-of P (allTests o i r) (count, all-append (λ t. P (t .1)) (tests (o .act) v) _ (own (o .act)) (long, tt))
   where
     v : View
     v = viewAt r i
 
     own : (a : Act) → All (λ t. P (t .1)) (tests a v)
-    own (remove rs) = (lines, (segments, tt))
+    own (remove rs) = (lines, (segments, (pores, tt)))
     own (join a b) = (index, (lines, (so, tt)))
     own (part a b) = (index, (lines, (so, tt)))
 
 -- they are above 12
 pub verdict-above : (o : Order) (i : ℕ) (r : Record) → verdict o i r ≢ 0 → T (not (within 2 12 (verdict o i r)))
-verdict-above = own-numbers (λ e. T (not (within 2 12 e))) tt tt tt tt tt tt
+verdict-above = own-numbers (λ e. T (not (within 2 12 e))) tt tt tt tt tt tt tt
 
 -- nor is one 13
 pub ordered-other : (o : Order) (i : ℕ) (r : Record) → Other (ordered o i r)
 ordered-other o i r =
     pick-case Other (eqb (verdict o i r) 0) _ _ (λ t. tt)
-    (λ t. own-numbers (λ e. e ≢ noView) (omega arith) (omega arith) (omega arith) (omega arith) (omega arith) (omega arith) o i r (eqb-no t))
+    (λ t. own-numbers (λ e. e ≢ noView) (omega arith) (omega arith) (omega arith) (omega arith) (omega arith) (omega arith) (omega arith) o i r (eqb-no t))
 
 -- ---- the calls
 

@@ -22,7 +22,7 @@ use Rattle.format.specs.Record.{Record, read, write, Allowed}
 use Rattle.format.proofs.Laws.Call.{on-view, no-view}
 use Rattle.format.proofs.Laws.Size.{write-bytes}
 use Rattle.format.proofs.Laws.Record.{read-there, read-back}
-use Rattle.format.specs.Places.{count, viewAt}
+use Rattle.format.specs.Places.{count, viewAt, segmentAt}
 use Rattle.format.specs.Named.{named, nameOf, sameName, placeIn, Means}
 use Rattle.format.specs.declared.ViewName.{ViewName}
 use Rattle.format.specs.declared.ViewHeader.{ViewHeader}
@@ -30,12 +30,15 @@ use Rattle.format.proofs.Laws.Named.{same-is, is-same, here, means-name, unique
 use Rattle.orders.specs.Act.{remove}
 use Rattle.orders.specs.Order.{Order, edited, verdict, Accepted, ordered, order}
 use Rattle.orders.specs.History.{Call, outcome, nowHolds, run, History, fresh, tell, history, Follows}
-use Rattle.orders.specs.Bytes.{viewPart, viewHeaderPart, extendedPart}
+use Rattle.find_parts.specs.Finds.{segmentStored}
+use Rattle.rewrite.proofs.Laws.Record.{all-fit}
+use Rattle.pores.proofs.Laws.Keep.{kept-other, kept-pores}
+use Rattle.orders.specs.Bytes.{viewPart, viewHeaderPart, extendedPart, segmentPart}
 use Rattle.orders.specs.Kept.{historyOf, Kept}
 use Rattle.orders.proofs.Laws.Accept.{accepted, verdict-count}
 use Rattle.orders.proofs.Laws.Keep.{edited-head, edited-count, edited-here, edited-other, edited-place, edited-means, order-keeps, allowed-right}
-use Rattle.orders.proofs.Laws.Bytes.{same-front, same-fields, same-view, same-header, same-extended}
-use Rattle.orders.proofs.Laws.Story.{follows-fresh, follows-act, follows-count, removal-shortens}
+use Rattle.orders.proofs.Laws.Bytes.{segment-part, same-front, same-fields, same-view, same-header, same-segment, same-extended}
+use Rattle.orders.proofs.Laws.Story.{follows-fresh, follows-act, follows-count, segment-kept, segments-stay, removal-shortens}
 
 -- ---- one call
 
@@ -154,7 +157,7 @@ orders-follow cs bytes r h p =
     let k : All Byte now = run-bytes cs bytes r a p h in
     let d : now ≡ write x = read-back now x [] k (m .reads) .1 in
     let f : (i : ℕ) → i < length (r .views) → Follows (viewAt r i) (viewAt x i) (historyOf i cs r bytes) =
-    λ i l. m .follows i l (viewAt r i) (fresh (viewAt r i)) (follows-fresh (viewAt r i)) in
+    λ i l. m .follows i l (viewAt r i) (fresh (viewAt r i)) (follows-fresh (viewAt r i) (all-fit i r l a)) in
     record {
       bytes = k;
       last = x;
@@ -169,7 +172,14 @@ orders-follow cs bytes r h p =
       fields = ap (slice 12 24) d ∙ same-fields r x a (m .allowed) (m .head) (m .count) ∙ ap (slice 12 24) (sym e);
       spared = λ i l z. ap (viewPart x i) d ∙ same-view r x a (m .allowed) (m .head) (m .count) i l (f i l .spared z) ∙ ap (viewPart r i) (sym e);
       headers = λ i l. ap (viewHeaderPart x i) d ∙ same-header r x a (m .allowed) (m .head) (m .count) i l (f i l .head) ∙ ap (viewHeaderPart r i) (sym e);
-      extended = λ i l. ap (extendedPart x i) d ∙ same-extended r x a (m .allowed) (m .head) (m .count) i l (f i l .segments) ∙ ap (extendedPart r i) (sym e);
+      segments = λ i place l k n. let (j, g) = segment-kept (f i l) place k in
+          ap (segmentPart x i place) d
+          ∙ same-segment r x a (m .allowed) (m .head) (m .count) i l place k j (g ∙ kept-other (count (viewAt r i)) (historyOf i cs r bytes .left) (segmentAt (viewAt r i) place) n)
+          ∙ ap (segmentPart r i place) (sym e);
+      pores = λ i place l k n p y. let (j, g) = segment-kept (f i l) place k in
+          ap (segmentPart x i place) d ∙ segment-part x i (m .allowed) (omega (arith, m .count)) place j
+          ∙ ap segmentStored (g ∙ kept-pores (count (viewAt r i)) (historyOf i cs r bytes .left) (segmentAt (viewAt r i) place) n p y);
+      extended = λ i l z. ap (extendedPart x i) d ∙ same-extended r x a (m .allowed) (m .head) (m .count) i l (segments-stay (f i l) (all-fit i r l a) z) ∙ ap (extendedPart r i) (sym e);
     }
 
 -- ---- a removal comes only once
@@ -183,7 +193,7 @@ removal-refused o i rs cs r n a e b =
     let m : Runs cs x (write x) = runs-all cs (write x) x k (read-there x k) in
     let less : count (viewAt x i) < count v = rw (edited-here i (o .act) r (b .means .there), e) (removal-shortens rs v (rw e at (b .passes))) in
     let means : Means (o .view) x i = edited-means i (o .act) r (b .means) in
-    let f = m .follows i (means .there) (viewAt x i) (fresh (viewAt x i)) (follows-fresh (viewAt x i)) in
+    let f = m .follows i (means .there) (viewAt x i) (fresh (viewAt x i)) (follows-fresh (viewAt x i) (all-fit i x (means .there) k)) in
     let still : Means (o .view) (m .last) i = record { is = m .places (o .view) ∙ means .is; there = omega (arith, means .there, m .count) } in
     let other : verdict o i (m .last) ≡ otherCount = verdict-count o i (m .last) (omega (arith, follows-count _ _ _ f, b .count)) in
     outcome-is (record { order = o; lent = n }) (run cs (write x)) (m .last) (m .reads) still ∙ rw other

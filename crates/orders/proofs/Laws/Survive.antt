@@ -45,6 +45,15 @@ rises-length m n (x ∷ xs) l h f =
     let b : x < n = f 0 (omega arith) in
     omega (arith, rises-length (suc x) n xs b (h .1) (λ p k. f (suc p) (omega arith)))
 
+-- and where there are so many, each is at its place
+pub rises-all : (m n : ℕ) (xs : List ℕ) → RisesFrom m xs → ((p : ℕ) → p < length xs → at xs p < n) → m + length xs ≡ n → (q : ℕ) → q < length xs → at xs q ≡ m + q
+rises-all m n [] h f e q l = absurd (omega arith)
+rises-all m n (x ∷ xs) h f e zero l = omega (arith, h .0, rises-length (suc x) n xs (f 0 (omega arith)) (h .1) (λ p k. f (suc p) (omega arith)))
+rises-all m n (x ∷ xs) h f e (suc q) l =
+    let b : suc x + length xs ≤ n = rises-length (suc x) n xs (f 0 (omega arith)) (h .1) (λ p k. f (suc p) (omega arith)) in
+    let z : x ≡ m = omega (arith, h .0) in
+    rises-all (suc x) n xs (h .1) (λ p k. f (suc p) (omega arith)) (omega arith) q (omega arith) ∙ omega arith
+
 -- a rising list keeps order and tells places apart
 module _ (m : ℕ) (xs : List ℕ) (h : RisesFrom m xs) where
   pub rises-le : (p q : ℕ) → p ≤ q → q < length xs → at xs p ≤ at xs q
@@ -77,6 +86,14 @@ upFrom-rises i (suc n) = (omega arith, upFrom-rises (suc i) n)
 pub length-upFrom : (i n : ℕ) → length (upFrom i n) ≡ n
 length-upFrom i zero = refl
 length-upFrom i (suc n) = ap suc (length-upFrom (suc i) n)
+
+at-upFrom : (i n p : ℕ) → p < n → at (upFrom i n) p ≡ i + p
+at-upFrom i zero p h = absurd (omega arith)
+at-upFrom i (suc n) zero h = omega arith
+at-upFrom i (suc n) (suc p) h = at-upFrom (suc i) n p (omega arith) ∙ omega arith
+
+pub at-up : (n p : ℕ) → p < length (upFrom 0 n) → at (upFrom 0 n) p ≡ p
+at-up n p h = at-upFrom 0 n p (omega (arith, length-upFrom 0 n)) ∙ omega arith
 
 upFrom-below : (i n k : ℕ) → i + n ≤ k → All (λ x. x < k) (upFrom i n)
 upFrom-below i zero k h = tt

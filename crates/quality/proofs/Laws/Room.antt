@@ -6,28 +6,24 @@ use mathlib.Core.List.{List, [], _∷_}
 use lib.ListN.{length, length-append}
 use lib.Dec.{T}
 use Rattle.bits.specs.ChoiceLaws.{within-low}
-use Rattle.bits.specs.Lists.{All}
 use Rattle.bits.specs.ListsLaws.{all-true}
 use Rattle.bits.specs.Bits.{bitsOfNumber, zeros, pad}
 use Rattle.bits.specs.BitsLaws.{length-bits}
-use Rattle.bits.specs.Bytes.{Byte}
 use Rattle.bits.specs.BytesLaws.{length-in}
 use Rattle.bits.specs.CodecLaws.{encAll, field}
 use Rattle.outcome.specs.Refusals.{badQuality}
 use Rattle.outcome.specs.Outcome.{given}
-use Rattle.format.specs.Segments.{Segment}
-use Rattle.format.specs.Places.{viewAt, imageOf, segmentAt}
+use Rattle.format.specs.Places.{imageOf}
 use Rattle.format.specs.declared.Image.{Image}
 use Rattle.format.specs.declared.ViewName.{ViewName}
 use Rattle.format.proofs.Laws.Record.{read-is}
-use Rattle.format.proofs.Laws.Call.{given-segment}
-use Rattle.rewrite.proofs.Laws.Record.{segment-fits}
+use Rattle.rewrite.specs.Accepted.{itsView}
 use Rattle.rewrite.proofs.Laws.Bytes.{rewritten-size}
+use Rattle.rewrite.proofs.Laws.Payload.{read-given}
 use Rattle.quality.specs.Parts.{valuesRight}
 use Rattle.quality.specs.PartsLaws.{tests}
-use Rattle.quality.specs.Payload.{values, qualityBlock}
-use Rattle.quality.specs.Quality.{qualityIn, quality, payloadFor}
-use Rattle.quality.proofs.Laws.Both.{payload-back, quality-given}
+use Rattle.quality.specs.Payload.{values, qualityBlock, payloadFor}
+use Rattle.quality.specs.Quality.{qualityFormat, quality}
 
 -- a cell has a bit at least
 cells-long : (e b : ℕ) (vs : List ℕ) → 1 ≤ b → length vs ≤ length (encAll (field e b) vs)
@@ -44,13 +40,8 @@ payload-room image (width ∷ height ∷ bits ∷ vs) t =
     omega (arith, n, m, length-in (qualityBlock image .enc (width ∷ height ∷ bits ∷ vs)), qualityBlock image .bytes (width ∷ height ∷ bits ∷ vs), length-append s (zeros (pad (length s))))
 
 -- a payload is no longer than its record
-pub quality-room : (view : ViewName) (place : ℕ) (bytes vs : List ℕ) → All Byte bytes → quality view place bytes ≡ given vs → length vs ≤ 8 * length bytes
-unfolding quality
-quality-room view place bytes vs b h =
-    given-segment view place (qualityIn place) bytes vs h λ r rest i e m k g.
-    let image : Image = imageOf (viewAt r i) in
-    let old : Segment = segmentAt (viewAt r i) place in
-    let (a, n, _, _) = read-is bytes r rest e in
-    let (_, (u, d)) = quality-given image old vs g in
-    let (right, p) = payload-back image (old .payload) vs u (segment-fits i place r (m .there) k a .payload) d in
-    omega (arith, payload-room image vs right, ap length p, n, rewritten-size i place [] r (m .there) k)
+pub quality-room : (view : ViewName) (place : ℕ) (bytes vs : List ℕ) → quality view place bytes ≡ given vs → length vs ≤ 8 * length bytes
+quality-room view place bytes vs h =
+    read-given qualityFormat view place bytes vs h λ t us k right p e.
+    let (_, n, _, _) = read-is bytes (t .value) [] (t .reads) in
+    omega (arith, payload-room (imageOf (itsView t)) us right, ap length p, ap length e, n, rewritten-size (t .i) place [] (t .value) (t .means .there) (t .there))

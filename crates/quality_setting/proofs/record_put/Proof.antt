@@ -1,8 +1,8 @@
 -- Made by tools/proof fill from answers/record_put.ans: change it there.
 -- Its parts, one behind the other.
 use native.Mathlib.Omega.{arith}
-use Rattle.rewrite_put.proofs.Laws.{room-behind, front-end}
-use Rattle.quality_setting.proofs.Laws.{front-room, in-all, payload-end, tail-long, put-room, tail-fits, all-put}
+use Rattle.rewrite_put.proofs.Laws.Front.{room-behind, front-end, in-all, tail-long}
+use Rattle.quality_setting.proofs.Laws.{front-room, payload-end, put-room, tail-room, record-put}
 use borrow.Author.Needs.{needs}
 use Rattle.quality_setting.proofs.record_put.Statement.{statement}
 use Rattle.quality_setting.proofs.record_put.Tie as tie
@@ -13,37 +13,37 @@ front-put-requires c κs =
 
 sub-put-payload : tie.Need-sub-put-payload
 sub-put-payload c =
-    let t = c .before .before .before .before .before .before .before .pre in omega (arith, t .room, in-all t, front-end (front-room t) (c .before .before .front-put .ensures))
+    let t = c .before .before .before .before .before .before .before .pre in omega (arith, t .room, in-all (front-room t), front-end (front-room t) (c .before .before .front-put .ensures))
 
 part-put-payload-start : tie.Need-part-put-payload-start
 part-put-payload-start c =
-    let t = c .before .before .before .before .before .before .before .pre in omega (arith, t .room, in-all t, front-end (front-room t) (c .before .before .front-put .ensures))
+    let t = c .before .before .before .before .before .before .before .pre in omega (arith, t .room, in-all (front-room t), front-end (front-room t) (c .before .before .front-put .ensures))
 
 part-put-payload-end : tie.Need-part-put-payload-end
 part-put-payload-end c =
-    let t = c .before .before .before .before .before .before .before .pre in omega (arith, t .room, in-all t, front-end (front-room t) (c .before .before .front-put .ensures))
+    let t = c .before .before .before .before .before .before .before .pre in omega (arith, t .room, in-all (front-room t), front-end (front-room t) (c .before .before .front-put .ensures))
 
 put-payload-requires : tie.Need-put-payload-requires
 put-payload-requires c κs =
     let t = c .before .before .before .before .before .before .before .before .pre in
     let f = c .before .before .before .front-put .ensures in
-    put-room t (room-behind (c .before .before .before .before .before .before .before .before .args .size) f (omega (arith, t .room, in-all t, front-end (front-room t) f)))
+    put-room t (room-behind (c .before .before .before .before .before .before .before .before .args .size) f (omega (arith, t .room, in-all (front-room t), front-end (front-room t) f)))
 
 add-at : tie.Need-add-at
 add-at c =
-    let t = c .before .before .before .before .before .before .before .before .before .before .before .pre in omega (arith, t .room, t .small, in-all t, front-end (front-room t) (c .before .before .before .before .before .before .front-put .ensures), payload-end t (c .before .before .put-payload .ensures))
+    let t = c .before .before .before .before .before .before .before .before .before .before .before .pre in omega (arith, t .room, t .small, in-all (front-room t), front-end (front-room t) (c .before .before .before .before .before .before .front-put .ensures), payload-end t (c .before .before .put-payload .ensures))
 
 sub-copy : tie.Need-sub-copy
 sub-copy c =
-    let t = c .before .before .before .before .before .before .before .before .before .before .before .pre in omega (arith, t .room, t .small, in-all t, front-end (front-room t) (c .before .before .before .before .before .before .front-put .ensures), payload-end t (c .before .before .put-payload .ensures))
+    let t = c .before .before .before .before .before .before .before .before .before .before .before .pre in omega (arith, t .room, t .small, in-all (front-room t), front-end (front-room t) (c .before .before .before .before .before .before .front-put .ensures), payload-end t (c .before .before .put-payload .ensures))
 
 part-copy-start : tie.Need-part-copy-start
 part-copy-start c =
-    let t = c .before .before .before .before .before .before .before .before .before .before .before .pre in omega (arith, t .room, t .small, in-all t, front-end (front-room t) (c .before .before .before .before .before .before .front-put .ensures), payload-end t (c .before .before .put-payload .ensures))
+    let t = c .before .before .before .before .before .before .before .before .before .before .before .pre in omega (arith, t .room, t .small, in-all (front-room t), front-end (front-room t) (c .before .before .before .before .before .before .front-put .ensures), payload-end t (c .before .before .put-payload .ensures))
 
 part-copy-end : tie.Need-part-copy-end
 part-copy-end c =
-    let t = c .before .before .before .before .before .before .before .before .before .before .before .pre in omega (arith, t .room, t .small, in-all t, front-end (front-room t) (c .before .before .before .before .before .before .front-put .ensures), payload-end t (c .before .before .put-payload .ensures))
+    let t = c .before .before .before .before .before .before .before .before .before .before .before .pre in omega (arith, t .room, t .small, in-all (front-room t), front-end (front-room t) (c .before .before .before .before .before .before .front-put .ensures), payload-end t (c .before .before .put-payload .ensures))
 
 sub-copy-2 : tie.Need-sub-copy-2
 sub-copy-2 c =
@@ -59,18 +59,18 @@ part-copy-end-2 c =
 
 copy-requires : tie.Need-copy-requires
 copy-requires c κs =
-    tail-fits (c .before .before .before .before .before .before .before .before .before .before .before .before .before .pre) (c .before .before .before .before .before .before .before .before .front-put .ensures) (c .before .before .before .before .put-payload .ensures)
+    tail-room (c .before .before .before .before .before .before .before .before .before .before .before .before .before .pre) (c .before .before .before .before .before .before .before .before .front-put .ensures) (c .before .before .before .before .put-payload .ensures)
 
 add-at-2 : tie.Need-add-at-2
 add-at-2 c =
-    let t = c .before .before .before .before .before .before .before .before .before .before .before .before .before .before .before .before .pre in omega (arith, t .small, in-all t, front-end (front-room t) (c .before .before .before .before .before .before .before .before .before .before .before .front-put .ensures), payload-end t (c .before .before .before .before .before .before .before .put-payload .ensures), c .before .before .copy .ensures .count, tail-long t)
+    let t = c .before .before .before .before .before .before .before .before .before .before .before .before .before .before .before .before .pre in omega (arith, t .small, in-all (front-room t), front-end (front-room t) (c .before .before .before .before .before .before .before .before .before .before .before .front-put .ensures), payload-end t (c .before .before .before .before .before .before .before .put-payload .ensures), c .before .before .copy .ensures .count, tail-long (front-room t))
 
 same-length : tie.Need-same-length
 same-length c = search needs
 
 returns : tie.Need-returns
 returns c =
-    all-put (c .before .before .before .before .before .before .before .before .before .before .before .before .before .before .before .before .pre) (c .before .before .before .before .before .before .before .before .before .before .before .front-put .ensures) (c .before .before .before .before .before .before .before .put-payload .ensures) (c .before .before .copy .ensures)
+    record-put (c .before .before .before .before .before .before .before .before .before .before .before .before .before .before .before .before .pre) (c .before .before .before .before .before .before .before .before .before .before .before .front-put .ensures) (c .before .before .before .before .before .before .before .put-payload .ensures) (c .before .before .copy .ensures)
 
 pub record-put-spec : {M : Type 1} → statement M
 record-put-spec =

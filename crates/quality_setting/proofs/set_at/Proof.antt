@@ -5,7 +5,7 @@ use mathlib.Core.Path.{subst}
 use Rattle.bits.specs.Lists.{All}
 use Rattle.bits.specs.Bytes.{Byte}
 use Rattle.bits.proofs.Laws.Place.{all-bytes}
-use Rattle.rewrite_put.proofs.Laws.{spot-in}
+use Rattle.rewrite_put.proofs.Laws.Front.{spot-in}
 use Rattle.quality_payload.specs.Payload.{RightValues, ValuesJudged}
 use Rattle.quality_payload.specs.declared.JudgedValues.{JudgedValues}
 use Rattle.quality_setting.proofs.Laws.{few, image-small, other-type, broken, too-long, no-room, put}
@@ -41,7 +41,7 @@ refuse-requires-2 c κs = search needs
 
 returns-2 : tie.Need-returns-2
 returns-2 c =
-    rw (c .refuse2 .ensures) (broken (c .before .before .before .before .before .before .before .before .before .args .values .now) (c .before .before .before .before .before .before .before .before .before .args .out .now) (subst (λ (r : JudgedValues). ValuesJudged (c .before .before .before .before .before .before .before .before .before .args .spot .image) (c .before .before .before .before .before .before .before .before .before .args .values .now) r) (c .before .enum-told .given .1) (c .before .before .before .judge-values .ensures)))
+    rw (c .refuse2 .ensures) (broken (c .before .before .before .before .before .before .before .before .before .args .values .now) (c .before .before .before .before .before .before .before .before .before .args .out .now) (c .before .before .before .before .if1 .left) (subst (λ (r : JudgedValues). ValuesJudged (c .before .before .before .before .before .before .before .before .before .args .spot .image) (c .before .before .before .before .before .before .before .before .before .args .values .now) r) (c .before .enum-told .given .1) (c .before .before .before .judge-values .ensures)))
 
 payload-size-requires : tie.Need-payload-size-requires
 payload-size-requires c κs =

@@ -3,6 +3,7 @@
 use mathlib.Core.Path.{_≡_, sym, ap, ap₂, _∙_}
 use Prim.Native.Nat.{ℕ, _+_, _*_, _/_}
 use native.Mathlib.Omega.{arith}
+use mathlib.Core.Option.{none}
 use mathlib.Core.List.{List, _∷_, _++_}
 use lib.ListN.{length, take, drop, length-drop, take-append-drop}
 use lib.Seq.{length-take-le, take-all, drop-at, drop-drop}
@@ -10,19 +11,16 @@ use lib.Dec.{T, leb}
 use Rattle.bits.specs.Lists.{All}
 use Rattle.bits.specs.Bits.{Bits, numberOfBits, bitsOfNumber, zeros, pad}
 use Rattle.bits.specs.Bytes.{Byte, bitsOf}
-use Rattle.bits.specs.Codec.{fieldDec}
+use Rattle.bits.specs.Codec.{fieldDec, valueOf}
 use Rattle.bits.specs.CodecLaws.{pick-got}
+use Rattle.bits.specs.BlockBytes.{value-none}
 use Rattle.bits.specs.Reads.{found, Reads}
 use Rattle.bits.proofs.Laws.Reads.{length-rest}
-use Rattle.outcome.specs.Refusals.{badQuality}
-use Rattle.outcome.specs.Outcome.{refused}
 use Rattle.format.specs.declared.Image.{Image}
 use Rattle.put_bits.proofs.Bytes.{number-zeros}
 use Rattle.quality.specs.Parts.{valuesRight}
 use Rattle.quality.specs.PartsLaws.{values-small}
 use Rattle.quality.specs.Payload.{values, qualityBlock}
-use Rattle.quality.specs.Quality.{valuesRead}
-use Rattle.quality.proofs.Laws.Broken.{no-values}
 use Rattle.quality_cells.specs.declared.Grid.{Grid}
 use Rattle.quality_cells.specs.Grid.{Started, NoStart}
 use Rattle.quality_cells.proofs.Laws.Written.{cellBits, cells-long, payload-is, cells-right}
@@ -33,14 +31,14 @@ use Rattle.quality_values.proofs.Laws.Valued.{whole, behind-three, same
 -- ---- no values
 
 none-written : (image : Image) (s : List ℕ) → ((vs : List ℕ) → T (valuesRight image vs) → bitsOf s ≡ qualityBlock image .enc vs → ⊥)
-    → valuesRead (qualityBlock image .dec (bitsOf s)) ≡ refused badQuality 0
-none-written image s f = no-values (qualityBlock image .dec (bitsOf s)) λ vs r p. let (t, e) = decoded image s vs r p in f vs t e
+    → valueOf (qualityBlock image .dec (bitsOf s)) ≡ none
+none-written image s f = value-none (qualityBlock image .dec (bitsOf s)) λ vs r p. let (t, e) = decoded image s vs r p in f vs t e
 
-pub broken-start : (image : Image) {s : List ℕ} → NoStart s → All Byte s → valuesRead (qualityBlock image .dec (bitsOf s)) ≡ refused badQuality 0
+pub broken-start : (image : Image) {s : List ℕ} → NoStart s → All Byte s → valueOf (qualityBlock image .dec (bitsOf s)) ≡ none
 broken-start image {s} h a = none-written image s λ vs t e. h .is image vs t (same-start image vs s a t e)
 
 module _ {image : Image} {s : List ℕ} {g : Grid} (h : Started image s g) where
-  pub other-size : All Byte s → (length s ≡ 3 + (g .cells * g .bits + 7) / 8 → ⊥) → valuesRead (qualityBlock image .dec (bitsOf s)) ≡ refused badQuality 0
+  pub other-size : All Byte s → (length s ≡ 3 + (g .cells * g .bits + 7) / 8 → ⊥) → valueOf (qualityBlock image .dec (bitsOf s)) ≡ none
   other-size a f = none-written image s λ vs t e. f (valued h a vs t e .size)
 
   -- ---- the filling is n bits and has the number v
@@ -67,7 +65,7 @@ module _ {image : Image} {s : List ℕ} {g : Grid} (h : Started image s g) where
     filling-few : n ≡ pad (24 + g .cells * g .bits)
     filling-few = omega arith
 
-    pub other-filling : All Byte s → (v ≡ 0 → ⊥) → valuesRead (qualityBlock image .dec (bitsOf s)) ≡ refused badQuality 0
+    pub other-filling : All Byte s → (v ≡ 0 → ⊥) → valueOf (qualityBlock image .dec (bitsOf s)) ≡ none
     other-filling a f =
         none-written image s λ vs t z.
         let W = valued h a vs t z in

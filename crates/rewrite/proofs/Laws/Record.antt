@@ -1,6 +1,6 @@
 -- A record with one payload rewritten is allowed, where it is not too long; the segment has the new payload and the type that it had;
 -- and rewriting a payload with itself changes nothing.
-use mathlib.Core.Path.{_≡_, refl, ap, _∙_}
+use mathlib.Core.Path.{_≡_, refl, sym, ap, _∙_}
 use Prim.Native.Nat.{ℕ, zero, suc, _≤_, _<_}
 use native.Mathlib.Omega.{arith}
 use mathlib.Core.List.{List, [], _∷_}
@@ -49,6 +49,10 @@ module _ (w : Widths) (v : View) (place : ℕ) (payload : List ℕ) (l : place <
 
 -- ---- the record
 
+-- what is refused is not given
+pub not-given : {X : Type 0} {e p : ℕ} {xs : List ℕ} → refused e p ≡ given xs → X
+not-given h = let z : _≡_ {A = ℕ} 0 1 = cc in absurd (omega arith)
+
 -- an allowed record's segments fit
 pub all-fit : (i : ℕ) (r : Record) → i < length (r .views) → Allowed r → All FitsSegment (viewAt r i .segments)
 unfolding view segment segments
@@ -93,8 +97,7 @@ module _ (i place : ℕ) (payload : List ℕ) (r : Record) where
       → (size (rewritten i place payload r) ≤ mostBytes) × (new ≡ write (rewritten i place payload r))
   unfolding rewriting
   rewriting-given new h =
-      pick-split (leb (size (rewritten i place payload r)) mostBytes) _ _ h (λ t e. (leb→le _ mostBytes t, cc))
-      (λ t e. let z : _≡_ {A = ℕ} 0 1 = cc in absurd (omega arith))
+      pick-split (leb (size (rewritten i place payload r)) mostBytes) _ _ h (λ t e. (leb→le _ mostBytes t, cc)) (λ t e. not-given e)
 
   pub given-rewriting : size (rewritten i place payload r) ≤ mostBytes → rewriting i place payload r ≡ given (write (rewritten i place payload r))
   unfolding rewriting
@@ -103,6 +106,11 @@ module _ (i place : ℕ) (payload : List ℕ) (r : Record) where
   pub rewriting-long : mostBytes < size (rewritten i place payload r) → rewriting i place payload r ≡ refused tooLong 0
   unfolding rewriting
   rewriting-long l = pick-no (leb (size (rewritten i place payload r)) mostBytes) _ _ (no-leb l)
+
+  -- 19 is the only refusal
+  pub rewriting-refused : {e p : ℕ} → rewriting i place payload r ≡ refused e p → e ≡ tooLong
+  unfolding rewriting
+  rewriting-refused h = pick-split (leb (size (rewritten i place payload r)) mostBytes) _ _ h (λ t y. not-given (sym y)) (λ t y. cc)
 
 -- the payload that is there already
 pub rewritten-same : (i place : ℕ) (r : Record) → rewritten i place (segmentAt (viewAt r i) place .payload) r ≡ r

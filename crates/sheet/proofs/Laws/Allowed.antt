@@ -15,6 +15,7 @@ use Rattle.bits.specs.ListsLaws.{all-true, true-all, every-yes, all-append, all
 use Rattle.bits.specs.Bytes.{Byte, inBytes}
 use Rattle.bits.specs.Block.{Block}
 use Rattle.bits.specs.CodecLaws.{encAll, encAlong}
+use Rattle.bits.specs.BlockBytes.{value-bytes}
 use Rattle.format.specs.Limits.{mostLines, mostBytes}
 use Rattle.format.specs.Line.{FitsLine, line, skeleton}
 use Rattle.format.specs.DifferencesLaws.{falls-count}
@@ -30,7 +31,7 @@ use Rattle.sheet.specs.Grammar.{one, indexFields, bodyFields, viewsField
 use Rattle.sheet.specs.Values.{headerValue, viewHeadValue, lineValue, widthValue, listValue, segmentValue}
 use Rattle.sheet.specs.Sheet.{alike, eachEnc, rawIndex, rawView, rawViews, rawOf}
 use Rattle.sheet.proofs.Laws.Each.{each-make, length-each}
-use Rattle.sheet.proofs.Laws.Lengths.{value-bytes, length-header, length-viewHead, length-line, length-width, length-list, length-segment}
+use Rattle.sheet.proofs.Laws.Lengths.{length-header, length-viewHead, length-line, length-width, length-list, length-segment}
 use Rattle.sheet.proofs.Laws.Values.{RightView, RightValues}
 use Rattle.sheet.proofs.Laws.Fits.{lineShape, lines-value, lines-shape, lines-fit, index-value, index-fits, index-shape}
 

@@ -1,29 +1,16 @@
 -- Values read each by its block: what is written is read, and what is read was written.
-use mathlib.Core.Path.{_≡_, refl, ap, ap₂, _∙_}
+use mathlib.Core.Path.{_≡_, refl, ap, ap₂}
 use Prim.Native.Nat.{ℕ, suc}
-use native.Mathlib.Omega.{arith}
 use mathlib.Core.List.{List, [], _∷_}
 use lib.ListN.{length}
 use Rattle.bits.specs.Lists.{All, Along}
 use Rattle.bits.specs.Bits.{Bits}
 use Rattle.bits.specs.Bytes.{Byte, bitsOf, inBytes}
-use Rattle.bits.specs.BytesLaws.{length-bitsOf, bits-in, in-bits}
 use Rattle.bits.specs.Codec.{got}
 use Rattle.bits.specs.CodecLaws.{next-got}
 use Rattle.bits.specs.Block.{Block}
+use Rattle.bits.specs.BlockBytes.{value-there, value-back}
 use Rattle.sheet.specs.Sheet.{eachEnc, eachDec}
-
--- ---- one value
-
-pub value-there : {A : Type 0} (b : Block A) (a : A) → b .Fits a → b .dec (bitsOf (inBytes (b .enc a))) ≡ got a []
-value-there b a h = rw (bits-in (b .enc a) (b .bytes a)) (b .there a h)
-
-pub value-back : {A : Type 0} (b : Block A) (v : List ℕ) (a : A) (r : Bits) → All Byte v → b .dec (bitsOf v) ≡ got a r → b .Fits a × (v ≡ inBytes (b .enc a))
-value-back b v a r h p =
-    let (f, e) = b .back (bitsOf v) a (omega (arith, length-bitsOf v)) (p ∙ ap (got a) (b .all (bitsOf v) a r p)) in
-    (f, rw (← e) (rw (in-bits v h)))
-
--- ---- many
 
 module _ {A I : Type 0} (b : I → Block A) (m : I → A → I) where
   pub each-there : (i : I) (xs : List A) → Along m (λ j x. b j .Fits x) i xs → eachDec b m i (eachEnc b m i xs) ≡ got xs []

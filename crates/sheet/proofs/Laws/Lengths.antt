@@ -1,17 +1,15 @@
 -- How long the values of a sheet are, in bytes.
 use mathlib.Core.Path.{_≡_, _∙_}
-use Prim.Native.Nat.{ℕ, _+_, _*_, _/_}
+use Prim.Native.Nat.{ℕ, _+_, _*_}
 use native.Mathlib.Omega.{arith}
 use mathlib.Core.Bool.{Bool}
 use mathlib.Core.List.{List, [], _∷_}
 use lib.ListN.{length, length-append, length-replicate}
-use Rattle.bits.specs.Lists.{All}
 use Rattle.bits.specs.BitsLaws.{length-bits}
-use Rattle.bits.specs.Bytes.{Byte, inBytes}
-use Rattle.bits.specs.BytesLaws.{length-in, bytes-are}
+use Rattle.bits.specs.Bytes.{inBytes}
+use Rattle.bits.specs.BytesLaws.{length-in}
 use Rattle.bits.specs.Codec.{Codec}
 use Rattle.bits.specs.CodecLaws.{encAll, field}
-use Rattle.bits.specs.Block.{Block}
 use Rattle.outcome.specs.Refusals.{badValue}
 use Rattle.format.specs.Line.{Line}
 use Rattle.format.specs.Segments.{Segment, length-bytes}
@@ -19,10 +17,6 @@ use Rattle.format.specs.declared.Widths.{Widths}
 use Rattle.format.specs.declared.Header.{Header}
 use Rattle.format.specs.declared.ViewHeader.{ViewHeader}
 use Rattle.sheet.specs.Values.{headerValue, viewHeadValue, codeValue, lineValue, widthValue, listValue, segmentValue}
-
--- a written value is bytes
-pub value-bytes : {A : Type 0} (b : Block A) (a : A) → All Byte (inBytes (b .enc a))
-value-bytes b a = bytes-are (length (b .enc a) / 8) (b .enc a) (omega (arith, b .bytes a))
 
 -- values of w bits each
 pub length-all : {A : Type 0} (c : Codec Bool A) (w : ℕ) → ((a : A) → length (c .enc a) ≡ w) → (xs : List A) → length (encAll c xs) ≡ w * length xs

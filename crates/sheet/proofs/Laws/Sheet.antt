@@ -12,13 +12,13 @@ use Rattle.bits.specs.Bits.{Bits}
 use Rattle.bits.specs.Bytes.{Byte, bitsOf, inBytes}
 use Rattle.bits.specs.Codec.{Read, got, refused}
 use Rattle.bits.specs.CodecLaws.{not-got, next-got, pick-got}
+use Rattle.bits.specs.BlockBytes.{value-there, value-back}
 use Rattle.outcome.specs.Refusals.{badSheet, tooLong}
 use Rattle.format.specs.Limits.{mostBytes}
 use Rattle.format.specs.Record.{Record, Allowed, size}
 use Rattle.sheet.specs.Fields.{Field, FitsField, tagged, fields}
 use Rattle.sheet.specs.Grammar.{sheetFields, sheetIn, grammar}
 use Rattle.sheet.specs.Sheet.{rawOf, sheetOf, recordFrom, readSheet}
-use Rattle.sheet.proofs.Laws.Each.{value-there, value-back}
 use Rattle.sheet.proofs.Laws.Grammar.{sheet-there, grammar-there, grammar-back}
 use Rattle.sheet.proofs.Laws.Values.{values-there, values-back}
 use Rattle.sheet.proofs.Laws.Allowed.{record-right, record-shape, record-fields, record-allowed}

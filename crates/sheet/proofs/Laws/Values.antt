@@ -9,6 +9,7 @@ use Rattle.bits.specs.Bits.{Bits}
 use Rattle.bits.specs.Bytes.{Byte, bitsOf}
 use Rattle.bits.specs.Codec.{got}
 use Rattle.bits.specs.CodecLaws.{next-got}
+use Rattle.bits.specs.BlockBytes.{value-there, value-back}
 use Rattle.format.specs.Index.{Index, up}
 use Rattle.format.specs.View.{View, occurs}
 use Rattle.format.specs.Record.{Record, tellSeen}
@@ -17,7 +18,7 @@ use Rattle.sheet.specs.Fields.{FitsField}
 use Rattle.sheet.specs.Grammar.{RawView, RawSheet, one, indexFields, bodyFields, viewsFields, sheetFields}
 use Rattle.sheet.specs.Values.{headerValue, viewHeadValue, lineValue, widthValue, listValue, segmentValue}
 use Rattle.sheet.specs.Sheet.{alike, eachDec, rawIndex, rawView, rawViews, rawOf, indexFrom, viewFrom, viewsFrom, recordFrom}
-use Rattle.sheet.proofs.Laws.Each.{value-there, value-back, each-there, each-back}
+use Rattle.sheet.proofs.Laws.Each.{each-there, each-back}
 
 -- ---- right values
 

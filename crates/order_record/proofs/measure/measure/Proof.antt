@@ -5,8 +5,8 @@ use Rattle.bits.specs.Lists.{All}
 use Rattle.bits.specs.Bytes.{Byte}
 use Rattle.bits.proofs.Laws.Place.{all-bytes}
 use Rattle.order_record.proofs.Laws.Index.{index-small}
-use Rattle.order_record.proofs.Laws.Site.{short, old-skeleton, old-index}
-use Rattle.order_record.proofs.Laws.Sizes.{skeleton-small, measured}
+use Rattle.order_record.proofs.Laws.Site.{short, old-skeleton, old-index, old-extended}
+use Rattle.order_record.proofs.Laws.Sizes.{skeleton-small, extended-small, measured}
 use Rattle.order_record.proofs.measure.measure.Statement.{statement}
 use Rattle.order_record.proofs.measure.measure.Tie as tie
 
@@ -45,34 +45,81 @@ lists-size-requires : tie.Need-lists-size-requires
 lists-size-requires c κs =
     old-index (c .before .before .before .before .before .before .pre)
 
-add-t12 : tie.Need-add-t12
-add-t12 c =
-    let a = c .before .before .before .before .before .before .before .pre .at in
-    omega (arith, a .lines .from, a .next, a .index .from, a .last, a .segments .from, a .segments .within, short (c .before .before .before .before .before .before .before .pre), skeleton-small (c .before .before .before .before .before .before .before .pre) (bytes (c .before .before .before .before .before .before)) (c .before .before .skeleton-size .ensures), index-small (old-index (c .before .before .before .before .before .before .before .pre)) (c .lists-size .ensures))
+sub-segments-size : tie.Need-sub-segments-size
+sub-segments-size c =
+    let b = c .before .before .before .before .before .before .before .pre .at .segments in omega (arith, b .from, b .within, short (c .before .before .before .before .before .before .before .pre))
 
-add-t18 : tie.Need-add-t18
-add-t18 c =
-    let a = c .before .before .before .before .before .before .before .pre .at in
-    omega (arith, a .lines .from, a .next, a .index .from, a .last, a .segments .from, a .segments .within, short (c .before .before .before .before .before .before .before .pre), skeleton-small (c .before .before .before .before .before .before .before .pre) (bytes (c .before .before .before .before .before .before)) (c .before .before .skeleton-size .ensures), index-small (old-index (c .before .before .before .before .before .before .before .pre)) (c .lists-size .ensures))
+part-segments-size-start : tie.Need-part-segments-size-start
+part-segments-size-start c =
+    let b = c .before .before .before .before .before .before .before .pre .at .segments in omega (arith, b .from, b .within, short (c .before .before .before .before .before .before .before .pre))
 
-add-t19 : tie.Need-add-t19
-add-t19 c =
-    let a = c .before .before .before .before .before .before .before .before .pre .at in
-    omega (arith, a .lines .from, a .next, a .index .from, a .last, a .segments .from, a .segments .within, short (c .before .before .before .before .before .before .before .before .pre), skeleton-small (c .before .before .before .before .before .before .before .before .pre) (bytes (c .before .before .before .before .before .before .before)) (c .before .before .before .skeleton-size .ensures), index-small (old-index (c .before .before .before .before .before .before .before .before .pre)) (c .before .lists-size .ensures))
+part-segments-size-end : tie.Need-part-segments-size-end
+part-segments-size-end c =
+    let b = c .before .before .before .before .before .before .before .pre .at .segments in omega (arith, b .from, b .within, short (c .before .before .before .before .before .before .before .pre))
 
-sub-t21 : tie.Need-sub-t21
-sub-t21 c =
-    let a = c .before .before .before .before .before .before .before .before .pre .at in
-    omega (arith, a .lines .from, a .next, a .index .from, a .last, a .segments .from, a .segments .within, short (c .before .before .before .before .before .before .before .before .pre), skeleton-small (c .before .before .before .before .before .before .before .before .pre) (bytes (c .before .before .before .before .before .before .before)) (c .before .before .before .skeleton-size .ensures), index-small (old-index (c .before .before .before .before .before .before .before .before .pre)) (c .before .lists-size .ensures))
+segments-size-requires : tie.Need-segments-size-requires
+segments-size-requires c κs =
+    old-extended (c .before .before .before .before .before .before .before .before .pre) (bytes (c .before .before .before .before .before .before .before))
 
-add-t22 : tie.Need-add-t22
-add-t22 c =
-    let a = c .before .before .before .before .before .before .before .before .pre .at in
-    omega (arith, a .lines .from, a .next, a .index .from, a .last, a .segments .from, a .segments .within, short (c .before .before .before .before .before .before .before .before .pre), skeleton-small (c .before .before .before .before .before .before .before .before .pre) (bytes (c .before .before .before .before .before .before .before)) (c .before .before .before .skeleton-size .ensures), index-small (old-index (c .before .before .before .before .before .before .before .before .pre)) (c .before .lists-size .ensures))
+add-t15 : tie.Need-add-t15
+add-t15 c =
+    let t = c .before .before .before .before .before .before .before .before .before .pre in
+    let a = t .at in
+    let b = bytes (c .before .before .before .before .before .before .before .before) in
+    let k = c .before .before .before .before .skeleton-size .ensures in
+    omega (arith, a .lines .from, a .next, a .index .from, a .last, a .segments .from, a .segments .within, short t, skeleton-small t b k, index-small (old-index t) (c .before .before .lists-size .ensures), extended-small t b k (c .segments-size .ensures))
+
+add-t24 : tie.Need-add-t24
+add-t24 c =
+    let t = c .before .before .before .before .before .before .before .before .before .pre in
+    let a = t .at in
+    let b = bytes (c .before .before .before .before .before .before .before .before) in
+    let k = c .before .before .before .before .skeleton-size .ensures in
+    omega (arith, a .lines .from, a .next, a .index .from, a .last, a .segments .from, a .segments .within, short t, skeleton-small t b k, index-small (old-index t) (c .before .before .lists-size .ensures), extended-small t b k (c .segments-size .ensures))
+
+add-t25 : tie.Need-add-t25
+add-t25 c =
+    let t = c .before .before .before .before .before .before .before .before .before .before .pre in
+    let a = t .at in
+    let b = bytes (c .before .before .before .before .before .before .before .before .before) in
+    let k = c .before .before .before .before .before .skeleton-size .ensures in
+    omega (arith, a .lines .from, a .next, a .index .from, a .last, a .segments .from, a .segments .within, short t, skeleton-small t b k, index-small (old-index t) (c .before .before .before .lists-size .ensures), extended-small t b k (c .before .segments-size .ensures))
+
+add-t26 : tie.Need-add-t26
+add-t26 c =
+    let t = c .before .before .before .before .before .before .before .before .before .before .pre in
+    let a = t .at in
+    let b = bytes (c .before .before .before .before .before .before .before .before .before) in
+    let k = c .before .before .before .before .before .skeleton-size .ensures in
+    omega (arith, a .lines .from, a .next, a .index .from, a .last, a .segments .from, a .segments .within, short t, skeleton-small t b k, index-small (old-index t) (c .before .before .before .lists-size .ensures), extended-small t b k (c .before .segments-size .ensures))
+
+add-t27 : tie.Need-add-t27
+add-t27 c =
+    let t = c .before .before .before .before .before .before .before .before .before .before .pre in
+    let a = t .at in
+    let b = bytes (c .before .before .before .before .before .before .before .before .before) in
+    let k = c .before .before .before .before .before .skeleton-size .ensures in
+    omega (arith, a .lines .from, a .next, a .index .from, a .last, a .segments .from, a .segments .within, short t, skeleton-small t b k, index-small (old-index t) (c .before .before .before .lists-size .ensures), extended-small t b k (c .before .segments-size .ensures))
+
+sub-t29 : tie.Need-sub-t29
+sub-t29 c =
+    let t = c .before .before .before .before .before .before .before .before .before .before .pre in
+    let a = t .at in
+    let b = bytes (c .before .before .before .before .before .before .before .before .before) in
+    let k = c .before .before .before .before .before .skeleton-size .ensures in
+    omega (arith, a .lines .from, a .next, a .index .from, a .last, a .segments .from, a .segments .within, short t, skeleton-small t b k, index-small (old-index t) (c .before .before .before .lists-size .ensures), extended-small t b k (c .before .segments-size .ensures))
+
+add-t30 : tie.Need-add-t30
+add-t30 c =
+    let t = c .before .before .before .before .before .before .before .before .before .before .pre in
+    let a = t .at in
+    let b = bytes (c .before .before .before .before .before .before .before .before .before) in
+    let k = c .before .before .before .before .before .skeleton-size .ensures in
+    omega (arith, a .lines .from, a .next, a .index .from, a .last, a .segments .from, a .segments .within, short t, skeleton-small t b k, index-small (old-index t) (c .before .before .before .lists-size .ensures), extended-small t b k (c .before .segments-size .ensures))
 
 returns : tie.Need-returns
 returns c =
-    measured (c .before .before .before .before .before .before .before .before .pre) (bytes (c .before .before .before .before .before .before .before)) (c .before .before .before .skeleton-size .ensures) (c .before .lists-size .ensures)
+    measured (c .before .before .before .before .before .before .before .before .before .before .pre) (bytes (c .before .before .before .before .before .before .before .before .before)) (c .before .before .before .before .before .skeleton-size .ensures) (c .before .before .before .lists-size .ensures) (c .before .segments-size .ensures)
 
 pub measure-spec : {M : Type 1} → statement M
 measure-spec =
@@ -86,9 +133,15 @@ measure-spec =
     part-lists-size-start
     part-lists-size-end
     lists-size-requires
-    add-t12
-    add-t18
-    add-t19
-    sub-t21
-    add-t22
+    sub-segments-size
+    part-segments-size-start
+    part-segments-size-end
+    segments-size-requires
+    add-t15
+    add-t24
+    add-t25
+    add-t26
+    add-t27
+    sub-t29
+    add-t30
     returns)

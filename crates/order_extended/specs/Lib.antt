@@ -1,0 +1,2 @@
+pub mod Segment
+pub mod Extended

@@ -1,0 +1,6 @@
+-- The laws of pores, by topic.
+pub mod Keep
+pub mod Size
+pub mod Room
+pub mod Calls
+pub mod Steps

@@ -1,0 +1,12 @@
+pub mod Before
+pub mod BeforeLaws
+pub mod Element
+pub mod ElementLaws
+pub mod Parts
+pub mod Payload
+pub mod PayloadLaws
+pub mod Numbers
+pub mod NumbersLaws
+pub mod Size
+pub mod Keep
+pub mod Calls

@@ -1,0 +1,4 @@
+-- The laws of a payload that is put, by topic.
+pub mod Listed
+pub mod Putting
+pub mod Payload
