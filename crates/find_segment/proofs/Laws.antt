@@ -26,7 +26,7 @@ use Rattle.find_parts.specs.Finds.{LinesThere, LinesPassed, SegmentsLeft, Segme
 use Rattle.find_parts.specs.declared.view.Blocks.{Blocks}
 use Rattle.find_parts.specs.declared.Passed.{Passed}
 use Rattle.find_parts.proofs.Laws.Apart.{ahead, behind, ahead-long, apart}
-use Rattle.find_parts.proofs.Laws.Blocks.{cut, cut-long, block-bits, lines-there, few-lines}
+use Rattle.find_parts.proofs.Laws.Blocks.{cut, cut-long, block-bits, lines-there}
 use Rattle.find_parts.proofs.Laws.Lines.{lines-counted}
 use Rattle.find_parts.proofs.Laws.Segments.{two-there, SegmentAt, segment-next, segments-none, its-type, its-size, its-payload}
 use Rattle.find_parts.proofs.Laws.Record.{record-apart}
@@ -214,7 +214,3 @@ module _ {s : List ℕ} {x : Spot} where
 
   pub lines-are : {p : Passed} → LinesPassed (x .widths) (cut s (x .skeleton .from) (x .skeleton .to)) 1024 p → LinesOf s x (p .count)
   lines-are P = record { is = λ r i place a. lines-counted (a .lines) P }
-
-  -- there are at most 1,024
-  pub few-counted : {n : ℕ} → SpotThere s x → LinesOf s x n → n ≤ 1024
-  few-counted t n = let h = t .stands in omega (arith, n .is (h .value) (h .i) (t .place) (h .at), few-lines (x .widths) (h .at .lines))

@@ -122,15 +122,15 @@ module _ (e : ℕ) where
 
 -- ---- where they stop
 
-or-first : (a b : Bool) → T a → T (a || b)
+pub or-first : (a b : Bool) → T a → T (a || b)
 or-first true b t = tt
 or-first false b t = absurd t
 
-or-second : (a b : Bool) → T b → T (a || b)
+pub or-second : (a b : Bool) → T b → T (a || b)
 or-second true b t = tt
 or-second false b t = t
 
-or-not : (a b : Bool) → T (not a) → T (not b) → T (not (a || b))
+pub or-not : (a b : Bool) → T (not a) → T (not b) → T (not (a || b))
 or-not true b t u = absurd t
 or-not false b t u = u
 

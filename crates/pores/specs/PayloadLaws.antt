@@ -52,5 +52,5 @@ payload-written n bytes p b h =
     (to-fits n p f, g ∙ ap inBytes (enc-same n 0 p))
 
 -- "one payload for given distances"
-pub one-payload : (n m : ℕ) (a b : List ℕ) (p : Pores) → All Byte a → All Byte b → poresIn n a ≡ some p → poresIn m b ≡ some p → a ≡ b
-one-payload n m a b p u v e f = payload-written n a p u e .1 ∙ sym (payload-written m b p v f .1)
+pub only-payload : (n m : ℕ) (a b : List ℕ) (p : Pores) → All Byte a → All Byte b → poresIn n a ≡ some p → poresIn m b ≡ some p → a ≡ b
+only-payload n m a b p u v e f = payload-written n a p u e .1 ∙ sym (payload-written m b p v f .1)

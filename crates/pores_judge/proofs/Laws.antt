@@ -1,4 +1,3 @@
 -- The laws of the judge of payloads of pores, by topic.
-pub mod Numbers
 pub mod Judging
 pub mod Parts

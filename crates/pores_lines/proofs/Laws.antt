@@ -4,7 +4,7 @@ use mathlib.Core.Path.{_≡_, refl, sym, ap, _∙_}
 use mathlib.Core.Logic.{_≢_}
 use Prim.Native.Nat.{ℕ, suc, _+_, _-_, _*_, _≤_, _<_}
 use native.Mathlib.Omega.{arith}
-use mathlib.Core.Bool.{Bool, true, false, not, _||_}
+use mathlib.Core.Bool.{Bool, true, false, not}
 use mathlib.Core.Option.{none}
 use mathlib.Core.List.{List, [], _∷_}
 use lib.ListN.{length, take, drop}
@@ -20,7 +20,7 @@ use Rattle.bits.proofs.Laws.Reads.{length-rest, field-got}
 use Rattle.outcome.specs.Refusals.{badPores}
 use Rattle.pores.specs.Before.{markedDec, untilDec}
 use Rattle.pores.specs.Element.{ones, most, stop, element}
-use Rattle.pores.specs.ElementLaws.{distance, distance-bits, stop-zeros}
+use Rattle.pores.specs.ElementLaws.{distance, distance-bits, stop-zeros, or-first, or-second, or-not}
 use Rattle.pores.specs.Payload.{line}
 use Rattle.pores.proofs.Laws.Steps.{until-step, distance-step}
 use Rattle.pores_lines.specs.Found.{LineStands}
@@ -48,11 +48,7 @@ module _ (e : ℕ) (s : Bits) {x : ℕ} {r : Bits} (f : fieldDec badPores e s �
 
   -- a zero element
   pub zero-stops : x ≡ 0 → T (stop e s)
-  zero-stops z = stop-second (ltb (length s) e) _ (yes-eqb (first ∙ z))
-    where
-      stop-second : (a b : Bool) → T b → T (a || b)
-      stop-second true b t = tt
-      stop-second false b t = t
+  zero-stops z = or-second (ltb (length s) e) _ (yes-eqb (first ∙ z))
 
   zero-no-distance : x ≡ 0 → distance e .dec s ≡ refused badPores (length s)
   unfolding onlyDec
@@ -65,11 +61,7 @@ module _ (e : ℕ) (s : Bits) {x : ℕ} {r : Bits} (f : fieldDec badPores e s �
     element-is = rw f (pick-yes (leb 1 x) _ _ (le→leb 1 x (omega arith)))
 
     goes : T (not (stop e s))
-    goes = both-not (ltb (length s) e) _ (no-ltb {a = length s} {b = e} enough) (no-eqb {a = numberOfBits (take e s)} {b = 0} (λ z. d (sym first ∙ z)))
-      where
-        both-not : (a b : Bool) → T (not a) → T (not b) → T (not (a || b))
-        both-not true b t u = absurd t
-        both-not false b t u = u
+    goes = or-not (ltb (length s) e) _ (no-ltb {a = length s} {b = e} enough) (no-eqb {a = numberOfBits (take e s)} {b = 0} (λ z. d (sym first ∙ z)))
 
     distance-is : distance e .dec s ≡ pick (eqb x (ones e)) (next (distance e .dec r) (λ m q. got (most e + m) q)) (got x r)
     distance-is = distance-step e s ∙ ap (λ (o : Read Bool ℕ). next o (λ y q. pick (eqb y (ones e)) (next (distance e .dec q) (λ m u. got (most e + m) u)) (got y q))) element-is
@@ -91,11 +83,7 @@ goes-on e s t = until-step (distance e) (stop e) badPores (distance-bits e) (sto
 
 -- under e bits are left
 pub short-stops : (e : ℕ) (s : Bits) → length s < e → T (stop e s)
-short-stops e s l = first-holds (ltb (length s) e) _ (yes-ltb l)
-  where
-    first-holds : (a b : Bool) → T a → T (a || b)
-    first-holds true b t = tt
-    first-holds false b t = absurd t
+short-stops e s l = or-first (ltb (length s) e) _ (yes-ltb l)
 
 short-element : (e : ℕ) (s : Bits) → length s < e → element e .dec s ≡ refused badPores (length s)
 unfolding onlyDec

@@ -1,6 +1,6 @@
 -- WHAT THE LIBRARY PROMISES, of every record, sheet and sequence of orders. Which numbers and places each call gives, and when it is
--- accepted, is promised in PromisesCalls beside it; what is promised of local quality, in PromisesQuality; of lists of pairs, in
--- PromisesPairs. Each promise is a statement; its proof is one citation. Every name in a statement leads to one definition, and all
+-- accepted, is promised in PromisesCalls beside it; what is promised of local quality, in PromisesQuality; of sweat pores, in PromisesPores; of
+-- lists of pairs, in PromisesPairs. Each promise is a statement; its proof is one citation. Every name in a statement leads to one definition, and all
 -- of these stand in specs/:
 --   bits/specs/Choice, Lists, Bits, Bytes   within; All, Along; Bits; Byte
 --   bits/specs/Codec           Codec.got, Codec.refused: what reading gives; enc, what is written
@@ -138,7 +138,7 @@ pub nearest-heading : (n b direction : ℕ) → Nearest (direction * (2 * n)) (2
 nearest-heading = TrailLaws.heading-near
 
 -- ---- A VIEW BY FINGER: each call names a view by finger position and view number
--- (that 13 is given exactly where no view has the pair, of each call: PromisesCalls, PromisesQuality, PromisesPairs)
+-- (that 13 is given exactly where no view has the pair, of each call: PromisesCalls, PromisesQuality, PromisesPores, PromisesPairs)
 
 -- in an accepted record that pair is unique
 pub names-unique : (bytes : List ℕ) (r : Record) → read bytes ≡ Codec.got r [] → (i j : ℕ) → i < length (r .views) → j < length (r .views)
@@ -146,8 +146,8 @@ pub names-unique : (bytes : List ℕ) (r : Record) → read bytes ≡ Codec.got 
 names-unique = FingerLaws.names-unique
 
 -- so naming by finger is naming by place: a call that names the view at place i gives what its own definition, f, says of that place.
--- Every call on a view is of this form (`trailing`, `payload`, `quality`, `setQuality`, `order`, `pairs`), so that each statement about
--- a place is one about a name
+-- Every call on a view is of this form (`trailing`, `payload`, `quality`, `setQuality`, `pores`, `setPores`, `order`, `pairs`), so that
+-- each statement about a place is one about a name
 pub by-finger : (bytes : List ℕ) (r : Record) → read bytes ≡ Codec.got r [] → {A : Type 0} (f : ℕ → Record → Outcome A) (i : ℕ) → i < length (r .views)
     → onView (nameOf (viewAt r i)) f bytes ≡ f i r
 by-finger = FingerLaws.by-finger
@@ -174,10 +174,11 @@ pub refused-stays : (q : AnyCall) (bytes : List ℕ) → numberOf (outcomeOf q b
 refused-stays = AnyLaws.refused-stays
 
 -- THE SEQUENCE: from any accepted record, any orders, each result fed to the next: the bytes that hold at the end are those of an
--- allowed record with the header and as many views, and each view is what the accepted orders on it say, through all renumbering. The
--- orders on a view are those with its name, which no order touches.
+-- allowed record with the header and as many views, and each view is what the accepted orders on it say, through all renumbering: each
+-- line that is left has its neighbours and its pores. The orders on a view are those with its name, which no order touches.
 -- In bytes: all stays but for the record length and, in a view with an accepted order, the skeleton and index blocks with their
--- lengths; so a removal carries segments of local quality along as they stand, well formed or not
+-- lengths and, where lines were removed, the payloads of pores with theirs; so segments of local quality are carried along as they
+-- stand, well formed or not, and joins and parts leave all segments as they are
 pub orders-follow : (cs : List Call) (bytes : List ℕ) (r : Record) → All Byte bytes → read bytes ≡ Codec.got r [] → Kept cs r bytes (run cs bytes)
 orders-follow = SequenceLaws.orders-follow
 
@@ -230,7 +231,7 @@ held-holds = HeldLaws.held-holds
 
 -- ---- UNIQUENESS: two answers that a statement allows are equal, and so are the buffers they leave
 
--- the calls that write: read, write, trail as numbers and as bytes, quality, set quality, remove, join, part, pairs
+-- the calls that write: read, write, trail as numbers and as bytes, quality, set quality, pores, set pores, remove, join, part, pairs
 pub one-answer : {A B : Type 0} {form : List A → List B} {lent : ℕ} {o : Outcome A} {before after₁ after₂ : List B} {a₁ a₂ : Answer}
     → AnswersAs form lent o before after₁ a₁ → AnswersAs form lent o before after₂ a₂ → (a₁ ≡ a₂) × (after₁ ≡ after₂)
 one-answer = OutcomeLaws.one-answer

@@ -74,8 +74,8 @@ pub payload-written : (n : ℕ) (payload : List ℕ) (p : Pores) → All Byte pa
 payload-written = PayloadLaws.payload-written
 
 -- "one payload for given distances", in whatever views
-pub one-payload : (n m : ℕ) (a b : List ℕ) (p : Pores) → All Byte a → All Byte b → poresIn n a ≡ some p → poresIn m b ≡ some p → a ≡ b
-one-payload = PayloadLaws.one-payload
+pub only-payload : (n m : ℕ) (a b : List ℕ) (p : Pores) → All Byte a → All Byte b → poresIn n a ≡ some p → poresIn m b ≡ some p → a ≡ b
+only-payload = PayloadLaws.only-payload
 
 pub values-read : (n : ℕ) (p : Pores) → FitsPores n p → poresFrom n (joined four (numbersOf p)) ≡ some p
 values-read = NumbersLaws.bytes-read

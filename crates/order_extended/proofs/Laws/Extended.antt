@@ -41,7 +41,7 @@ known-first lines g gs k =
     (k .fit .0, a, record { fit = k .fit .1; right = every-yes (poresRight lines) gs b })
 
 -- the segments of a block fit
-block-fits : (s : List ℕ) (gs : List Segment) (u : Bits) → segments .dec (bitsOf s) ≡ got gs u → All FitsSegment gs
+pub block-fits : (s : List ℕ) (gs : List Segment) (u : Bits) → segments .dec (bitsOf s) ≡ got gs u → All FitsSegment gs
 unfolding segments segment
 block-fits s gs u h = segments .back (bitsOf s) gs (omega (arith, length-bitsOf s)) (h ∙ ap (got gs) (segments .all (bitsOf s) gs u h)) .0
 
@@ -97,9 +97,6 @@ module _ {Rest : List Segment → List Segment → Type 0} (lines : ℕ) (remova
     its-are =
         let i : a + n - a ≡ length (segmentStored (t .value)) = omega (arith, m, length-stored t, stored-long (t .value)) in
         ap (λ (j : ℕ). take j (drop a s)) i ∙ t .there .is
-
-    pub its-end : (a + n ≤ length s) × (4 ≤ n)
-    its-end = (omega (arith, m, length-stored t, t .there .within, stored-long (t .value)), omega (arith, m, length-stored t))
 
     pub its-known : T (allPoresRight lines gs) → FitsSegment (t .value) × T (poresRight lines (t .value)) × Known lines (t .more)
     its-known k = known-first lines (t .value) (t .more) (know gs (t .value ∷ t .more) (rest-here Rest bytes S l gs u h) k)

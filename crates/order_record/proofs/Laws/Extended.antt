@@ -12,14 +12,14 @@ use Rattle.bits.specs.Codec.{got}
 use Rattle.put_bytes.specs.Laid.{Laid}
 use Rattle.put_bytes.specs.HighFirst.{two}
 use Rattle.put_bytes.proofs.Laws.{lent, back}
-use Rattle.format.specs.Segments.{Segment, FitsSegment, segment, segments}
+use Rattle.format.specs.Segments.{Segment, FitsSegment, segments}
 use Rattle.find_parts.specs.Stored.{sized}
 use Rattle.find_parts.proofs.Laws.Blocks.{whole-is}
 use Rattle.orders.specs.Survive.{survivors}
 use Rattle.orders.proofs.Laws.Pores.{none-removed}
 use Rattle.order_removal.proofs.Laws.Listed.{none-listed}
 use Rattle.order_extended.specs.Extended as x
-use Rattle.order_extended.proofs.Laws.Extended.{extended-short}
+use Rattle.order_extended.proofs.Laws.Extended.{block-fits, extended-short}
 use Rattle.pores.specs.Keep.{keepSegments}
 use Rattle.order_record.specs.Blocks.{OldExtended, ExtendedMeasured, ExtendedRoom, ExtendedLaid}
 use Rattle.order_record.proofs.Laws.Skeleton.{sized-laid}
@@ -29,8 +29,7 @@ pub same-segments : (lines : ℕ) (removal : List ℕ) (gs : List Segment) → A
 same-segments lines removal gs f h = ap (λ (rs : List ℕ). keepSegments lines (survivors lines rs) gs) (none-listed removal h) ∙ none-removed lines gs f
 
 pub all-fit : (s : List ℕ) {gs : List Segment} → segments .dec (bitsOf s) ≡ got gs [] → All FitsSegment gs
-unfolding segments segment
-all-fit s e = whole-is segments s e .0
+all-fit s {gs} e = block-fits s gs [] e
 
 module _ (lines : ℕ) (s : List ℕ) {gs : List Segment} (e : segments .dec (bitsOf s) ≡ got gs []) where
   same-block : (removal : List ℕ) → All Byte s → length removal ≡ 0 → x.keptExtended lines removal gs ≡ s

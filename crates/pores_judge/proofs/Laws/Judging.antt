@@ -32,7 +32,7 @@ use Rattle.pores.specs.Payload.{line, lines, front, poresBlock, poresIn}
 use Rattle.pores.specs.Numbers.{numbersOf}
 use Rattle.pores_lines.specs.Found.{LineStands}
 use Rattle.pores_judge.specs.Judged.{RightPayload}
-use Rattle.pores_judge.proofs.Laws.Numbers.{lineSize, numbers-long}
+use Rattle.pores.proofs.Laws.Numbers.{lineSize, numbers-long}
 
 -- ---- what a payload says, and what of it is counted
 

@@ -1,11 +1,11 @@
 -- The payload as a whole: its three bytes, then line by line; and that these bits, filled up, are the payload.
 use mathlib.Core.Path.{_≡_, refl, sym, ap, ap₂, subst, _∙_}
-use Prim.Native.Nat.{ℕ, suc, _+_, _-_, _*_, _/_, _%_, _≤_, _<_}
+use Prim.Native.Nat.{ℕ, suc, _+_, _-_, _*_, _/_, _≤_, _<_}
 use native.Mathlib.Omega.{arith}
 use mathlib.Core.Option.{some}
 use mathlib.Core.List.{List, [], _++_, append-assoc}
 use lib.ListN.{length, drop, length-append}
-use Rattle.bits.specs.Bits.{Bits, bitsOfNumber, zeros, pad, filled}
+use Rattle.bits.specs.Bits.{Bits, bitsOfNumber, filled}
 use Rattle.bits.specs.BitsLaws.{length-bits, filled-long}
 use Rattle.bits.specs.Bytes.{inBytes}
 use Rattle.bits.specs.BytesLaws.{length-in}
@@ -14,6 +14,7 @@ use Rattle.bits.specs.CodecLaws.{encEach}
 use Rattle.put_bytes.specs.Laid.{Laid}
 use Rattle.put_bits.specs.Put.{CanPut, PutMore, Puts, Room}
 use Rattle.put_bits.proofs.Laws.{put-none, put-laid}
+use Rattle.put_bits.proofs.Bytes.{filled-behind}
 use Rattle.put_bits.proofs.Chain.{puts-one, _then_, Putting, putting-none, putting-more, putting-room, putting-all}
 use Rattle.pores.specs.Parts.{Pores}
 use Rattle.pores.specs.Payload.{line, poresBlock, payloadOf}
@@ -31,12 +32,6 @@ lineBits e ls = encEach (line e .enc) ls
 front-long : (x e : ℕ) → length (bitsOfNumber 16 x ++ bitsOfNumber 8 e) ≡ 24
 front-long x e = length-append (bitsOfNumber 16 x) (bitsOfNumber 8 e) ∙ omega (arith, length-bits 16 x, length-bits 8 e)
 
--- bits behind whole bytes are filled up by themselves
-filled-behind : (a s : Bits) → length a % 8 ≡ 0 → filled (a ++ s) ≡ a ++ filled s
-filled-behind a s l =
-    let p : pad (length (a ++ s)) ≡ pad (length s) = ap pad (length-append a s) ∙ omega arith in
-    ap (λ (k : ℕ). (a ++ s) ++ zeros k) p ∙ append-assoc a s (zeros (pad (length s)))
-
 block-is : (p : Pores) → poresBlock 0 .enc p ≡ (bitsOfNumber 16 (p .resolution) ++ bitsOfNumber 8 (p .e)) ++ filled (lineBits (p .e) (p .lines))
 unfolding poresBlock
 block-is p = refl
@@ -46,7 +41,7 @@ payload-is p =
     let a : Bits = bitsOfNumber 16 (p .resolution) in
     let b : Bits = bitsOfNumber 8 (p .e) in
     let s : Bits = lineBits (p .e) (p .lines) in
-    ap inBytes (block-is p ∙ sym (filled-behind (a ++ b) s (omega (arith, front-long (p .resolution) (p .e)))) ∙ ap filled (append-assoc a b s))
+    ap inBytes (block-is p ∙ sym (filled-behind 3 (a ++ b) s (front-long (p .resolution) (p .e))) ∙ ap filled (append-assoc a b s))
 
 payload-size : (p : Pores) → length (payloadOf p) ≡ 3 + (length (lineBits (p .e) (p .lines)) + 7) / 8
 payload-size p =

@@ -20,7 +20,7 @@ use Rattle.pores.specs.Parts.{Pores}
 use Rattle.pores.specs.NumbersLaws.{fours-long}
 use Rattle.pores.specs.Numbers.{numbersOf}
 use Rattle.pores.specs.Payload.{line}
-use Rattle.pores_judge.proofs.Laws.Numbers.{numbers-are}
+use Rattle.pores.proofs.Laws.Numbers.{numbers-are}
 use Rattle.pores_judge.proofs.Laws.Parts.{PayloadParts, payload-parts}
 use Rattle.pores_values.specs.Put.{withCount, LineRoom, LineLaid, LinesRoom, LinesLaid, NumbersRoom, NumbersLaid}
 use Rattle.pores_values.specs.declared.LinePut.{LinePut}

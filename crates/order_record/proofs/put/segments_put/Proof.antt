@@ -6,11 +6,6 @@ use Rattle.order_record.proofs.Laws.Extended.{same-size, segments-room,
 use borrow.Author.Needs.{needs}
 use Rattle.order_record.proofs.put.segments_put.Statement.{statement}
 use Rattle.order_record.proofs.put.segments_put.Tie as tie
-use Rattle.order_record.proofs.put.segments_put.Reads as reads
-use Rattle.order_record.proofs.put.segments_put.Lts as lts
-use Rattle.order_extended.proofs.extended_put.Reads as extended-put-reads
-use Rattle.put_bytes.proofs.copy.Reads as copy-reads
-use Rattle.put_bytes.proofs.put_two.Reads as put-two-reads
 
 put-two-requires : tie.Need-put-two-requires
 put-two-requires c κs = search needs
