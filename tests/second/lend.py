@@ -1,8 +1,8 @@
 """Turns a call and its arguments into a case: output lent, answer expected.
 
 Also the arguments that several calls share: line numbers, places of segments and
-counts that are mostly right and otherwise near a limit or a wrap-around. The names
-of views stand in make_names.py.
+counts that are mostly right and otherwise near a limit or a wrap-around; and the order
+in which the cases of a call come. The names of views stand in make_names.py.
 """
 
 from dataclasses import dataclass
@@ -97,3 +97,13 @@ def line_count(rng, count):
         return rng.choice((count + 1, max(0, count - 1), 0, count + 256,
                            count + 65536, (1 << 32) - 1))
     return count
+
+
+def edges_first(rng, edges, source, case_of, filled=None):
+    """An endless stream: the edges, then a case for each record of the source; now and
+    then, where it is given, one in which the new record fills its room."""
+    yield from edges
+    for turn, data in enumerate(source):
+        yield case_of(rng, data)
+        if filled is not None and turn % 80 == 0:
+            yield filled(rng)

@@ -82,6 +82,17 @@ class Refusal(Exception):
         self.fault = fault
 
 
+def fault_given(number, judge_bytes, data, about):
+    """The fault with which these bytes are refused by this number, which has no place;
+    none where they are not refused."""
+    try:
+        judge_bytes(data, about)
+    except Refusal as refusal:
+        assert (refusal.number, refusal.place) == (number, 0)
+        return refusal.fault
+    return ""
+
+
 @dataclass
 class Line:
     """One line of a skeleton; codes are two's complement numbers."""

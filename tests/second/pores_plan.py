@@ -14,14 +14,14 @@ from edges_pore_removals import (LINES, REMOVAL_NAMES, bad_payloads, removal_edg
                                  removal_record, rows_of_segments)
 from edges_pores import (EVERY_E, NAMED, OTHER_TYPES, full_of_pores, payload_edges,
                          pores_record)
-from lend import lend, lend_enough
-from make import fill, random_payload, random_record
+from lend import edges_first, lend, lend_enough
+from make import random_payload, random_record
 from make_pores import (broken_numbers, fresh_numbers, places_of_numbers,
                         random_distance, with_numbers)
 from model import LARGEST_RECORD, PORES_TYPE, QUALITY_TYPE, Record, Segment
 from names import find_view, name_of
 from pores import NUMBER_FAULTS, bytes_of, from_numbers
-from quality_plan import named_segment, some
+from quality_plan import filling_case, named_segment, some
 
 # What a segment holds whose payload is to be rewritten at the edges.
 STORED = (b"", b"\0\1\2", b"\0\xc8\4\0", b"\0\0\x08" + bytes(40))
@@ -66,24 +66,9 @@ def set_pores_case(rng, data):
 
 
 def filled_case(rng):
-    """A rewriting after which the record has 32,768 bytes, or just about: 19; some of
-    the lists are cut all the same."""
-    size = LARGEST_RECORD
-    while True:
-        record = random_record(rng, "small", 1.0)
-        data = build(record)
-        named = named_segment(rng, data, PORES_TYPE)
-        numbers = numbers_for(rng, data, named)
-        growth = outcome("set_pores", named, [data, numbers]).length - len(data)
-        if growth > 0:
-            break
-    past = min(growth, rng.choice((-1, 0, 0, 1, 1, 2, 9)))
-    view = rng.choice((record.views[0], record.views[-1]))
-    data = build(fill(record, size + past - growth, view))
-    if rng.random() < 0.15:
-        numbers = numbers[:-1]
-    out_size = rng.choice((None, None, 0, size - 1, size, size + 1, 40000))
-    return lend(rng, "set_pores", named, [data, numbers], out_size)
+    """A rewriting that fills the record; some of the lists are cut all the same."""
+    return filling_case(rng, "set_pores", PORES_TYPE, numbers_for,
+                        lambda _, numbers: numbers[:-1])
 
 
 def pores_edges(rng, most):
@@ -192,16 +177,11 @@ def pore_pairs(rng, call, numbers, slices, most):
 
 
 def pores_stream(rng, source, most_edges):
-    """An endless stream of readings."""
-    yield from pores_edges(rng, most_edges)
-    for data in source:
-        yield pores_case(rng, data)
+    """Readings."""
+    return edges_first(rng, pores_edges(rng, most_edges), source, pores_case)
 
 
 def set_pores_stream(rng, source, most_edges):
-    """An endless stream of rewritings; some fill the record."""
-    yield from set_pores_edges(rng, most_edges)
-    for turn, data in enumerate(source):
-        yield set_pores_case(rng, data)
-        if turn % 80 == 0:
-            yield filled_case(rng)
+    """Rewritings; some fill the record."""
+    edges = set_pores_edges(rng, most_edges)
+    return edges_first(rng, edges, source, set_pores_case, filled_case)

@@ -11,7 +11,7 @@ from build import build
 from edges_quality import (FULL, NAMED, OTHER_TYPES, REMOVAL_NAMES, full_of_cells,
                            payload_edges, quality_record, removal_records,
                            values_edges)
-from lend import lend, place_in
+from lend import edges_first, lend, place_in
 from make import fill, random_record
 from make_names import any_name, name_in
 from make_quality import broken_values, fresh_values, hopeless
@@ -83,25 +83,30 @@ def set_quality_case(rng, data):
     return lend(rng, "set_quality", named, [data, values_for(rng, data, named)])
 
 
-def filled_case(rng):
+def filling_case(rng, call, type_, values_of, broken):
     """A rewriting after which the record has 32,768 bytes, or just about: 19; some
     of the values are broken all the same."""
     size = LARGEST_RECORD
     while True:
         record = random_record(rng, "small", 1.0)
         data = build(record)
-        named = named_segment(rng, data)
-        values = values_for(rng, data, named)
-        growth = outcome("set_quality", named, [data, values]).length - len(data)
+        named = named_segment(rng, data, type_)
+        values = values_of(rng, data, named)
+        growth = outcome(call, named, [data, values]).length - len(data)
         if growth > 0:
             break
     past = min(growth, rng.choice((-1, 0, 0, 1, 1, 2, 9)))
     view = rng.choice((record.views[0], record.views[-1]))
     data = build(fill(record, size + past - growth, view))
     if rng.random() < 0.15:
-        values = broken_values(rng, values)
+        values = broken(rng, values)
     out_size = rng.choice((None, None, 0, size - 1, size, size + 1, 40000))
-    return lend(rng, "set_quality", named, [data, values], out_size)
+    return lend(rng, call, named, [data, values], out_size)
+
+
+def filled_case(rng):
+    """A rewriting that fills the record."""
+    return filling_case(rng, "set_quality", QUALITY_TYPE, values_for, broken_values)
 
 
 def quality_edges(rng, most):
@@ -149,16 +154,11 @@ def removal_edges(rng, most):
 
 
 def quality_stream(rng, source, most_edges):
-    """An endless stream of readings."""
-    yield from quality_edges(rng, most_edges)
-    for data in source:
-        yield quality_case(rng, data)
+    """Readings."""
+    return edges_first(rng, quality_edges(rng, most_edges), source, quality_case)
 
 
 def set_quality_stream(rng, source, most_edges):
-    """An endless stream of rewritings; some fill the record."""
-    yield from set_quality_edges(rng, most_edges)
-    for turn, data in enumerate(source):
-        yield set_quality_case(rng, data)
-        if turn % 80 == 0:
-            yield filled_case(rng)
+    """Rewritings; some fill the record."""
+    edges = set_quality_edges(rng, most_edges)
+    return edges_first(rng, edges, source, set_quality_case, filled_case)

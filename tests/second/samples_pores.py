@@ -9,7 +9,7 @@ import re
 
 from answers import lent, outcome
 from build import build
-from model import PORE_FAULTS, Line, Record, Refusal, Segment, View
+from model import PORE_FAULTS, Line, Record, Segment, View, fault_given
 from pores import (LARGEST_NUMBER, Pores, bytes_of, from_numbers, from_payload,
                    payload_size, to_numbers, to_payload)
 
@@ -93,16 +93,6 @@ def record_of(lines, payload, type_=4):
     return build(Record(0, 197, 8, 8, 4, 16, 64, 32, [view]))
 
 
-def fault_of(judge_bytes, data, lines):
-    """The fault with which payload or numbers are refused; none if they are not."""
-    try:
-        judge_bytes(data, lines)
-    except Refusal as refusal:
-        assert (refusal.number, refusal.place) == (26, 0)
-        return refusal.fault
-    return ""
-
-
 def by_hand():
     """Each payload gives its numbers and comes of them, through the calls too."""
     for lines, text, listed in BY_HAND:
@@ -130,10 +120,10 @@ def broken():
     met = set()
     right, numbers = bytes.fromhex("00C8 04  01 02"), bytes_of([200, 4, 1, 1, 1, 2])
     for text in ("00C8 04  01 02", "00C8 03  04 20", "00C8 05  00 40"):
-        assert fault_of(from_payload, bytes.fromhex(text), 2) == ""
+        assert fault_given(26, from_payload, bytes.fromhex(text), 2) == ""
     for text, fault in BROKEN_PAYLOADS:
         payload = bytes.fromhex(text)
-        found = fault_of(from_payload, payload, 2)
+        found = fault_given(26, from_payload, payload, 2)
         assert found == fault, (text, found)
         read = outcome("pores", SEGMENT, [record_of(2, payload)])
         assert (read.number, read.place, read.length) == (26, 0, 0)
@@ -141,7 +131,7 @@ def broken():
     lists = [(bytes_of(listed), fault) for listed, fault in BROKEN_NUMBERS]
     lists += [(data, "cut number") for data in (b"\0", numbers[:-1], numbers + b"\0\0")]
     for data, fault in lists:
-        found = fault_of(from_numbers, data, 2)
+        found = fault_given(26, from_numbers, data, 2)
         assert found == fault, (data, found)
         new = outcome("set_pores", SEGMENT, [record_of(2, right), data])
         assert (new.number, new.place, new.length) == (26, 0, 0)
@@ -173,7 +163,7 @@ def one_payload():
             for body in bodies:
                 bits = "".join(format(byte, "08b") for byte in body)
                 payload = b"\0\7" + bytes([e]) + body
-                is_right = fault_of(from_payload, payload, lines) == ""
+                is_right = fault_given(26, from_payload, payload, lines) == ""
                 assert is_right == bool(pattern.fullmatch(bits)), (e, lines, bits)
                 if is_right:
                     pores = from_payload(payload, lines)

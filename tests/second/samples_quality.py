@@ -10,7 +10,7 @@ from dataclasses import replace
 from answers import lent, outcome
 from build import build
 from judge import judge
-from model import QUALITY_FAULTS, Record, Refusal, Segment, View
+from model import QUALITY_FAULTS, Record, Segment, View, fault_given
 from quality import (Quality, cells_along, from_payload, from_values, to_payload,
                      to_values)
 
@@ -66,16 +66,6 @@ def record_of(width, height, payload, type_=3):
     return build(Record(0, 197, 8, 8, 4, 16, 64, 32, [view]))
 
 
-def fault_of(judge_bytes, data, view):
-    """The fault with which payload or values are refused; none if they are not."""
-    try:
-        judge_bytes(data, view)
-    except Refusal as refusal:
-        assert (refusal.number, refusal.place) == (24, 0)
-        return refusal.fault
-    return ""
-
-
 def by_hand():
     """Each payload gives its values and comes of them, through the calls too."""
     for width, height, text, listed in BY_HAND:
@@ -104,13 +94,13 @@ def broken():
     right = bytes.fromhex(BY_HAND[1][2])
     for text, fault in BROKEN_PAYLOADS:
         payload = bytes.fromhex(text)
-        found = fault_of(from_payload, payload, view)
+        found = fault_given(24, from_payload, payload, view)
         assert found == fault, (text, found)
         read = outcome("quality", SEGMENT, [record_of(5, 3, payload)])
         assert (read.number, read.place, read.length) == (24, 0, 0)
         met.add(found)
     for listed, fault in BROKEN_VALUES:
-        found = fault_of(from_values, bytes(listed), view)
+        found = fault_given(24, from_values, bytes(listed), view)
         assert found == fault, (listed, found)
         new = outcome("set_quality", SEGMENT, [record_of(5, 3, right), bytes(listed)])
         assert (new.number, new.place, new.length) == (24, 0, 0)
@@ -133,11 +123,11 @@ def numbers_of_cells():
             assert cells_along(size, cell) == len(range(0, size, cell))
     large = view_of(65535, 65535)
     for payload in (b"\1\1\1", b"\1\1\x08", b"\1\1\1\0"):
-        assert fault_of(from_payload, payload, large) == "too few bytes"
-        assert fault_of(from_values, payload, large) == "too few bytes"
+        assert fault_given(24, from_payload, payload, large) == "too few bytes"
+        assert fault_given(24, from_values, payload, large) == "too few bytes"
     wrapping = view_of(32768, 16384)
-    assert fault_of(from_payload, b"\1\1\x08", wrapping) == "too few bytes"
-    assert fault_of(from_values, b"\1\1\x08", wrapping) == "too few bytes"
+    assert fault_given(24, from_payload, b"\1\1\x08", wrapping) == "too few bytes"
+    assert fault_given(24, from_values, b"\1\1\x08", wrapping) == "too few bytes"
 
 
 def one_number():
