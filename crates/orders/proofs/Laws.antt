@@ -20,3 +20,10 @@ pub mod PairsNumbers
 pub mod Singly
 pub mod AnyCalls
 pub mod Calls
+pub mod Twice
+pub mod Renumber
+pub mod Gives
+pub mod Removals
+pub mod Commute
+pub mod Undo
+pub mod Alone

@@ -24,6 +24,7 @@ use Rattle.pores.specs.Keep.{keepSegments, allPoresRight}
 use Rattle.orders.specs.Least.{leastWidth}
 use Rattle.orders.specs.Act.{Act, remove, join, part, near, after}
 use Rattle.orders.specs.Order.{Order, edited, tests, allTests, verdict, order}
+use Rattle.orders.specs.SplitSample.{cells}
 
 -- two lines: with an index of these bytes, and with these segments
 abbrev pub twoLines : ℕ → List ℕ → List ℕ → List ℕ
@@ -58,11 +59,7 @@ withSegments x = twoLines (56 + length x) (indexed 0x60) (0x00 ∷ length x ∷ 
 abbrev emptied : List ℕ → List ℕ
 emptied x = headerA (39 + length x) 8 ++ viewHeaderA 0 ++ 0x00 ∷ 0x01 ∷ 0x01 ∷ 0x00 ∷ length x ∷ x
 
--- local quality of an image of 256 by 256, in cells of 128 by 128 with 2 bits
-abbrev cells : List ℕ
-cells = 0x00 ∷ 0x03 ∷ 0x00 ∷ 0x08 ∷ 0x80 ∷ 0x80 ∷ 0x02 ∷ 0x1B ∷ []
-
--- the same with cells of width 0, which no payload may have
+-- `cells` with a width of 0, which no payload may have
 abbrev broken : List ℕ
 broken = 0x00 ∷ 0x03 ∷ 0x00 ∷ 0x08 ∷ 0x00 ∷ 0x80 ∷ 0x02 ∷ 0x1B ∷ []
 

@@ -1,4 +1,5 @@
 -- What an order does to its view. Being neighbours is mutual and is written once, at the higher line.
+use mathlib.Core.Path.{_≡_}
 use Prim.Native.Nat.{ℕ, min, max}
 use mathlib.Core.Bool.{Bool}
 use mathlib.Core.Option.{Option, none, some, Option·map}
@@ -7,12 +8,13 @@ use lib.ListN.{getD, set}
 use lib.Dec.{ltb, eqb}
 use Rattle.bits.specs.Choice.{pick, some?}
 use Rattle.format.specs.Line.{Line}
+use Rattle.format.specs.Index.{Index}
 use Rattle.format.specs.Segments.{Segment}
 use Rattle.format.specs.View.{View}
 use Rattle.format.specs.Places.{count, lineAt}
 use Rattle.pores.specs.Keep.{keepSegments}
 use Rattle.orders.specs.Survive.{elem, survivors, renumber}
-use Rattle.orders.specs.Least.{indexOf}
+use Rattle.orders.specs.Least.{leastWidth, indexOf}
 
 pub data Act : Type 0 where
   remove : List ℕ → Act
@@ -33,6 +35,10 @@ lists v = Option·map (λ i. i .lists) (v .index)
 
 abbrev pub indexed? : View → Bool
 indexed? v = some? (v .index)
+
+-- an index has its least width, where there is one
+abbrev pub LeastWide : View → Type 0
+LeastWide v = (i : Index) → v .index ≡ some i → i .width ≡ leastWidth (i .lists)
 
 -- line i's list; a view without an index has empty ones
 abbrev pub listAt : Option (List (List ℕ)) → ℕ → List ℕ

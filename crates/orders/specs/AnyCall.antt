@@ -47,12 +47,20 @@ abbrev pub singles : List AnyCall → List ℕ → List Call
 singles [] bytes = []
 singles (q ∷ qs) bytes = ordersOf q bytes ++ singles qs (nowHolds bytes (outcomeOf q bytes))
 
--- ---- which of the orders are accepted
+-- ---- which of the calls are accepted
 
--- each is, on the record that those before it left
+-- each is, on the record that those before it left; gives is the outcome of one
+abbrev pub AllGiven : {C : Type 0} → (C → List ℕ → Outcome ℕ) → List C → List ℕ → Type 0
+AllGiven gives [] bytes = Unit {0}
+AllGiven gives (c ∷ cs) bytes = (numberOf (gives c bytes) ≡ 0) × AllGiven gives cs (nowHolds bytes (gives c bytes))
+
+-- of single orders
 abbrev pub AllTaken : List Call → List ℕ → Type 0
-AllTaken [] bytes = Unit {0}
-AllTaken (c ∷ cs) bytes = (numberOf (outcome c bytes) ≡ 0) × AllTaken cs (nowHolds bytes (outcome c bytes))
+AllTaken cs bytes = AllGiven outcome cs bytes
+
+-- of calls for an order or for a list of pairs
+abbrev pub AllAccepted : List AnyCall → List ℕ → Type 0
+AllAccepted qs bytes = AllGiven outcomeOf qs bytes
 
 -- the order at this place is the first that is not, and is refused with this number
 pub record Stopped (cs : List Call) (bytes : List ℕ) (number place : ℕ) : Type 0 where

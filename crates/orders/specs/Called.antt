@@ -8,9 +8,13 @@ use Rattle.orders.specs.Listed.{removalLines}
 use Rattle.orders.specs.Act.{Act, remove, join, part, Word}
 use Rattle.orders.specs.Order.{Order}
 
+-- of these lines
+abbrev pub removing : (view : ViewName) → (count : ℕ) → (lines : List ℕ) → Order
+removing view count lines = record { view = view; count = count; act = remove lines }
+
 -- removal: the bytes of the removal list
 abbrev pub removalOrder : (view : ViewName) → (count : ℕ) → (removal : List ℕ) → Order
-removalOrder view count removal = record { view = view; count = count; act = remove (removalLines removal) }
+removalOrder view count removal = removing view count (removalLines removal)
 
 abbrev pub pairAct : Bool → ℕ → ℕ → Act
 pairAct joins a b = pick joins (join a b) (part a b)

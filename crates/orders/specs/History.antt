@@ -3,21 +3,18 @@
 use mathlib.Core.Path.{_≡_}
 use Prim.Native.Nat.{ℕ, suc, _<_, min, max}
 use mathlib.Core.Bool.{Bool, true, false, _&&_}
-use mathlib.Core.Option.{some}
 use mathlib.Core.List.{List, [], _∷_, map}
 use lib.ListN.{length}
 use lib.Dec.{T, eqb}
 use Rattle.bits.specs.Choice.{pick}
 use Rattle.outcome.specs.Outcome.{Outcome, refused, given, room, numberOf}
-use Rattle.format.specs.Index.{Index}
 use Rattle.format.specs.View.{View}
 use Rattle.format.specs.Places.{count, lineAt}
 use Rattle.format.specs.Named.{sameName}
 use Rattle.format.specs.declared.ViewName.{ViewName}
 use Rattle.pores.specs.Keep.{keepSegments, allPoresRight}
 use Rattle.orders.specs.Survive.{at, upFrom, survivors, RisesFrom}
-use Rattle.orders.specs.Least.{leastWidth}
-use Rattle.orders.specs.Act.{Act, remove, join, part, Word, near, indexed?}
+use Rattle.orders.specs.Act.{Act, remove, join, part, Word, near, indexed?, LeastWide}
 use Rattle.orders.specs.Order.{Order, order}
 
 -- ---- a sequence, in bytes
@@ -82,7 +79,7 @@ pub record Follows (v₀ v : View) (h : History) : Type 0 where
   pub indexed : indexed? v ≡ indexed? v₀
   -- a view on which no order was accepted is as it was; any other has its least width
   pub spared : h .accepted ≡ 0 → v ≡ v₀
-  pub least : 0 < h .accepted → (i : Index) → v .index ≡ some i → i .width ≡ leastWidth (i .lists)
+  pub least : 0 < h .accepted → LeastWide v
   -- the lines are those that are left, in their order
   pub counts : length (h .left) ≡ count v
   pub rises : RisesFrom 0 (h .left)

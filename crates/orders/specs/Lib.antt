@@ -11,3 +11,5 @@ pub mod Bytes
 pub mod Kept
 pub mod Made
 pub mod Accept
+pub mod Split
+pub mod SplitSample

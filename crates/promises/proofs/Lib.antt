@@ -8,3 +8,4 @@ pub mod PromisesCalls
 pub mod PromisesQuality
 pub mod PromisesPores
 pub mod PromisesPairs
+pub mod PromisesSplit

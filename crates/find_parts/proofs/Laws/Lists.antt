@@ -1,6 +1,7 @@
 -- How many bits the lists of an index take, and the lines of a skeleton: the sums of what each takes.
 use mathlib.Core.Path.{_≡_, refl, ap, _∙_}
-use Prim.Native.Nat.{ℕ, _+_, _*_}
+use Prim.Native.Nat.{ℕ, suc, _+_, _*_}
+use native.Mathlib.Nat.{add-mul}
 use native.Mathlib.Omega.{arith}
 use mathlib.Core.Bool.{Bool}
 use mathlib.Core.List.{List, [], _∷_, _++_}
@@ -13,7 +14,7 @@ use Rattle.bits.specs.CodecLaws.{encAll, encAlong, field}
 use Rattle.outcome.specs.Refusals.{badIndex}
 use Rattle.format.specs.Differences.{diffs, diff, tellDifference}
 use Rattle.format.specs.DifferencesLaws.{length-diffs}
-use Rattle.format.specs.Index.{neighbours}
+use Rattle.format.specs.Index.{up, neighbours}
 use Rattle.find_parts.proofs.Laws.Line.{codes-long}
 
 -- values one behind the other
@@ -40,3 +41,14 @@ pub list-bits : (w l : ℕ) (ns : List ℕ) → length (neighbours w l .enc ns) 
 list-bits w l ns =
     ap length (list-is w l ns) ∙ length-append (bitsOfNumber w (length ns)) (encAll (field badIndex w) (diffs l ns))
     ∙ omega (arith, length-bits w (length ns), codes-long badIndex w (diffs l ns) ∙ ap (λ (n : ℕ). n * w) (length-diffs l ns))
+
+-- the bits of the lists: w for the count and for each difference of each
+entries-long : (w : ℕ) (ls : List (List ℕ)) → total (λ ns. w + length ns * w) ls ≡ (length ls + total length ls) * w
+entries-long w [] = omega arith
+entries-long w (ns ∷ ls) =
+    let x : ℕ = length ls + total length ls in
+    let z : suc (length ls) + (length ns + total length ls) ≡ suc (length ns) + x = omega arith in
+    omega (arith, entries-long w ls, ap (λ (n : ℕ). n * w) z, add-mul (suc (length ns)) x w, add-mul 1 (length ns) w)
+
+pub lists-long : (w : ℕ) (ls : List (List ℕ)) → length (encAlong (neighbours w) up 0 ls) ≡ (length ls + total length ls) * w
+lists-long w ls = along-long (neighbours w) up (λ ns. w + length ns * w) (list-bits w) 0 ls ∙ entries-long w ls

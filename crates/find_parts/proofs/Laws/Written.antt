@@ -67,7 +67,7 @@ head-spells e earlier h f =
 -- ---- a view
 
 module _ (w : Widths) (seen : List ℕ) where
-  view-spells : (v : View) → view w seen .Fits v → Spells (viewOut w v) (view w seen .enc v)
+  pub view-spells : (v : View) → view w seen .Fits v → Spells (viewOut w v) (view w seen .enc v)
   unfolding view viewHeader
   view-spells v h =
       let earlier : ℕ → ℕ = λ p. occurs p seen in

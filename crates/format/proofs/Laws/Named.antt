@@ -73,7 +73,7 @@ module _ (w : Widths) where
   abbrev FitsFrom : List ℕ → List View → Type 0
   FitsFrom seen vs = Along tellSeen (λ s v. view w s .Fits v) seen vs
 
-  fits-number : (seen : List ℕ) (v : View) → view w seen .Fits v → v .head .number ≡ occurs (v .head .position) seen
+  pub fits-number : (seen : List ℕ) (v : View) → view w seen .Fits v → v .head .number ≡ occurs (v .head .position) seen
   unfolding view viewHeader
   fits-number seen v f = numbered (λ p. occurs p seen) (v .head) (f .0 .0 .0)
 

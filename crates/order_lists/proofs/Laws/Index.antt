@@ -2,7 +2,7 @@
 use mathlib.Core.Path.{_≡_, sym, ap, _∙_}
 use Prim.Native.Nat.{ℕ, suc, _+_, _*_, _/_, _≤_}
 use native.Mathlib.Omega.{arith}
-use native.Mathlib.Nat.{add-mul, mul-le-mul-left}
+use native.Mathlib.Nat.{mul-le-mul-left}
 use mathlib.Core.Option.{some}
 use mathlib.Core.List.{List, [], _∷_}
 use lib.ListN.{length}
@@ -19,7 +19,7 @@ use Rattle.format.specs.Differences.{Falls}
 use Rattle.format.specs.DifferencesLaws.{falls-count}
 use Rattle.format.specs.Index.{Index, FitsIndex, neighbours, up, indexBlock}
 use Rattle.find_parts.proofs.Laws.Blocks.{block-long}
-use Rattle.find_parts.proofs.Laws.Lists.{along-long, list-bits}
+use Rattle.find_parts.proofs.Laws.Lists.{lists-long}
 use Rattle.find_parts.proofs.Laws.Index.{width-is, index-enc, index-long}
 use Rattle.put_bits.specs.Put.{PutMore, Puts, Room}
 use Rattle.put_bits.proofs.Laws.{put-none, put-laid}
@@ -31,17 +31,6 @@ use Rattle.order_lists.specs.Index.{left, IndexSized, IndexPut}
 use Rattle.order_lists.specs.declared.lists.Totals.{Totals}
 
 -- ---- the block after
-
--- the bits of the lists: w for the count and for each difference of each
-entries-long : (w : ℕ) (ls : List (List ℕ)) → total (λ ns. w + length ns * w) ls ≡ (length ls + total length ls) * w
-entries-long w [] = omega arith
-entries-long w (ns ∷ ls) =
-    let x : ℕ = length ls + total length ls in
-    let z : suc (length ls) + (length ns + total length ls) ≡ suc (length ns) + x = omega arith in
-    omega (arith, entries-long w ls, ap (λ (n : ℕ). n * w) z, add-mul (suc (length ns)) x w, add-mul 1 (length ns) w)
-
-lists-long : (w : ℕ) (ls : List (List ℕ)) → length (encAlong (neighbours w) up 0 ls) ≡ (length ls + total length ls) * w
-lists-long w ls = along-long (neighbours w) up (λ ns. w + length ns * w) (list-bits w) 0 ls ∙ entries-long w ls
 
 module _ (ls : List (List ℕ)) where
   abbrev w : ℕ

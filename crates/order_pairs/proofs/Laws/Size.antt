@@ -2,7 +2,7 @@
 -- at most one more, and no count and no difference passes the number of lines.
 use mathlib.Core.Path.{_≡_, sym, ap, _∙_}
 use Prim.Native.Nat.{ℕ, zero, suc, _+_, _-_, _*_, _/_, _^_, _≤_, _<_}
-use native.Mathlib.Nat.{zero-add, add-mul, mul-le-mul, div-le-self, le-div-iff-mul-le}
+use native.Mathlib.Nat.{zero-add, mul-le-mul, div-le-self, le-div-iff-mul-le}
 use native.Mathlib.Omega.{arith}
 use mathlib.Core.Option.{some, Option·map}
 use mathlib.Core.List.{List, [], _∷_, _++_}
@@ -33,7 +33,7 @@ use Rattle.find_parts.specs.Site.{SiteOf}
 use Rattle.find_parts.specs.declared.site.Site.{Site}
 use Rattle.find_parts.proofs.Laws.Blocks.{cut, cut-long}
 use Rattle.find_parts.proofs.Laws.Index.{IndexAt, index-at}
-use Rattle.find_parts.proofs.Laws.Lists.{along-long, list-bits}
+use Rattle.find_parts.proofs.Laws.Lists.{lists-long}
 use Rattle.find_parts.proofs.Laws.Record.{record-apart}
 use Rattle.find_parts.proofs.Laws.Written.{written}
 use Rattle.order_words.specs.After.{heardIn, listsAfter}
@@ -88,14 +88,6 @@ first-number (b ∷ bs) w r l f h e =
     sym (number-bits 8 b (f .0)) ∙ ap numberOfBits (sym (take-at (bitsOfNumber 8 b) (bitsOf bs) 8 (length-bits 8 b)))
     ∙ ap (λ (t : Bits). numberOfBits (take 8 t)) e ∙ ap numberOfBits (take-at (bitsOfNumber 8 w) r 8 (length-bits 8 w)) ∙ number-bits 8 w h
 
--- w bits for the count and for each difference of each list
-entries-long : (w : ℕ) (ls : List (List ℕ)) → total (λ ns. w + length ns * w) ls ≡ (length ls + total length ls) * w
-entries-long w [] = omega arith
-entries-long w (ns ∷ ls) =
-    let x : ℕ = length ls + total length ls in
-    let z : suc (length ls) + (length ns + total length ls) ≡ suc (length ns) + x = omega arith in
-    omega (arith, entries-long w ls, ap (λ (n : ℕ). n * w) z, add-mul (suc (length ns)) x w, add-mul 1 (length ns) w)
-
 module _ {s : List ℕ} {x : Site} (l : x .index .from < x .index .to) {o : Record} {j : ℕ} (e : read s ≡ got o [])
     (S : SiteOf o s j x) {i : Index} (q : viewAt o j .index ≡ some i) where
   abbrev block : List ℕ
@@ -122,8 +114,7 @@ module _ {s : List ℕ} {x : Site} (l : x .index .from < x .index .to) {o : Reco
   numbers-old =
       let w : ℕ = i .width in
       let n : ℕ = length (i .lists) + total length (i .lists) in
-      let z : length (encAlong (neighbours w) up 0 (i .lists)) ≡ n * w =
-      along-long (neighbours w) up (λ ns. w + length ns * w) (list-bits w) 0 (i .lists) ∙ entries-long w (i .lists) in
+      let z : length (encAlong (neighbours w) up 0 (i .lists)) ≡ n * w = lists-long w (i .lists) in
       let y = simp length-append at (ap length (at .bits)) in
       le-div-iff-mul-le {k = w} {x = n} {y = 8 * size - 8} (omega (arith, width-some)) .1
       (omega (arith, z, y, length-bitsOf block, cut-long (S .index), length-bits 8 w))

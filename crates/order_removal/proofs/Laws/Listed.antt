@@ -3,16 +3,17 @@ use mathlib.Core.Path.{_≡_, refl, sym, ap, _∙_}
 use mathlib.Core.Logic.{_≢_}
 use Prim.Native.Nat.{ℕ, zero, suc, _+_, _*_, _/_, _%_, _≤_, _<_}
 use native.Mathlib.Omega.{arith}
-use mathlib.Core.Bool.{Bool, true, false, not, _&&_}
+use mathlib.Core.Bool.{Bool, true, false, _&&_}
 use mathlib.Core.List.{List, [], _∷_}
 use lib.ListN.{length, drop, getD, drop-of-length-le}
 use lib.Dec.{T, eqb, leb, ltb}
-use mir.Facts.{yes-eqb, no-eqb, and-yes, leb-yes, ltb-yes, yes-leb, yes-ltb, no-leb, no-ltb}
+use mir.Facts.{yes-eqb, no-eqb, yes-leb, yes-ltb, no-leb, no-ltb}
 use Rattle.bits.specs.ChoiceLaws.{pick-yes, pick-no, T-true, T-false, eq-split}
-use Rattle.bits.specs.Lists.{All, empty?}
-use Rattle.orders.specs.Survive.{at, RisesFrom}
+use Rattle.bits.specs.Lists.{All}
+use Rattle.orders.specs.Survive.{at}
 use Rattle.orders.specs.Listed.{numbersIn, removalLines}
 use Rattle.orders.specs.Order.{risesOk, linesOk}
+use Rattle.orders.proofs.Laws.Renumber.{ok-lines}
 use Rattle.order_removal.specs.Rank.{Rising}
 
 -- ---- bytes and numbers
@@ -111,20 +112,10 @@ module _ (n : ℕ) where
 
 -- ---- a list that is right
 
-risesOk-rises : (m n : ℕ) (rs : List ℕ) → T (risesOk m n rs) → RisesFrom m rs × All (λ r. r < n) rs
-risesOk-rises m n [] t = (tt, tt)
-risesOk-rises m n (r ∷ rs) t =
-    let (u, v) = and-yes (leb m r && ltb r n) _ t in
-    let (a, b) = and-yes (leb m r) _ u in
-    let (c, d) = risesOk-rises (suc r) n rs v in
-    ((leb-yes a, c), (ltb-yes b, d))
-
 pub lines-rise : (n : ℕ) (bs : List ℕ) → linesOk n (removalLines bs) ≡ true → Rising bs × All (λ r. r < n) (removalLines bs)
 lines-rise n bs e =
     eq-split (length bs % 2) 0
-    (λ z. let t : T (linesOk n (removalLines bs)) = rw e tt in
-    let (a, b) = and-yes (not (empty? (removalLines bs))) (risesOk 0 n (removalLines bs)) t in
-    let (c, d) = risesOk-rises 0 n (removalLines bs) b in
+    (λ z. let (_, c, d) = ok-lines n (removalLines bs) (rw e tt) in
     (record { even = rw (listed-even bs z) (omega (arith, length-numbers bs)); rises = c }, d))
     (λ z. let t : T (linesOk n (removalLines bs)) = rw e tt in absurd (rw (lines-odd n bs z) at t))
 

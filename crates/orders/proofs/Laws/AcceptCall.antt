@@ -5,43 +5,28 @@ use Prim.Native.Nat.{ℕ, _≤_}
 use native.Mathlib.Omega.{arith}
 use mathlib.Core.List.{List}
 use lib.ListN.{length}
-use lib.Dec.{eqb, eqb→eq}
-use Rattle.bits.specs.ChoiceLaws.{pick-split}
-use Rattle.bits.specs.Codec.{got}
 use Rattle.outcome.specs.Outcome.{numberOf, Answers}
 use Rattle.outcome.specs.declared.Answer.{Answer}
 use Rattle.outcome.proofs.Laws.{room-zero, zero-room}
 use Rattle.format.specs.Record.{Record, write}
 use Rattle.format.proofs.Laws.Size.{write-long}
-use Rattle.format.proofs.Laws.Record.{read-is}
-use Rattle.format.proofs.Laws.Call.{given-view}
-use Rattle.orders.specs.Order.{Order, edited, verdict, ordered, order}
+use Rattle.orders.specs.Order.{Order, edited, order}
 use Rattle.orders.specs.History.{Call, outcome}
 use Rattle.orders.specs.Accept.{AcceptedCall}
-use Rattle.orders.proofs.Laws.Accept.{accepted, verdict-zero}
+use Rattle.orders.proofs.Laws.Accept.{verdict-zero}
 use Rattle.orders.proofs.Laws.Refuse.{order-given}
 use Rattle.orders.proofs.Laws.Holds.{order-told}
+use Rattle.orders.proofs.Laws.Gives.{given-order}
 
 -- ---- of the outcome
 
 pub outcome-accepted : (c : Call) (bytes : List ℕ) → numberOf (outcome c bytes) ≡ 0 → AcceptedCall c bytes
-unfolding outcome order
+unfolding outcome
 outcome-accepted c bytes z =
     let o : Order = c .order in
     room-zero (c .lent) (order-told o bytes) z λ new q l.
-    given-view (o .view) (ordered o) bytes new q λ r rest i e m g.
-    let (_, _, _, n) = read-is bytes r rest e in
-    let x : Record = edited i (o .act) r in
-    pick-split (eqb (verdict o i r) 0) _ _ g
-    (λ t h. let w : write x ≡ new = cc in
-    record {
-      value = r;
-      reads = e ∙ ap (got r) n;
-      place = i;
-      order = accepted o r m (eqb→eq (verdict o i r) 0 t);
-      room = omega (arith, l, ap length w, write-long x);
-    })
-    (λ t h. let y : _≡_ {A = ℕ} 0 1 = cc in absurd (omega arith))
+    given-order o bytes q λ r i e a w.
+    record { value = r; reads = e; place = i; order = a; room = omega (arith, l, ap length w, write-long (edited i (o .act) r)) }
 
 pub accepted-outcome : (c : Call) (bytes : List ℕ) → AcceptedCall c bytes → numberOf (outcome c bytes) ≡ 0
 unfolding outcome

@@ -29,7 +29,7 @@ use Rattle.orders.proofs.Laws.Singly.{pairs-given}
 
 -- ---- one call
 
-one-outcome : (c : Call) (bytes : List ℕ) → outcomeOf (one c) bytes ≡ outcome c bytes
+pub one-outcome : (c : Call) (bytes : List ℕ) → outcomeOf (one c) bytes ≡ outcome c bytes
 unfolding outcome outcomeOf
 one-outcome c bytes = refl
 
@@ -39,7 +39,7 @@ unfolding outcomeOf
 list-outcome m bytes = pairs-room m bytes
 
 -- no refusal has the number 0
-any-told : (q : AnyCall) (bytes : List ℕ) → Refused (λ e p. e ≢ 0) (outcomeOf q bytes)
+pub any-told : (q : AnyCall) (bytes : List ℕ) → Refused (λ e p. e ≢ 0) (outcomeOf q bytes)
 any-told (one c) bytes =
     rw (one-outcome c bytes)
     (refused-map (λ e p. T (among (numbersOf (c .order .act)) e)) (λ e p. e ≢ 0) (λ e p. number-there (c .order .act) e)

@@ -1,26 +1,30 @@
 -- The calls themselves, made one behind the other: the record that holds is that of the sequence; and a removal that was accepted is
 -- refused when it comes again.
 use mathlib.Core.Path.{_≡_, refl, sym, ap, _∙_}
+use mathlib.Core.Logic.{_≢_}
 use Prim.Native.Nat.{ℕ}
 use mathlib.Core.List.{List, [], _∷_}
-use lib.ListN.{length}
+use lib.ListN.{length, take}
 use Rattle.bits.specs.Lists.{All}
 use Rattle.bits.specs.Bytes.{Byte}
 use Rattle.bits.specs.Codec.{got}
 use Rattle.outcome.specs.Refusals.{otherCount}
-use Rattle.outcome.specs.Outcome.{refused, room, numberOf, placeOf, lengthOf, laid, Answers}
+use Rattle.outcome.specs.Numbers.{pairsNumbers}
+use Rattle.outcome.specs.Outcome.{refused, given, room, numberOf, placeOf, lengthOf, laid, Answers}
 use Rattle.outcome.specs.declared.Answer.{Answer}
 use Rattle.outcome.proofs.Laws.{same-answer, answer-accepted}
+use Rattle.outcome.proofs.Numbers.{never-zero}
 use Rattle.format.specs.Record.{Record, read}
 use Rattle.format.proofs.Laws.Call.{given-view}
 use Rattle.format.proofs.Laws.Record.{read-back}
 use Rattle.orders.specs.Act.{remove}
 use Rattle.orders.specs.Order.{Order, ordered, order, holds}
 use Rattle.orders.specs.History.{Call, nowHolds}
-use Rattle.orders.specs.AnyCall.{AnyCall, one, asked, lentFor, outcomeOf, runAny, singles}
+use Rattle.orders.specs.AnyCall.{AnyCall, one, list, asked, lentFor, outcomeOf, runAny, singles}
 use Rattle.orders.specs.Kept.{Kept}
 use Rattle.orders.specs.Made.{Made, MadeAll}
 use Rattle.orders.proofs.Laws.Holds.{order-told}
+use Rattle.orders.proofs.Laws.PairsNumbers.{pairs-by}
 use Rattle.orders.proofs.Laws.AnyCalls.{holds-now, any-follow, removal-again}
 
 -- what the answer says is what the outcome has
@@ -39,6 +43,15 @@ calls-run (q ∷ qs) bytes last (new, m, h) = calls-run qs new last h ∙ ap (ru
 pub calls-follow : (qs : List AnyCall) (bytes last : List ℕ) (r : Record) → All Byte bytes → read bytes ≡ got r []
     → MadeAll qs bytes last → Kept (singles qs bytes) r bytes last
 calls-follow qs bytes last r f e h = rw (calls-run qs bytes last h) (any-follow qs bytes r f e)
+
+-- what an accepted call leaves in the buffer is what is asked for
+asked-told : (q : AnyCall) (bytes : List ℕ) (e p : ℕ) → asked q bytes ≡ refused e p → e ≢ 0
+asked-told (one c) bytes = order-told (c .order) bytes
+asked-told (list m) bytes = never-zero pairsNumbers tt (pairs-by m bytes)
+
+pub call-gives : (q : AnyCall) (bytes : List ℕ) {before after : List ℕ} {a : Answer} → Answers (asked q bytes) before after a → a .number ≡ 0
+    → asked q bytes ≡ given (take (a .length) after)
+call-gives q bytes h z = answer-accepted h (asked-told q bytes) z λ new d t. d ∙ ap given (sym t)
 
 -- ---- the same removal twice
 

@@ -23,7 +23,7 @@ use Rattle.format.specs.Record.{Record, tellSeen, Allowed}
 use Rattle.format.specs.declared.Widths.{Widths}
 use Rattle.format.proofs.Laws.Size.{view-length}
 use Rattle.format.proofs.Laws.Changed.{FitsAs, changed-count, changed-here, changed-other, changed-place, changed-means, changed-allowed}
-use Rattle.format.specs.Places.{count, noLine, lineAt, noViewThere, viewAt}
+use Rattle.format.specs.Places.{count, noLine, lineAt, noViewThere, viewAt, withView}
 use Rattle.format.specs.Named.{placeIn, Means}
 use Rattle.format.specs.declared.ViewName.{ViewName}
 use Rattle.orders.specs.Survive.{survivors}
@@ -94,6 +94,10 @@ view-keep w a v p seen f small =
 -- ---- the record
 
 module _ (i : ℕ) (a : Act) (r : Record) where
+  pub edited-is : edited i a r ≡ withView r i (after a (viewAt r i))
+  unfolding edited
+  edited-is = refl
+
   pub edited-head : edited i a r .head ≡ r .head
   unfolding edited
   edited-head = refl

@@ -25,13 +25,13 @@ use Rattle.format.specs.Call.{fromRead, onRecord, inView, onView}
 use Rattle.format.proofs.Laws.Call.{on-view, no-view, given-view}
 use Rattle.format.proofs.Laws.Named.{here}
 use Rattle.format.proofs.Laws.Record.{read-is}
-use Rattle.orders.specs.Act.{Act, Word, indexed?, near, newLines, after}
+use Rattle.orders.specs.Act.{Act, Word, indexed?, join, part, near, after}
 use Rattle.orders.specs.Order.{edited, firstBad, tests, verdict}
 use Rattle.orders.specs.Listed.{words, shapeOk}
 use Rattle.orders.specs.Called.{pairAct, wordAct, wordOrder}
 use Rattle.orders.specs.Accept.{ReadyView}
 use Rattle.orders.specs.Pairs.{PairsCall, singly, inTurn, pairsTests, pairsVerdict, pairsOn, pairs}
-use Rattle.orders.proofs.Laws.Near.{lines-after, indexed-after}
+use Rattle.orders.proofs.Laws.Near.{segments-after, lines-after, indexed-after}
 use Rattle.orders.proofs.Laws.Accept.{pass-zero, zero-pass}
 use Rattle.orders.proofs.Laws.Refuse.{first-fail, verdict-behind}
 use Rattle.orders.proofs.Laws.Keep.{edited-here, edited-means}
@@ -58,9 +58,14 @@ unfolding tests
 word-tests true a b v = refl
 word-tests false a b v = refl
 
-same-lines : (joins : Bool) (a b : ℕ) (v : View) → newLines (pairAct joins a b) v ≡ v .lines
-same-lines true a b v = refl
-same-lines false a b v = refl
+-- it leaves the lines and the segments
+pub pair-lines : (joins : Bool) (a b : ℕ) (v : View) → after (pairAct joins a b) v .lines ≡ v .lines
+pair-lines true a b v = lines-after (join a b) v
+pair-lines false a b v = lines-after (part a b) v
+
+pub pair-segments : (joins : Bool) (a b : ℕ) (v : View) → after (pairAct joins a b) v .segments ≡ v .segments
+pair-segments true a b v = segments-after (join a b) v
+pair-segments false a b v = segments-after (part a b) v
 
 -- the tests that are left where its view is ready
 abbrev pub wordTests : ℕ → Word → Record → List (Bool × ℕ)
@@ -90,7 +95,7 @@ module _ (view : ViewName) (n : ℕ) (w : Word) (r : Record) (y : ReadyView view
       record {
         place = y .place;
         means = edited-means (y .place) a r (y .means);
-        count = ap count e ∙ ap length (lines-after a v ∙ same-lines (w .joins) (w .one) (w .other) v) ∙ y .count;
+        count = ap count e ∙ ap length (pair-lines (w .joins) (w .one) (w .other) v) ∙ y .count;
         indexed = rw (e, indexed-after a v) (y .indexed);
       })
 

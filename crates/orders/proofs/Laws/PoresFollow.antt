@@ -6,8 +6,7 @@ use native.Mathlib.Omega.{arith}
 use mathlib.Core.Option.{some}
 use mathlib.Core.List.{List, []}
 use lib.ListN.{length, getD, length-map}
-use lib.Dec.{eqb, eqb→eq}
-use Rattle.bits.specs.ChoiceLaws.{pick-split, eqb-true}
+use Rattle.bits.specs.ChoiceLaws.{eqb-true}
 use Rattle.bits.specs.Lists.{All}
 use Rattle.bits.specs.ListsLaws.{at-all, map-at}
 use Rattle.bits.specs.Bytes.{Byte}
@@ -20,7 +19,6 @@ use Rattle.format.specs.Places.{count, lineAt, viewAt, noSegmentThere, segmentA
 use Rattle.format.specs.Named.{Means}
 use Rattle.format.specs.declared.ViewName.{ViewName}
 use Rattle.format.proofs.Laws.Record.{read-there, read-is}
-use Rattle.format.proofs.Laws.Call.{on-view}
 use Rattle.rewrite.specs.Accepted.{SegmentThere, itsSegment}
 use Rattle.rewrite.proofs.Laws.Payload.{read-given, reading-gives}
 use Rattle.pores.specs.Parts.{Pores, FitsPores}
@@ -32,15 +30,15 @@ use Rattle.pores.specs.Calls.{poresFormat, pores}
 use Rattle.pores.proofs.Laws.Keep.{keep-fits, kept-pores}
 use Rattle.orders.specs.Survive.{survivors}
 use Rattle.orders.specs.Act.{Act, remove, after}
-use Rattle.orders.specs.Order.{Order, edited, verdict, Accepted, ordered, order}
+use Rattle.orders.specs.Order.{Order, edited, order}
 use Rattle.orders.specs.History.{Call, run, Follows}
 use Rattle.orders.specs.Kept.{historyOf, Kept}
 use Rattle.orders.proofs.Laws.Survive.{survivors-below}
 use Rattle.orders.proofs.Laws.Near.{lines-after, segments-after}
-use Rattle.orders.proofs.Laws.Accept.{accepted}
 use Rattle.orders.proofs.Laws.Keep.{edited-here, edited-means, order-keeps}
 use Rattle.orders.proofs.Laws.Story.{segment-kept}
 use Rattle.orders.proofs.Laws.Sequence.{orders-follow}
+use Rattle.orders.proofs.Laws.Gives.{given-on}
 
 -- the segment of pores that is kept is read: ks are the lines that are left, of n
 kept-reads : (view : ViewName) (place : ℕ) (bytes : List ℕ) (t : SegmentThere view place bytes) (n : ℕ) (ks : List ℕ) (g : Segment) (p : Pores)
@@ -76,19 +74,15 @@ pub removal-pores : {P : Type 0} (o : Order) (rs : List ℕ) (bytes : List ℕ) 
     → pores (o .view) place bytes ≡ given xs
     → ((r : Record) (i : ℕ) (p : Pores) → read bytes ≡ got r [] → Means (o .view) r i → xs ≡ numbersOf p
     → pores (o .view) place new ≡ given (numbersOf (keep (survivors (count (viewAt r i)) rs) p)) → P) → P
-unfolding order
 removal-pores o rs bytes place xs new act h g k =
     read-given poresFormat (o .view) place bytes xs g λ t p kind right is es.
     let r : Record = t .value in
     let i : ℕ = t .i in
-    pick-split (eqb (verdict o i r) 0) _ _ (sym (on-view (o .view) (ordered o) bytes (t .reads) (t .means)) ∙ h)
-    (λ y e. let a : Accepted o i r = accepted o r (t .means) (eqb→eq (verdict o i r) 0 y) in
+    given-on o bytes (t .reads) (t .means) h λ a n.
     let w : Allowed (edited i (o .act) r) = order-keeps o i r (read-is bytes r [] (t .reads) .0) a in
-    let n : write (edited i (o .act) r) ≡ new = cc in
     k r i p (t .reads) (t .means) (sym es)
-    (ap (pores (o .view) place) (sym n ∙ ap (λ (c : Act). write (edited i c r)) act)
-    ∙ removed-reads i rs r (o .view) place p (t .means) (rw act at w) (t .there) kind right is))
-    (λ y e. let z : _≡_ {A = ℕ} 0 1 = cc in absurd (omega arith))
+    (ap (pores (o .view) place) (n ∙ ap (λ (c : Act). write (edited i c r)) act)
+    ∙ removed-reads i rs r (o .view) place p (t .means) (rw act at w) (t .there) kind right is)
 
 -- ---- behind any sequence
 

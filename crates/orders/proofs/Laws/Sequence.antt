@@ -139,7 +139,7 @@ runs-all (c ∷ cs) bytes r a p =
     }
 
 -- what holds is bytes
-run-bytes : (cs : List Call) (bytes : List ℕ) (r : Record) → Allowed r → read bytes ≡ got r [] → All Byte bytes → All Byte (run cs bytes)
+pub run-bytes : (cs : List Call) (bytes : List ℕ) (r : Record) → Allowed r → read bytes ≡ got r [] → All Byte bytes → All Byte (run cs bytes)
 run-bytes [] bytes r a p h = h
 run-bytes (c ∷ cs) bytes r a p h =
     let n : Runs (c ∷ []) r bytes = runs-one c bytes r a p in

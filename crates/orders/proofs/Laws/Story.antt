@@ -23,7 +23,7 @@ use Rattle.orders.specs.Survive.{at, upFrom, survivors, RisesFrom}
 use Rattle.orders.specs.Act.{Act, remove, join, part, lists, indexed?, near, newLines, newSegments, after}
 use Rattle.orders.specs.Order.{risesOk, tests, Pass}
 use Rattle.orders.specs.History.{History, fresh, tell, about, Follows}
-use Rattle.orders.proofs.Laws.Survive.{rises-lt, rises-make, rises-length, rises-all, at-ends, at-eqb, upFrom-rises, length-upFrom, at-up, survivors-rise, survivors-below, survivors-lt}
+use Rattle.orders.proofs.Laws.Survive.{map-rises, rises-length, rises-all, at-ends, at-eqb, upFrom-rises, length-upFrom, at-up, survivors-rise, survivors-below, survivors-lt}
 use Rattle.orders.proofs.Laws.Near.{head-after, segments-after, lines-after, indexed-after, least-after, near-remove, near-join, near-part}
 use Rattle.orders.proofs.Laws.Accept.{both-lines}
 use Rattle.orders.proofs.Laws.Right.{Right}
@@ -100,9 +100,7 @@ module _ (v₀ v : View) (h : History) (f : Follows v₀ v h) (rs : List ℕ) (o
         spared = λ e. absurd (omega arith);
         least = λ l. least-after (remove rs) v;
         counts = count-ks;
-        rises = rises-make 0 (map (at (h .left)) ks) (λ p l. omega arith)
-            (λ p q l k. let up : at ks p < at ks q = rises-lt 0 ks p q (survivors-rise (length (h .left)) rs) l (short k) in
-            rw (left-at p (omega (arith, short k)), left-at q (short k)) (rises-lt 0 (h .left) (at ks p) (at ks q) (f .rises) up (in-left q (short k))));
+        rises = map-rises (h .left) ks (f .rises) (survivors-rise (length (h .left)) rs) (survivors-below (length (h .left)) rs);
         below = λ p l. rw (left-at p (short l)) (f .below (at ks p) (in-left p (short l)));
         same = λ p l. rw (left-at p (short l)) (line-ks p (short l) ∙ f .same (at ks p) (in-left p (short l)));
         told = λ p q k l. rw (left-at p (short k), left-at q (short l))
@@ -121,7 +119,7 @@ about-at xs a b p q h ka kb kp kq =
     let lo : eqb (at xs (min p q)) (at xs (min a b)) ≡ eqb (min p q) (min a b) = at-eqb 0 xs h (min p q) (min a b) (omega arith) (omega arith) in
     rw (x, y, z, w, hi, lo)
 
-indexed-lists : {X : Type 0} (o : Option Index) → T (some? o) → ((ls : List (List ℕ)) → Option·map (λ i. i .lists) o ≡ some ls → X) → X
+pub indexed-lists : {X : Type 0} (o : Option Index) → T (some? o) → ((ls : List (List ℕ)) → Option·map (λ i. i .lists) o ≡ some ls → X) → X
 indexed-lists none t k = absurd t
 indexed-lists (some i) t k = k (i .lists) refl
 

@@ -6,11 +6,12 @@ use Prim.Native.Nat.{ℕ, zero, suc, _+_, _≤_, _<_, min, max}
 use native.Mathlib.Omega.{arith}
 use mathlib.Core.Bool.{Bool, _||_}
 use mathlib.Core.Option.{none, some}
-use mathlib.Core.List.{List, [], _∷_}
-use lib.ListN.{length}
+use mathlib.Core.List.{List, [], _∷_, map}
+use lib.ListN.{length, length-map}
 use lib.Dec.{T, T-not, eqb}
 use Rattle.bits.specs.ChoiceLaws.{pick-case, eqb-true, eqb-false, split, eq-split}
 use Rattle.bits.specs.Lists.{All}
+use Rattle.bits.specs.ListsLaws.{all-at, map-at}
 use Rattle.orders.specs.Survive.{elem, at, upFrom, without, survivors, place, renumber, RisesFrom}
 
 -- ---- rising lists, by places
@@ -76,6 +77,14 @@ module _ (m : ℕ) (xs : List ℕ) (h : RisesFrom m xs) where
       (λ n. eqb-false (at xs p) (at xs q)
       (λ e. split p q (λ o. omega (arith, rises-lt m xs p q h (omega arith) l)) (λ o. omega (arith, rises-lt m xs q p h o k)))
       ∙ sym (eqb-false p q n))
+
+-- what stands at rising places of a rising list rises
+pub map-rises : (xs ks : List ℕ) → RisesFrom 0 xs → RisesFrom 0 ks → All (λ k. k < length xs) ks → RisesFrom 0 (map (at xs) ks)
+map-rises xs ks h g l =
+    rises-make 0 (map (at xs) ks) (λ p k. omega arith) λ p q k o.
+    let m : q < length ks = omega (arith, length-map ks (at xs)) in
+    rw (map-at (at xs) ks p 0 0 (omega arith), map-at (at xs) ks q 0 0 m)
+    (rises-lt 0 xs (at ks p) (at ks q) h (rises-lt 0 ks p q g k m) (all-at (λ k. k < length xs) 0 ks q m l))
 
 -- ---- survivors
 

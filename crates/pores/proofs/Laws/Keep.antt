@@ -8,6 +8,7 @@ use mathlib.Core.Option.{Option, none, some}
 use mathlib.Core.List.{List, [], _∷_, map}
 use lib.ListN.{length, getD, length-map}
 use lib.Dec.{T, eqb→eq}
+use mir.Facts.{yes-and}
 use Rattle.bits.specs.Choice.{pick, some?}
 use Rattle.bits.specs.Lists.{All}
 use Rattle.bits.specs.ListsLaws.{all-at, all-map, map-at, yes-every, every-yes}
@@ -47,9 +48,10 @@ keep-all n ks p e up h =
     let z : map (distancesAt p) ks ≡ p .lines = all-lines (p .lines) ks (distancesAt p) (omega (arith, h .count)) (λ q l. ap (distancesAt p) (up q (omega (arith, h .count)))) in
     ap (λ (ls : List (List ℕ)). record { resolution = p .resolution; e = p .e; lines = ls }) z
 
-maps-twice : (f g : ℕ → List ℕ) (at : ℕ → ℕ) (m : ℕ) (ks : List ℕ) → All (λ k. k < m) ks → ((k : ℕ) → k < m → f k ≡ g (at k)) → map f ks ≡ map g (map at ks)
+pub maps-twice : {A : Type 0} (f g : ℕ → A) (at : ℕ → ℕ) (m : ℕ) (ks : List ℕ) → All (λ k. k < m) ks → ((k : ℕ) → k < m → f k ≡ g (at k))
+    → map f ks ≡ map g (map at ks)
 maps-twice f g at m [] l h = refl
-maps-twice f g at m (k ∷ ks) l h = ap₂ (λ (x : List ℕ) (xs : List (List ℕ)). x ∷ xs) (h k (l .0)) (maps-twice f g at m ks (l .1) h)
+maps-twice {A} f g at m (k ∷ ks) l h = ap₂ (λ (x : A) (xs : List A). x ∷ xs) (h k (l .0)) (maps-twice f g at m ks (l .1) h)
 
 pub keep-keep : (ks js : List ℕ) (p : Pores) → All (λ j. j < length ks) js → keep js (keep ks p) ≡ keep (map (λ j. getD ks j 0) js) p
 keep-keep ks js p l =
@@ -98,6 +100,19 @@ keep-two n ks js g low less right = ap (λ (s : List ℕ). record { kind = g .ki
     kind true t = said (poresIn n (g .payload)) refl t
     kind false t = refl
 
+-- what is kept of pores says pores, of the lines that are left
+right-kept : (n : ℕ) (ks : List ℕ) (g : Segment) → All (λ k. k < n) ks → T (poresRight n g) → T (poresRight (length ks) (keepIn n ks g))
+right-kept n ks g low right = kind (isPores g) right
+  where
+    said : (o : Option Pores) → poresIn n (g .payload) ≡ o → T (some? o) → T (some? (poresIn (length ks) (keptPayload ks (g .payload) o)))
+    said none h t = absurd t
+    said (some p) h t = rw (payload-read (length ks) (keep ks p) (keep-fits n ks p low (pores-fit n (g .payload) p h))) tt
+
+    kind : (t : Bool) → T (pick t (some? (poresIn n (g .payload))) true)
+        → T (pick t (some? (poresIn (length ks) (pick t (keptPayload ks (g .payload) (poresIn n (g .payload))) (g .payload)))) true)
+    kind true t = said (poresIn n (g .payload)) refl t
+    kind false t = tt
+
 -- what says pores of as many lines as before said pores before
 right-one : (m n : ℕ) (ks : List ℕ) (g : Segment) → m ≡ n → T (poresRight m (keepIn n ks g)) → T (poresRight n g)
 right-one m n ks g e right = kind (isPores g) right
@@ -126,6 +141,13 @@ keep-twice n ks js [] low less right = refl
 keep-twice n ks js (g ∷ gs) low less right =
     let (a, b) = yes-every (poresRight n) (g ∷ gs) right in
     ap₂ (λ (x : Segment) (xs : List Segment). x ∷ xs) (keep-two n ks js g low less a) (keep-twice n ks js gs low less (every-yes (poresRight n) gs b))
+
+pub right-after : (n : ℕ) (ks : List ℕ) (gs : List Segment) → All (λ k. k < n) ks → T (allPoresRight n gs) → T (allPoresRight (length ks) (keepSegments n ks gs))
+unfolding keepSegments allPoresRight
+right-after n ks [] low right = tt
+right-after n ks (g ∷ gs) low right =
+    let (a, b) = yes-every (poresRight n) (g ∷ gs) right in
+    yes-and (poresRight (length ks) (keepIn n ks g)) _ (right-kept n ks g low a) (right-after n ks gs low (every-yes (poresRight n) gs b))
 
 pub right-before : (m n : ℕ) (ks : List ℕ) (gs : List Segment) → m ≡ n → T (allPoresRight m (keepSegments n ks gs)) → T (allPoresRight n gs)
 unfolding keepSegments allPoresRight
