@@ -9,83 +9,25 @@
  *
  * An accepted reading or writing is run back too: of a record by its sheet, of local
  * quality by its values, and of pores by their numbers. The orders of a list of pairs
- * are given singly too.
+ * are given singly too, and the lines of an accepted removal are removed in two calls.
  */
 #define _DEFAULT_SOURCE
 #include <inttypes.h>
-#include <stdarg.h>
 #include <stdint.h>
 #include <stdio.h>
 #include <string.h>
 
 #include "case_file.h"
+#include "compare.h"
 #include "fsk.h"
 #include "guard.h"
 #include "library.h"
 
-enum { MOST_SHOWN = 20, LONGEST_RECORD = 32768, ORDER_BYTES = 6, PORE_BYTES = 4 };
+enum { LONGEST_RECORD = 32768, MOST_LINES = 1024 };
+enum { LINE_BYTES = 2, ORDER_BYTES = 6, PORE_BYTES = 4 };
 
-static uint32_t shown;
-
-/* ---- what is wrong ---- */
-
-static int wrong(uint32_t index, const test_case *c, placing run, const char *how, ...)
-{
-    va_list values;
-    if (shown++ >= MOST_SHOWN)
-        return 1;
-    printf("case %" PRIu32 " %s (", index, calls[c->call].name);
-    for (unsigned i = 0; i < c->numbers_passed; i++)
-        printf("number %" PRIu64 ", ", c->numbers[i]);
-    for (unsigned i = 0; i < c->inputs_lent; i++)
-        printf("%zu bytes in, ", c->inputs[i].length);
-    printf("%zu bytes out; %s): ", c->out_size, placings[run]);
-    va_start(values, how);
-    vprintf(how, values);
-    va_end(values);
-    printf("\n");
-    return 1;
-}
-
-static int fault_is_wrong(uint32_t index, const test_case *c, placing run)
-{
-    uintptr_t address = (uintptr_t)fault_address;
-    if (fault_signal != SIGSEGV && fault_signal != SIGBUS)
-        return wrong(index, c, run, "the call ended with signal %d", (int)fault_signal);
-    for (unsigned k = 0; k <= c->inputs_lent; k++) {
-        int out = k == c->inputs_lent;
-        room r = out ? output_room : input_rooms[k];
-        const uint8_t *lent_at = out ? output_at : inputs_at[k];
-        uintptr_t start = (uintptr_t)r.start;
-        if (lent_at != NULL && address >= start - GUARD && address < start + r.size + GUARD)
-            return wrong(index, c, run, "fault at byte %" PRIdPTR " of %s %u",
-                         (intptr_t)(address - (uintptr_t)lent_at),
-                         out ? "the output, slice" : "input slice", k);
-    }
-    return wrong(index, c, run, "fault at address 0x%" PRIxPTR, address);
-}
-
-static int run_is_wrong(uint32_t index, const test_case *c, placing run)
-{
-    fsk_answer found = {0, 0, 0};
-    lend(c, run);
-    if (!guarded_call(c, &found))
-        return fault_is_wrong(index, c, run);
-    if (found.number != c->number || found.place != c->place || found.length != c->length)
-        return wrong(index, c, run,
-                     "expected number %" PRIu32 " place %" PRIu32 " length %" PRIu64
-                     ", found number %" PRIu32 " place %" PRIu32 " length %zu",
-                     c->number, c->place, c->length,
-                     found.number, found.place, found.length);
-    for (size_t i = 0; i < c->out_size; i++) {
-        int inside = i < c->written.length;
-        uint8_t expected = inside ? c->written.bytes[i] : c->fill;
-        if (output_at[i] != expected)
-            return wrong(index, c, run, "output byte %zu (%s): expected %02x, found %02x",
-                         i, inside ? "written" : "must stay", expected, output_at[i]);
-    }
-    return 0;
-}
+/* Line numbers as a removal takes them. */
+typedef struct { uint8_t bytes[MOST_LINES * LINE_BYTES]; size_t length; } line_list;
 
 /* The way back of an accepted case: the call that undoes it, on what was written,
  * must give the lent bytes back, in just the room that they take. 0: there is none. */
@@ -163,6 +105,67 @@ static int singly_is_wrong(uint32_t index, const test_case *c)
     return 0;
 }
 
+/* Whether an accepted removal can be made in two calls: it has two lines or more. */
+static int can_be_two(const test_case *c)
+{
+    return c->call == REMOVE && c->number == 0 && c->inputs[1].length >= 2 * LINE_BYTES
+        && c->inputs[1].length <= sizeof ((line_list *)0)->bytes;
+}
+
+static void put_line(line_list *list, size_t line)
+{
+    list->bytes[list->length++] = (uint8_t)(line >> 8);
+    list->bytes[list->length++] = (uint8_t)line;
+}
+
+/* A removal's lines in two lists: those that go first, which are the lower half, the
+ * upper half or every other one, and the rest, by their places among the lines then left. */
+static void split(uint32_t index, slice lines, line_list *first, line_list *rest)
+{
+    size_t count = lines.length / LINE_BYTES;
+    first->length = rest->length = 0;
+    for (size_t i = 0; i < count; i++) {
+        size_t line = (size_t)lines.bytes[LINE_BYTES * i] << 8 | lines.bytes[LINE_BYTES * i + 1];
+        int is_lower = i < count / 2;
+        if (index % 3 == 0 ? is_lower : index % 3 == 1 ? !is_lower : i % 2 == 0)
+            put_line(first, line);
+        else
+            put_line(rest, line - first->length / LINE_BYTES);
+    }
+}
+
+/* Some of a removal's lines first, then the rest, in the same room: where the first call
+ * is accepted, the second must give what the one call gives. If that room is too little for
+ * what the first call leaves, this call is given room for any record; so only a record that
+ * is too long refuses it. Those that come to the second call are counted. */
+static int in_two_is_wrong(uint32_t index, const test_case *c, uint32_t *in_two)
+{
+    static uint8_t held[LONGEST_RECORD];
+    static line_list first, rest;
+    test_case call = *c;
+    fsk_answer found = {0, 0, 0};
+    split(index, c->inputs[1], &first, &rest);
+    call.inputs[1] = (slice){first.bytes, first.length};
+    for (int tries = 0; tries == 0 || (tries == 1 && found.number == 20); tries++) {
+        call.out_size = tries == 0 ? c->out_size : LONGEST_RECORD;
+        lend(&call, AT_END);
+        if (!guarded_call(&call, &found))
+            return fault_is_wrong(index, &call, AT_END);
+    }
+    if (found.number == 19)
+        return 0;
+    if (found.number != 0 || found.length > call.out_size || found.length > sizeof held)
+        return wrong(index, c, AT_END, "the first of two calls for its lines: number %" PRIu32,
+                     found.number);
+    memcpy(held, output_at, found.length);
+    call.inputs[0] = (slice){held, found.length};
+    call.inputs[1] = (slice){rest.bytes, rest.length};
+    call.numbers[2] -= first.length / LINE_BYTES;
+    call.out_size = c->out_size;
+    ++*in_two;
+    return run_is_wrong(index, &call, AT_END);
+}
+
 static int case_is_wrong(uint32_t index, const test_case *c)
 {
     int has_empty = c->out_size == 0;
@@ -174,7 +177,7 @@ static int case_is_wrong(uint32_t index, const test_case *c)
 
 int main(int argc, char **argv)
 {
-    uint32_t cases, ways_back = 0, singly = 0, wrong_cases = 0;
+    uint32_t cases, ways_back = 0, singly = 0, in_two = 0, wrong_cases = 0;
     slice rest;
     if (argc != 2)
         stop("one argument is needed, the case file");
@@ -193,9 +196,12 @@ int main(int argc, char **argv)
             is_wrong |= singly_is_wrong(index, &c);
             singly++;
         }
+        if (can_be_two(&c))
+            is_wrong |= in_two_is_wrong(index, &c, &in_two);
         wrong_cases += is_wrong;
     }
     printf("replay: %" PRIu32 " cases, %" PRIu32 " of them there and back, %" PRIu32
-           " singly too, %" PRIu32 " wrong\n", cases, ways_back, singly, wrong_cases);
+           " singly too, %" PRIu32 " in two too, %" PRIu32 " wrong\n",
+           cases, ways_back, singly, in_two, wrong_cases);
     return cases > 0 && wrong_cases == 0 ? 0 : 1;
 }

@@ -26,10 +26,10 @@ unsigned and stand high byte first:
                     the output beyond them must keep its fill
 
 Tables go to standard error: how often each number was met, how often each fault,
-how often calls were accepted in each way, behind which orders pores were read, and
-what the names of views were like (tables.py). What a chosen call can meet and never
-met is a failure. How many cases are refused with a place in the record goes to
-standard output.
+how often calls were accepted in each way, behind which orders pores were read, what
+the names of views were like, and how often the laws of request [8] were met in each way
+(tables.py). What a chosen call can meet and never met is a failure. How many cases are
+refused with a place in the record goes to standard output.
 """
 
 import argparse

@@ -15,7 +15,11 @@ PLENTY = (65535, 65536, 65537, 131072)
 
 @dataclass
 class Case:
-    """One case: what is passed and lent, and what must come back."""
+    """One case: what is passed and lent, and what must come back.
+
+    Where it is the last of a law's trial, that law with each way in which it was met;
+    these are only counted.
+    """
 
     call: str
     numbers: list
@@ -23,6 +27,7 @@ class Case:
     out_size: int
     fill: int
     expected: Outcome
+    laws: tuple = ()
 
 
 def room_for_list(rng, lengths):
@@ -58,13 +63,18 @@ def out_size_for(rng, call, result):
     return max(0, rng.choice(sizes))
 
 
+def lend_known(rng, call, numbers, slices, result, out_size):
+    """The case of a call whose outcome in ample room is known."""
+    fill = rng.choice((0x00, 0xFF, 0xA5, rng.randrange(256)))
+    return Case(call, numbers, slices, out_size, fill, lent(result, out_size))
+
+
 def lend(rng, call, numbers, slices, out_size=None):
     """The case of a call; the size of its output is left to chance if not given."""
     result = outcome(call, numbers, slices)
     if out_size is None:
         out_size = out_size_for(rng, call, result)
-    fill = rng.choice((0x00, 0xFF, 0xA5, rng.randrange(256)))
-    return Case(call, numbers, slices, out_size, fill, lent(result, out_size))
+    return lend_known(rng, call, numbers, slices, result, out_size)
 
 
 def lend_enough(rng, call, numbers, slices):

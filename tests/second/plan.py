@@ -2,7 +2,7 @@
 
 A call's cases are an endless stream that mixes right and damaged records in
 turns, so that every refusal is met again and again; a share is kept for the
-records at the edges, and for names of views that are easily mistaken.
+records at the edges, for names of views that are easily mistaken, and for the laws.
 """
 
 from functools import partial
@@ -14,6 +14,7 @@ from damage_sheet import KINDS as SHEET_KINDS
 from damage_sheet import damaged_sheet, long_sheets
 from edges import edge_records, heading_records
 from edges_sheet import some_edge_sheets
+from laws_plan import with_laws
 from lend import lend, place_in
 from make import long_records, random_record
 from make_names import any_name, name_in
@@ -243,4 +244,4 @@ def streams(calls):
     makers["pairs"] = partial(pairs_call_stream, sequenced)
     for call in NAMING:
         makers[call] = partial(names_first, call, makers[call])
-    return makers
+    return with_laws(makers, calls)

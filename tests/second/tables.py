@@ -1,11 +1,12 @@
 """What the cases of each call have to meet, and tables of how often they did.
 
-Five things are counted: the numbers that a call gives; the faults behind them,
+Six things are counted: the numbers that a call gives; the faults behind them,
 which are what the place of 2 to 12 points at, the rule that 24, 25 or 26 tells of,
 whether 16 stands before bad pores, or where in its list an order stands that is
 refused; the ways in which a call was accepted, of which it can have several at once;
-behind which orders pores were read; and what the names of views were like, in calls
-that were accepted and in those that 13 refused.
+behind which orders pores were read; what the names of views were like, in calls
+that were accepted and in those that 13 refused; and the ways in which the laws of
+request [8] were met, where the calls chosen have them.
 """
 
 from collections import Counter
@@ -14,6 +15,8 @@ import pores
 import pores_ways
 import quality
 from answers import NAMING, ORDERS, judged
+from laws_plan import are_planned
+from laws_trial import LAWS
 from model import FAULTS, LIST_FAULTS, OTHER_TYPE_FAULTS, PORE_FAULTS, QUALITY_FAULTS
 from names import RIGHT_NAMES, WRONG_NAMES, right_kinds, wrong_kinds
 from pairs import LISTS, PAIR_FAULTS
@@ -76,13 +79,14 @@ class Met:
 
     def __init__(self):
         self.numbers, self.ways, self.names = Counter(), Counter(), Counter()
-        self.behind, self.order = Counter(), None
+        self.behind, self.order, self.laws = Counter(), None, Counter()
 
     def add(self, case):
         """Counts a case."""
         expected = case.expected
         self.numbers[case.call, expected.number, expected.fault] += 1
         self.ways.update((case.call, way) for way in expected.ways)
+        self.laws.update(case.laws)
         if case.call in NAMING:
             self.names.update((case.call, kind) for kind in self.kinds_of_name(case))
         if case.call == "pores" and expected.number == 0:
@@ -124,6 +128,13 @@ def orders_to_read_behind(calls):
     return found + ([MOVED_UP] if "remove" in found else [])
 
 
+def laws_to_meet(calls):
+    """Each law with each way in which the cases of these calls have to meet it."""
+    if not are_planned(calls):
+        return []
+    return [(law, way) for law, (_, ways) in LAWS.items() for way in ways]
+
+
 def never_met(met, calls):
     """What the calls can meet and never met, as texts."""
     wanted = [(call, number, fault) for call in calls
@@ -137,6 +148,8 @@ def never_met(met, calls):
         missing += ["%s, %s: %s" % (call, what, kind)
                     for what, known, naming in NAMES if call in naming
                     for kind in known if met.names[call, kind] == 0]
+    missing += ["law %d: %s" % each for each in laws_to_meet(calls)
+                if met.laws[each] == 0]
     return missing + ["pores, read behind: %s" % order
                       for order in orders_to_read_behind(calls)
                       if met.behind[order] == 0]
@@ -211,8 +224,20 @@ def name_tables(met, calls):
     return "\n".join(lines)
 
 
+def law_table(met, calls):
+    """How often each law was met in each of its ways, as text."""
+    lines = []
+    for law, way in laws_to_meet(calls):
+        title, ways = LAWS[law]
+        if way == ways[0]:
+            lines.append("law %d, %s" % (law, title))
+        lines.append("   %-25s%12s" % (way, met.laws[law, way] or "."))
+    return "\n".join(lines)
+
+
 def all_tables(met, calls):
     """The tables that have something to tell, one after another."""
     tables = [number_table(met, calls), fault_table(met, calls), list_table(met, calls),
-              way_tables(met, calls), behind_table(met, calls), name_tables(met, calls)]
+              way_tables(met, calls), behind_table(met, calls), name_tables(met, calls),
+              law_table(met, calls)]
     return "\n".join(table for table in tables if table)
