@@ -222,6 +222,11 @@ fsk_answer fsk_set_pores(const uint8_t *record, size_t record_length, uint32_t f
  * again after it was accepted is refused, and nothing is lost. All that is not ordered stays; but in a view with an index, the
  * index is written at the least width that holds it, so that a record may become longer. 32,768 bytes always suffice. fsk_holds
  * tells which record holds after an order, or after a list of them; it is what the next order is for.
+ *
+ * How the work is split does not matter, where all orders are accepted: lines removed in two orders, the second by the numbers that are
+ * then theirs, leave the bytes that one order for all of them leaves; orders on two views leave the same bytes whichever come first; a
+ * join and a part of the same two lines, either one first, leave the record as it was, but for the view's index, which then has its
+ * least width.
  */
 
 /*
