@@ -1,7 +1,7 @@
 -- WHAT THE LIBRARY PROMISES, of every record, sheet and sequence of orders. Which numbers and places each call gives, and when it is
 -- accepted, is promised in PromisesCalls beside it; what is promised of local quality, in PromisesQuality; of sweat pores, in
--- PromisesPores; of lists of pairs, in PromisesPairs. Each promise is a statement; its proof is one citation. Every name in a statement
--- leads to one definition, and all of these stand in specs/:
+-- PromisesPores; of lists of pairs, in PromisesPairs; of work that is split, in PromisesSplit. Each promise is a statement; its proof is
+-- one citation. Every name in a statement leads to one definition, and all of these stand in specs/:
 --   bits/specs/Choice, Lists, Bits, Bytes   within; All, Along; Bits; Byte
 --   bits/specs/Codec           Codec.got, Codec.refused: what reading gives; enc, what is written
 --   outcome/specs/Refusals, Placed   otherCount, tooLong, badSheet, badValue; Placed
@@ -154,7 +154,7 @@ by-finger = FingerLaws.by-finger
 
 -- ---- DEMAND 3: orders
 -- (that an order is refused for the numbered causes alone: PromisesCalls; that a list of pairs is its orders, given singly:
--- PromisesPairs)
+-- PromisesPairs; that two removals are one, and orders on two views may change places: PromisesSplit)
 
 -- an accepted order, on the view at place i, leaves an allowed record
 pub order-keeps : (o : Order) (i : ℕ) (r : Record) → Allowed r → Accepted o i r → Allowed (edited i (o .act) r)

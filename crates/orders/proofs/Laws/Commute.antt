@@ -5,7 +5,7 @@ use mathlib.Core.Logic.{_≢_}
 use Prim.Native.Nat.{ℕ}
 use mathlib.Core.Bool.{Bool}
 use mathlib.Core.List.{List, [], _∷_, _++_, map, append-nil, append-assoc}
-use lib.Seq.{set-set, set-comm}
+use lib.Seq.{set-comm}
 use Rattle.bits.specs.Lists.{All}
 use Rattle.bits.specs.ListsLaws.{all-append}
 use Rattle.bits.specs.Bytes.{Byte}
@@ -29,7 +29,7 @@ use Rattle.orders.specs.Pairs.{wordCall, singly}
 use Rattle.orders.specs.AnyCall.{AnyCall, one, list, outcomeOf, runAny, AllTaken, AllAccepted}
 use Rattle.orders.specs.Split.{viewOf, AllOn}
 use Rattle.orders.proofs.Laws.Near.{head-after}
-use Rattle.orders.proofs.Laws.Keep.{edited-here, edited-other, edited-means, order-keeps}
+use Rattle.orders.proofs.Laws.Keep.{edited-here, edited-again, edited-other, edited-means, order-keeps}
 use Rattle.orders.proofs.Laws.AcceptCall.{outcome-accepted}
 use Rattle.orders.proofs.Laws.Sequence.{outcome-split, run-append, run-bytes}
 use Rattle.orders.proofs.Laws.Singly.{pairs-given}
@@ -44,7 +44,7 @@ views-apart {r = r} d m n q = d (sym (means-name m) ∙ ap (λ (k : ℕ). nameOf
 changed-both : (r : Record) (i j : ℕ) (u w : View) → i ≢ j → withView (withView r i u) j w ≡ withView (withView r j w) i u
 changed-both r i j u w n = ap (λ (vs : List View). record { head = r .head; views = vs }) (set-comm (r .views) i j u w n)
 
--- the same bytes read more one record
+-- the same bytes read as one record
 pub same-read : (bytes : List ℕ) {r s : Record} → read bytes ≡ got r [] → read bytes ≡ got s [] → s ≡ r
 same-read bytes {r} {s} e f = let q : _≡_ {A = Read Bool Record} (got s []) (got r []) = sym f ∙ e in cc
 
@@ -89,10 +89,6 @@ actsOf cs = map (λ c. c .order .act) cs
 -- each is about the view with that name
 abbrev pub CallsOn : ViewName → List Call → Type 0
 CallsOn view cs = All (λ c. c .order .view ≡ view) cs
-
-edited-again : (i : ℕ) (a : Act) (r : Record) (u : View) → withView (edited i a r) i u ≡ withView r i u
-unfolding edited
-edited-again i a r u = ap (λ (vs : List View). record { head = r .head; views = vs }) (set-set (r .views) i (after a (viewAt r i)) u)
 
 -- all are accepted: only that view is another
 pub taken-reads : (view : ViewName) (cs : List Call) (bytes : List ℕ) (r : Record) (i : ℕ) → read bytes ≡ got r [] → Means view r i → CallsOn view cs → AllTaken cs bytes

@@ -1,6 +1,6 @@
 -- An accepted order leaves a record that is allowed, with the same header and as many views, and every view that it does not name
 -- is as it was, to the bit.
-use mathlib.Core.Path.{_≡_, refl}
+use mathlib.Core.Path.{_≡_, refl, ap}
 use mathlib.Core.Logic.{_≢_}
 use Prim.Native.Nat.{ℕ, _≤_, _<_}
 use native.Mathlib.Nat.{zero-add}
@@ -9,6 +9,7 @@ use mathlib.Core.Bool.{Bool}
 use mathlib.Core.Option.{Option, none, some, Option·map}
 use mathlib.Core.List.{List, []}
 use lib.ListN.{length, length-map}
+use lib.Seq.{set-set}
 use Rattle.bits.specs.Lists.{Along}
 use Rattle.bits.specs.ListsLaws.{all-at, all-map, along-at, along-up, up-along, mapped}
 use Rattle.bits.specs.Codec.{Codec}
@@ -109,6 +110,11 @@ module _ (i : ℕ) (a : Act) (r : Record) where
   pub edited-here : i < length (r .views) → viewAt (edited i a r) i ≡ after a (viewAt r i)
   unfolding edited
   edited-here l = changed-here r i (after a (viewAt r i)) l
+
+  -- changed once more, at the same place
+  pub edited-again : (u : View) → withView (edited i a r) i u ≡ withView r i u
+  unfolding edited
+  edited-again u = ap (λ (vs : List View). record { head = r .head; views = vs }) (set-set (r .views) i (after a (viewAt r i)) u)
 
   pub edited-other : (j : ℕ) → j ≢ i → viewAt (edited i a r) j ≡ viewAt r j
   unfolding edited

@@ -5,7 +5,6 @@ use Prim.Native.Nat.{ℕ, _<_}
 use mathlib.Core.Bool.{Bool, _&&_}
 use mathlib.Core.List.{List, [], _∷_}
 use lib.ListN.{length}
-use lib.Seq.{set-set}
 use lib.Dec.{T}
 use Rattle.outcome.specs.Outcome.{given}
 use Rattle.format.specs.Segments.{Segment}
@@ -23,7 +22,7 @@ use Rattle.orders.specs.Called.{removing}
 use Rattle.orders.specs.Split.{countAfter, renumbered, Together}
 use Rattle.orders.proofs.Laws.Survive.{survivors-below}
 use Rattle.orders.proofs.Laws.Near.{segments-after}
-use Rattle.orders.proofs.Laws.Keep.{edited-is, edited-here, edited-means, order-keeps}
+use Rattle.orders.proofs.Laws.Keep.{edited-is, edited-here, edited-again, edited-means, order-keeps}
 use Rattle.orders.proofs.Laws.Twice.{count-removed, removed-twice}
 use Rattle.orders.proofs.Laws.Renumber.{renumbered-ok, second-list}
 use Rattle.orders.proofs.Laws.Gives.{limited, order-limited, given-on, given-order}
@@ -31,10 +30,9 @@ use Rattle.orders.proofs.Laws.Gives.{limited, order-limited, given-on, 
 -- ---- two orders on one view
 
 pub edited-twice : (i : ℕ) (a b : Act) (r : Record) → i < length (r .views) → edited i b (edited i a r) ≡ withView r i (after b (after a (viewAt r i)))
-unfolding edited
 edited-twice i a b r l =
-    ap (λ (v : View). withView (withView r i (after a (viewAt r i))) i (after b v)) (edited-here i a r l)
-    ∙ ap (λ (vs : List View). record { head = r .head; views = vs }) (set-set (r .views) i (after a (viewAt r i)) (after b (after a (viewAt r i))))
+    edited-is i b (edited i a r) ∙ ap (λ (v : View). withView (edited i a r) i (after b v)) (edited-here i a r l)
+    ∙ edited-again i a r (after b (after a (viewAt r i)))
 
 -- ---- the tests of the second
 
