@@ -61,7 +61,7 @@ firstView =
     firstScan (lineTo 10 ++ lineTo 11 ++ lineTo 12 ++ lineTo 13 ++ lineTo 14) (0x03 ∷ 0x04 ∷ 0xA2 ∷ 0x49 ∷ 0x64 ∷ 0xA0 ∷ [])
     (0x01 ∷ 0x02 ∷ 0x20 ∷ 0x30 ∷ 0x0F ∷ 0x10 ∷ [])
 
-abbrev pub sample : List ℕ
+abbrev sample : List ℕ
 sample = twoViews firstView (secondScan 0x60)
 
 abbrev first : ViewName

@@ -45,7 +45,7 @@ changed-both : (r : Record) (i j : ℕ) (u w : View) → i ≢ j → withView (w
 changed-both r i j u w n = ap (λ (vs : List View). record { head = r .head; views = vs }) (set-comm (r .views) i j u w n)
 
 -- the same bytes read as one record
-pub same-read : (bytes : List ℕ) {r s : Record} → read bytes ≡ got r [] → read bytes ≡ got s [] → s ≡ r
+same-read : (bytes : List ℕ) {r s : Record} → read bytes ≡ got r [] → read bytes ≡ got s [] → s ≡ r
 same-read bytes {r} {s} e f = let q : _≡_ {A = Read Bool Record} (got s []) (got r []) = sym f ∙ e in cc
 
 -- ---- two single orders

@@ -1,6 +1,6 @@
 -- An accepted order leaves a record that is allowed, with the same header and as many views, and every view that it does not name
 -- is as it was, to the bit.
-use mathlib.Core.Path.{_≡_, refl, ap}
+use mathlib.Core.Path.{_≡_, refl, ap, _∙_}
 use mathlib.Core.Logic.{_≢_}
 use Prim.Native.Nat.{ℕ, _≤_, _<_}
 use native.Mathlib.Nat.{zero-add}
@@ -128,6 +128,12 @@ module _ (i : ℕ) (a : Act) (r : Record) where
   pub edited-means : {view : ViewName} {j : ℕ} → Means view r j → Means view (edited i a r) j
   unfolding edited
   edited-means {view} m = changed-means r i (after a (viewAt r i)) (head-after a (viewAt r i)) view m
+
+-- two orders on one view
+pub edited-twice : (i : ℕ) (a b : Act) (r : Record) → i < length (r .views) → edited i b (edited i a r) ≡ withView r i (after b (after a (viewAt r i)))
+edited-twice i a b r l =
+    edited-is i b (edited i a r) ∙ ap (λ (v : View). withView (edited i a r) i (after b v)) (edited-here i a r l)
+    ∙ edited-again i a r (after b (after a (viewAt r i)))
 
 pub order-keeps : (o : Order) (i : ℕ) (r : Record) → Allowed r → Accepted o i r → Allowed (edited i (o .act) r)
 unfolding edited

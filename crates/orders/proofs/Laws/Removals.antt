@@ -1,10 +1,9 @@
 -- TWO REMOVALS ARE ONE: behind an accepted removal, a second one has the outcome that one removal of both their lines has; and every
 -- removal behind it is such a second one.
 use mathlib.Core.Path.{_≡_, refl, sym, ap, _∙_, subst}
-use Prim.Native.Nat.{ℕ, _<_}
+use Prim.Native.Nat.{ℕ}
 use mathlib.Core.Bool.{Bool, _&&_}
 use mathlib.Core.List.{List, [], _∷_}
-use lib.ListN.{length}
 use lib.Dec.{T}
 use Rattle.outcome.specs.Outcome.{given}
 use Rattle.format.specs.Segments.{Segment}
@@ -16,23 +15,27 @@ use Rattle.format.proofs.Laws.Record.{read-there, read-is}
 use Rattle.pores.specs.Keep.{keepSegments, allPoresRight}
 use Rattle.pores.proofs.Laws.Keep.{right-after}
 use Rattle.orders.specs.Survive.{survivors}
-use Rattle.orders.specs.Act.{Act, remove, after}
+use Rattle.orders.specs.Act.{remove, after}
 use Rattle.orders.specs.Order.{edited, linesOk, carried, allCarried, tests, Pass, order}
 use Rattle.orders.specs.Called.{removing}
 use Rattle.orders.specs.Split.{countAfter, renumbered, Together}
 use Rattle.orders.proofs.Laws.Survive.{survivors-below}
 use Rattle.orders.proofs.Laws.Near.{segments-after}
-use Rattle.orders.proofs.Laws.Keep.{edited-is, edited-here, edited-again, edited-means, order-keeps}
+use Rattle.orders.proofs.Laws.Keep.{edited-is, edited-here, edited-twice, edited-means, order-keeps}
 use Rattle.orders.proofs.Laws.Twice.{count-removed, removed-twice}
 use Rattle.orders.proofs.Laws.Renumber.{renumbered-ok, second-list}
 use Rattle.orders.proofs.Laws.Gives.{limited, order-limited, given-on, given-order}
 
--- ---- two orders on one view
+-- ---- what the tests of a removal say
 
-pub edited-twice : (i : ℕ) (a b : Act) (r : Record) → i < length (r .views) → edited i b (edited i a r) ≡ withView r i (after b (after a (viewAt r i)))
-edited-twice i a b r l =
-    edited-is i b (edited i a r) ∙ ap (λ (v : View). withView (edited i a r) i (after b v)) (edited-here i a r l)
-    ∙ edited-again i a r (after b (after a (viewAt r i)))
+module _ (v : View) (rs : List ℕ) (p : Pass (tests (remove rs) v)) where
+  lines-passed : T (linesOk (count v) rs)
+  unfolding tests
+  lines-passed = p .0
+
+  pores-passed : T (allPoresRight (count v) (v .segments))
+  unfolding tests
+  pores-passed = p .1 .1 .0
 
 -- ---- the tests of the second
 
@@ -58,11 +61,6 @@ module _ (v : View) (rs ss both : List ℕ) (t : Together (count v) rs ss both) 
   unfolding tests
   once-passes = (t .once, p .1)
 
-  -- before the first
-  pores-right : T (allPoresRight (count v) (v .segments))
-  unfolding tests
-  pores-right = p .1 .1 .0
-
 -- ---- the theorems
 
 pub two-removals : (view : ViewName) (n : ℕ) (rs ss both bytes first : List ℕ) → Together n rs ss both → order (removing view n rs) bytes ≡ given first
@@ -76,16 +74,11 @@ two-removals view n rs ss both bytes first t h =
     let y : Together (count v) rs ss both = rw (a .count) t in
     let same : edited i (remove (renumbered (count v) rs ss)) x ≡ edited i (remove both) r =
     edited-twice i (remove rs) (remove (renumbered (count v) rs ss)) r (a .means .there)
-    ∙ ap (withView r i) (removed-twice v rs ss both (y .has) (pores-right v rs ss both y (a .passes))) ∙ sym (edited-is i (remove both) r) in
+    ∙ ap (withView r i) (removed-twice v rs ss both (y .has) (pores-passed v rs (a .passes))) ∙ sym (edited-is i (remove both) r) in
     rw (w, ← a .count)
     (order-limited (removing view (countAfter (count v) rs) (renumbered (count v) rs ss)) (write x) (read-there x allowed) (edited-means i (remove rs) r (a .means))
     (ap count here ∙ count-removed v rs) (rw here (second-passes v rs ss both y (a .passes)))
     ∙ ap limited same ∙ sym (order-limited (removing view (count v) both) bytes e (a .means) refl (once-passes v rs ss both y (a .passes))))
-
--- the list of an accepted removal is right
-lines-passed : (v : View) (rs : List ℕ) → Pass (tests (remove rs) v) → T (linesOk (count v) rs)
-unfolding tests
-lines-passed v rs p = p .0
 
 pub second-removal : (view : ViewName) (n m : ℕ) (rs cs bytes first new : List ℕ) → order (removing view n rs) bytes ≡ given first
     → order (removing view m cs) first ≡ given new → (ss : List ℕ) × (both : List ℕ) × Together n rs ss both × (m ≡ countAfter n rs) × (cs ≡ renumbered n rs ss)

@@ -56,7 +56,7 @@ without-told f rs ss p (x ∷ xs) h e =
     go d ih false = ap₂ (λ (y : ℕ) (ys : List ℕ). y ∷ ys) d ih
 
 -- behind both, by their numbers before the first
-pub left-twice : (n : ℕ) (rs ss both : List ℕ) → ((line : ℕ) → elem line both ≡ elem line rs || elem line ss)
+left-twice : (n : ℕ) (rs ss both : List ℕ) → ((line : ℕ) → elem line both ≡ elem line rs || elem line ss)
     → map (at (survivors n rs)) (survivors (length (survivors n rs)) (renumber (survivors n rs) ss)) ≡ survivors n both
 left-twice n rs ss both h =
     let ks : List ℕ = survivors n rs in

@@ -45,12 +45,11 @@ use Rattle.orders.proofs.Laws.Least.{least-least}
 use Rattle.orders.proofs.Laws.Near.{head-after, index-after, lists-after, indexed-after, near-join, near-part}
 use Rattle.orders.proofs.Laws.Accept.{both-lines}
 use Rattle.orders.proofs.Laws.Right.{Right}
-use Rattle.orders.proofs.Laws.Keep.{edited-here, edited-means, order-keeps, allowed-right}
+use Rattle.orders.proofs.Laws.Keep.{edited-here, edited-twice, edited-means, order-keeps, allowed-right}
 use Rattle.orders.proofs.Laws.Story.{indexed-lists}
 use Rattle.orders.proofs.Laws.Pairs.{word-tests, pair-lines, pair-segments}
 use Rattle.orders.proofs.Laws.Twice.{equal-views}
 use Rattle.orders.proofs.Laws.Gives.{limited, order-limited, given-on}
-use Rattle.orders.proofs.Laws.Removals.{edited-twice}
 
 -- ---- one number put in and taken out, in a list that falls
 
@@ -136,7 +135,7 @@ module _ (joins : Bool) (a b : ℕ) (v : View) (r : Right v) (p : Pass (tests (p
   abbrev opposite : Act
   opposite = pairAct (not joins) a b
 
-  pub pair-back : after opposite u ≡ narrowed v
+  pair-back : after opposite u ≡ narrowed v
   pair-back =
       equal-views (after opposite u) (narrowed v) (head-after opposite u ∙ head-after (pairAct joins a b) v)
       (pair-lines (not joins) a b u ∙ pair-lines joins a b v)
@@ -158,7 +157,7 @@ module _ (joins : Bool) (a b : ℕ) (v : View) (r : Right v) (p : Pass (tests (p
       go true q = indexed-lists (v .index) (q .0) λ ls e. near-join v a b ls e (there ls e (q .1 .0)) a b ∙ pick-yes (about a b a b) _ _ about-same
       go false q = indexed-lists (v .index) (q .0) λ ls e. near-part v a b ls e (there ls e (q .1 .0)) a b ∙ pick-yes (about a b a b) _ _ about-same
 
-  pub opposite-passes : Pass (tests opposite u)
+  opposite-passes : Pass (tests opposite u)
   opposite-passes =
       let q = rw (word-tests joins a b v) at p in
       rw (word-tests (not joins) a b u) (rw (indexed-after (pairAct joins a b) v) (q .0), (rw (pair-lines joins a b v) (q .1 .0), (rw near-told (told joins), tt)))
