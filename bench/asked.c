@@ -51,6 +51,18 @@ size_t list_removal(const sample *of, uint8_t *list)
     return (size_t)(list - start);
 }
 
+/* Steps of 0 to 63 points. */
+size_t list_run(const sample *of, uint8_t *list)
+{
+    const uint8_t *const start = list;
+    uint32_t coordinate = 0;
+    for (uint32_t line = 0; line < of->lines; line++) {
+        coordinate += (29 * line + 11) % 64;
+        list = plain_put_two_bytes(list, coordinate);
+    }
+    return (size_t)(list - start);
+}
+
 /* ---- a list of pairs ---- */
 
 /* Whether a line's list, the first number's, has a line. */

@@ -118,7 +118,7 @@ int main(void)
            "ns/byte", "ns/call", "ns/byte", "/ plain");
     for (const row *r = rows; r->name != NULL; r++)
         for (const shape *of = shapes; of < shapes + SHAPES; of++)
-            if (!r->too_short && applies(r, of))
+            if (!r->untimed && applies(r, of))
                 measure(r, of);
     return 0;
 }

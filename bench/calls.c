@@ -39,6 +39,10 @@ BOTH(set_quality, on->record, on->length, NAME(on->with_segments), on->segments 
 BOTH(pores, on->record, on->length, NAME(on->with_segments), on->segments - 1, out, room)
 BOTH(set_pores, on->record, on->length, NAME(on->with_segments), on->segments - 1, on->pores,
      on->pores_length, out, room)
+BOTH(card_read, on->size, on->object, on->object_length, out, room)
+BOTH(card_write, on->size, on->record, on->length, NAME(on->view), out, room)
+BOTH(low_bytes, on->run, on->run_length, out, room)
+BOTH(from_low_bytes, on->low_bytes, on->low_bytes_length, out, room)
 BOTH(remove, on->record, on->length, NAME(on->ordered), on->ordered_lines, on->removed,
      on->removed_length, out, room)
 BOTH(join, on->record, on->length, NAME(on->ordered), on->ordered_lines, on->strangers[0],
@@ -64,8 +68,8 @@ static fsk_answer of_held(fsk_held held)
 /* After an order that wrote as many bytes as the record has. */
 SIDES(holds, holds, of_held, on->record, on->length, out, room, 0, on->length)
 
-#define ROW(name, row, needs, too_short)                                                          \
-    {name, library_##row, by_hand_##row, empty_##row, needs, too_short}
+#define ROW(name, row, needs, untimed)                                                            \
+    {name, library_##row, by_hand_##row, empty_##row, needs, untimed}
 
 const row rows[] = {
     ROW("read", read, NOTHING, 0),
@@ -76,6 +80,10 @@ const row rows[] = {
     ROW("set_quality", set_quality, QUALITY, 0),
     ROW("pores", pores, PORES, 0),
     ROW("set_pores", set_pores, PORES, 0),
+    ROW("card_read", card_read, AN_OBJECT, 0),
+    ROW("card_write", card_write, AN_OBJECT, 0),
+    ROW("low_bytes", low_bytes, NOTHING, 1),
+    ROW("from_low", from_low_bytes, NOTHING, 1),
     ROW("remove", remove, NOTHING, 0),
     ROW("join", join, NOTHING, 0),
     ROW("part", part, NOTHING, 0),
@@ -96,6 +104,8 @@ int applies(const row *r, const shape *of)
         return on->values_length > 0;
     case PORES:
         return on->pores_length > 0;
+    case AN_OBJECT:
+        return on->object_length > 0;
     case A_PAIR_LIST:
         return on->pairs != NULL;
     default:

@@ -15,14 +15,15 @@ enum { ROOM = 1 << 17 };
 typedef fsk_answer (*call)(const sample *on, uint8_t *out, size_t room);
 
 /* What a record must have for a call. */
-typedef enum { NOTHING, A_SEGMENT, QUALITY, PORES, A_PAIR_LIST } need;
+typedef enum { NOTHING, A_SEGMENT, QUALITY, PORES, AN_OBJECT, A_PAIR_LIST } need;
 
 typedef struct {
     const char *name;
     call library, plain;
     call empty;    /* the same arguments, lent to a call that does nothing */
     need needs;
-    int too_short; /* whether it only compares two numbers, so that a time would tell nothing */
+    int untimed;   /* whether it is too simple for a time to tell anything: a loop over numbers, or
+                      no loop at all */
 } row;
 
 /* Behind the last row stands one without a name. */

@@ -2,8 +2,8 @@
  * The calls of fsk.h once more, written by hand in C and without proofs: what the library is
  * measured against. Signatures and answers, the place of a refusal too, are the host's, with the
  * prefix plain_. Behind the calls stands what the plain files share: numbers, limits and tags, a
- * view's name, a block behind its length, the judge, refusals 13, 19 and 20, and what a new record
- * takes over from an old one.
+ * view's name, a block behind its length, the judge, refusals 13, 19 and 20, a record's header, and
+ * what a new record takes over from an old one.
  */
 #ifndef PLAIN_H
 #define PLAIN_H
@@ -30,6 +30,15 @@ fsk_answer plain_pores(const uint8_t *record, size_t record_length, uint32_t fin
 fsk_answer plain_set_pores(const uint8_t *record, size_t record_length, uint32_t finger,
                            uint32_t number, uint32_t segment, const uint8_t *values,
                            size_t values_length, uint8_t *out, size_t out_length);
+fsk_answer plain_card_read(uint32_t size, const uint8_t *object, size_t object_length,
+                           uint8_t *record, size_t record_length);
+fsk_answer plain_card_write(uint32_t size, const uint8_t *record, size_t record_length,
+                            uint32_t finger, uint32_t number, uint8_t *object,
+                            size_t object_length);
+fsk_answer plain_low_bytes(const uint8_t *run, size_t run_length, uint8_t *bytes,
+                           size_t bytes_length);
+fsk_answer plain_from_low_bytes(const uint8_t *bytes, size_t bytes_length, uint8_t *run,
+                                size_t run_length);
 fsk_answer plain_remove(const uint8_t *record, size_t record_length, uint32_t finger,
                         uint32_t number, uint32_t count, const uint8_t *lines,
                         size_t lines_length, uint8_t *out, size_t out_length);
@@ -45,7 +54,7 @@ fsk_answer plain_pairs(const uint8_t *record, size_t record_length, uint32_t fin
 fsk_held plain_holds(const uint8_t *old, size_t old_length, const uint8_t *second,
                      size_t second_length, uint32_t number, size_t length);
 
-/* Refusals as document 01 numbers them. */
+/* Refusals as document 01 and its requests number them. */
 enum {
     BAD_SIZE = 1,
     BAD_IDENTIFIER = 2,
@@ -72,10 +81,16 @@ enum {
     NO_SEGMENT = 23,
     BAD_QUALITY = 24,
     BAD_PAIRS = 25,
-    BAD_PORES = 26
+    BAD_PORES = 26,
+    BAD_OBJECT = 27,
+    OTHER_SCALE = 28,
+    BAD_RUN = 29
 };
 
 enum { LARGEST_RECORD = 32768, MOST_LINES = 1024, POSITIONS = 11 };
+
+/* The card's sizes: 0 normal, 1 compact. */
+enum { SIZES = 2 };
 
 /* The types of the segments that are not just carried. */
 enum { LOCAL_QUALITY = 0x0003, SWEAT_PORES = 0x0004 };
@@ -182,6 +197,20 @@ typedef struct {
     plain_view view;
 } plain_record;
 
+/* Takes the widths from record bytes 15 to 21. */
+static inline void plain_set_widths(plain_record *record, const uint8_t *scale)
+{
+    record->c = scale[1];
+    record->b = scale[2];
+    record->k = scale[3];
+    record->end_bits = 2 + record->b + 2 * record->c;
+}
+
+/* 8 and 9, then 10, of a view's skeleton and of its index; places are counted from the record's
+ * bytes. The first counts the view's lines, which the second needs. */
+fsk_answer plain_judge_skeleton(plain_record *record, plain_view *view);
+fsk_answer plain_judge_index(plain_record *record, const plain_view *view);
+
 /* Judges 1 to 12 and gives the refusal, its place too; its number is 0 if the record is accepted.
  * `record` then holds what is said above; its view only if it has the one with the wanted name. */
 fsk_answer plain_judge(const uint8_t *bytes, size_t length, plain_name wanted,
@@ -216,6 +245,19 @@ static inline fsk_answer plain_judge_length(size_t length, size_t room)
     if (length > LARGEST_RECORD)
         return plain_refused(TOO_LONG);
     return length > room ? plain_refused(NO_ROOM) : plain_accepted(0);
+}
+
+/* A record's header: its length, bytes 12 and 13, the count of views and bytes 15 to 21. */
+static inline uint8_t *plain_put_header(uint8_t *out, size_t length, const uint8_t *device,
+                                        uint32_t views, const uint8_t *scale)
+{
+    memcpy(out, "FSK", 4);
+    memcpy(out + 4, "010", 4);
+    out = plain_put_four_bytes(out + 8, (uint32_t)length);
+    out = plain_put_bytes(out, device, 2);
+    *out++ = (uint8_t)views;
+    out = plain_put_bytes(out, scale, SCALE);
+    return plain_put_two_bytes(out, 0);
 }
 
 /* The old record's bytes before `end`, with the new record's length among them; gives the place

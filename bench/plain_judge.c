@@ -86,7 +86,7 @@ static size_t bad_padding(plain_block block, size_t left)
     return first + 7;
 }
 
-static fsk_answer judge_skeleton(plain_record *record, plain_view *view)
+fsk_answer plain_judge_skeleton(plain_record *record, plain_view *view)
 {
     const unsigned end_bits = record->end_bits, k = record->k;
     const uint8_t *bytes = view->skeleton.bytes;
@@ -129,7 +129,7 @@ static uint32_t right_differences(plain_reader *reader, unsigned w, uint32_t cou
     return count;
 }
 
-static fsk_answer judge_index(plain_record *record, const plain_view *view)
+fsk_answer plain_judge_index(plain_record *record, const plain_view *view)
 {
     const uint8_t *bytes = view->index.bytes;
     const size_t bits = 8 * view->index.length;
@@ -205,11 +205,11 @@ static fsk_answer judge_view(plain_record *record, const uint8_t **at, uint8_t *
     *at += VIEW_HEADER - 2; /* its last field is the skeleton's length */
     if ((refusal = find_block(record, at, &view->skeleton)).number != 0)
         return refusal;
-    if ((refusal = judge_skeleton(record, view)).number != 0)
+    if ((refusal = plain_judge_skeleton(record, view)).number != 0)
         return refusal;
     if ((refusal = find_block(record, at, &view->index)).number != 0)
         return refusal;
-    if ((refusal = judge_index(record, view)).number != 0)
+    if ((refusal = plain_judge_index(record, view)).number != 0)
         return refusal;
     if ((refusal = find_block(record, at, &view->extended)).number != 0)
         return refusal;
@@ -227,10 +227,7 @@ fsk_answer plain_judge(const uint8_t *bytes, size_t length, plain_name wanted,
         return refusal;
     record->end = bytes + length;
     record->views = bytes[14];
-    record->c = bytes[16];
-    record->b = bytes[17];
-    record->k = bytes[18];
-    record->end_bits = 2 + record->b + 2 * record->c;
+    plain_set_widths(record, bytes + 15);
     record->sheet_length = SHEET_RECORD;
     record->has_view = 0;
     at = bytes + HEADER;

@@ -3,8 +3,6 @@
  * how long the record is, and only then goes through the sheet a third time and writes. Each walk
  * trusts the one before it and tests nothing again.
  */
-#include <string.h>
-
 #include "plain.h"
 
 enum { FIELD_HEAD = 3, LINE_ENDS = 12, MOST_CODES = 255, MOST_VIEWS = 255 };
@@ -271,22 +269,10 @@ static uint8_t *put_view(uint8_t *out, fields *rest, const judged_sheet *sheet)
     return end_block(out, put_segments(out + 2, rest));
 }
 
-/* `value` is that of the 01. */
-static uint8_t *put_header(uint8_t *out, const uint8_t *value, const judged_sheet *sheet)
-{
-    memcpy(out, "FSK", 4);
-    memcpy(out + 4, "010", 4);
-    out = plain_put_two_bytes(out + 8, 0); /* of the length's four bytes the upper two */
-    out = plain_put_two_bytes(out, (uint32_t)sheet->record_length);
-    out = plain_put_bytes(out, value, 2);
-    *out++ = (uint8_t)sheet->views;
-    out = plain_put_bytes(out, value + 2, 7);
-    return plain_put_two_bytes(out, 0);
-}
-
 static void put_record(uint8_t *out, fields rest, const judged_sheet *sheet)
 {
-    out = put_header(out, take_value(&rest).bytes, sheet);
+    const uint8_t *header = take_value(&rest).bytes;
+    out = plain_put_header(out, sheet->record_length, header, sheet->views, header + 2);
     while (rest.left > 0)
         out = put_view(out, &rest, sheet);
 }

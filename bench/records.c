@@ -1,8 +1,8 @@
 /*
  * The benchmark's records, shape by shape: document 01's sample A and others like it, one of the
  * size that a card takes, one of about 30 KB with several views of long lines, one view with as
- * many lines as a view can have, one view with local quality, and one with pores. The sheets and
- * the values are those that plain_read, plain_quality and plain_pores give.
+ * many lines as a view can have, one view with local quality, and one with pores. The sheets, the
+ * values and the card's objects are those that the plain calls give.
  */
 #include "records.h"
 
@@ -177,6 +177,33 @@ static void add_pores(sample *to)
     to->pores = keep(scratch, to->pores_length);
 }
 
+/* Nothing is added where the record is of neither size. */
+static void add_object(sample *to)
+{
+    const plain_name view = to->view;
+    fsk_answer written;
+    for (to->size = 0; to->size < SIZES; to->size++) {
+        written = plain_card_write(to->size, to->record, to->length, view.finger, view.number,
+                                   scratch, ROOM);
+        if (written.number == 0)
+            break;
+    }
+    to->object_length = written.length;
+    to->object = keep(scratch, to->object_length);
+}
+
+static void add_run(sample *to)
+{
+    to->run_length = list_run(to, scratch);
+    to->run = keep(scratch, to->run_length);
+}
+
+static void add_low_bytes(sample *to)
+{
+    to->low_bytes_length = plain_low_bytes(to->run, to->run_length, scratch, ROOM).length;
+    to->low_bytes = keep(scratch, to->low_bytes_length);
+}
+
 static void add_orders(sample *to)
 {
     const plain_block index = choose_view(to);
@@ -203,6 +230,9 @@ void make_shapes(shape shapes[SHAPES])
         add_to_each(&shapes[i], add_sheet);
         add_to_each(&shapes[i], add_values);
         add_to_each(&shapes[i], add_pores);
+        add_to_each(&shapes[i], add_object);
+        add_to_each(&shapes[i], add_run);
+        add_to_each(&shapes[i], add_low_bytes);
         add_to_each(&shapes[i], add_orders);
     }
 }

@@ -29,6 +29,13 @@ typedef struct {
     size_t values_length;          /* 0 where it holds none */
     const uint8_t *pores;          /* the pores that it holds, as numbers */
     size_t pores_length;           /* in bytes; 0 where it holds none */
+    uint32_t size;                 /* the card's size that the record is of */
+    const uint8_t *object;         /* the last view as a card's object */
+    size_t object_length;          /* 0 where the record is of neither size */
+    const uint8_t *run;            /* a start coordinate for each line of the last view */
+    size_t run_length;             /* in bytes */
+    const uint8_t *low_bytes;      /* its low bytes */
+    size_t low_bytes_length;
     plain_name ordered;            /* the last view that lines can be removed from */
     uint32_t ordered_lines;        /* its count of lines */
     const uint8_t *removed;        /* every third of them, as a removal's list */

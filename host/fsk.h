@@ -12,6 +12,9 @@
  * changes them; two numbers that no view has, however large, are refused with 13. The sheet's field 02 has both, the number first,
  * and the library's listing prints both, as in "right index 1".
  *
+ * A card takes an OBJECT instead of a record: one view without its name and its segments, at one of two sizes, each of which fixes
+ * what a record's header says. fsk_card_read and fsk_card_write make one from the other.
+ *
  * Every call takes numbers and byte slices (a pointer and a length; an empty slice may have a null pointer) and gives an
  * fsk_answer back, fsk_holds an fsk_held. Whatever the bytes and the numbers are, the call answers: all that is asked of
  * the caller is what a call cannot see, that each pointer is valid for its length and that the output overlaps no input. A call keeps
@@ -38,7 +41,8 @@ extern "C" {
  *   number  0: accepted. Anything else: refused, for the reason that the number names (below).
  *   place   number 2 to 12: the first bit of what is at fault, counted from the record's first bit. It is in byte place / 8, and
  *           there it is bit place % 8, counted from the high end. It lies in the record or, at most, right behind its last bit.
- *           An accepted fsk_segment: the payload's first bit, counted likewise.
+ *           fsk_card_read, number 8 to 10: likewise, but counted from the object's first bit.
+ *           An accepted fsk_segment: the payload's first bit, counted from the record's first.
  *           fsk_pairs, number 15, 18, 19 or 20: the order that is refused, counted from 0 as the list has them. Else 0.
  *   length  accepted: how many elements were written to the output (what an element is, each call says). Refused: 0.
  * A refused call leaves the output as it was, to the byte. An accepted one leaves what lies beyond the written elements.
@@ -54,8 +58,9 @@ typedef struct {
  * fsk_where the one about the place.
  *
  * A record is judged by 1 to 5, then view by view in the order of its bytes; the first fault found is the answer. A call that asks
- * for something, or orders something, judges the record first, then what is asked for or ordered, then the output. Of a sheet 21 is
- * judged over the whole of it, then 22 over the whole of it. Each call lists what it refuses in the order in which it judges.
+ * for something, or orders something, judges the record first, then what is asked for or ordered, then the output; but a card's
+ * size is judged before all else. Of a sheet 21 is judged over the whole of it, then 22 over the whole of it. Each call lists what
+ * it refuses in the order in which it judges.
  */
 enum {
     FSK_ACCEPTED = 0,       /* The call is accepted. */
@@ -108,12 +113,19 @@ enum {
                                neither 0 nor 1. */
     FSK_BAD_PORES = 26,     /* The segment asked for is not one of pores (0x0004), or the payload of one or the values to be
                                written break its rules. */
+    FSK_BAD_OBJECT = 27,    /* The card's size is neither 0 (normal) nor 1 (compact), or the object's shape is wrong: its tags, its
+                               lengths or bytes over. */
+    FSK_OTHER_SCALE = 28,   /* The record's points per cm, widths, steps or directions in a half turn are not those of the card's
+                               size. */
+    FSK_BAD_RUN = 29,       /* The run falls, starts above 255, rises by over 255 in a step or has an odd number of bytes; or low
+                               bytes make a coordinate above 65,535. */
     FSK_NUMBERS             /* how many numbers there are: each is below it */
 };
 
 /*
  * What a number means, and what to do about it: a sentence that is always there and never null, also for a number that no call
- * answers. And what the place of an answer with this number is: empty, but never null, for a number that has no place in the record.
+ * answers. And what the place of an answer with this number is: empty, but never null, for a number that has no place in a record
+ * or object.
  */
 const char *fsk_text(uint32_t number);
 const char *fsk_advice(uint32_t number);
@@ -215,6 +227,54 @@ fsk_answer fsk_pores(const uint8_t *record, size_t record_length, uint32_t finge
  */
 fsk_answer fsk_set_pores(const uint8_t *record, size_t record_length, uint32_t finger, uint32_t number, uint32_t segment,
                          const uint8_t *values, size_t values_length, uint8_t *second, size_t second_length);
+
+/*
+ * The OBJECT that a card takes: a template with tag 7F2E. First in it stands an object with tag 90, whose value has one view, as it
+ * stands in a record: width (2 bytes), height (2), the length of its lines (2), its lines, the length of its index (2), its index.
+ * Behind that there may be further objects, with a tag of one byte each, whatever it is; they are passed over. Behind each tag
+ * stands the length of its value in the shortest form: a byte up to 127; 81 and a byte from 128 to 255; 82 and two bytes from 256
+ * to 65,535 (tags, 81 and 82 are hexadecimal). There are no bytes over in 90, in the template or behind it. So an object has at
+ * most 65,540 bytes.
+ * What a record's header says, the SIZE fixes:
+ *   0  normal: points per cm 200, bits of a coordinate 11, of a direction 8, of a code 4, straight step 24, 256 times perpendicular
+ *      over straight step 60, directions in a half turn 32
+ *   1  compact: in this order 100, 8, 6, 4, 16, 60, 32
+ *
+ * This call gives the record of an object: its header has these fields, and its one view the object's width, height, lines and
+ * index and no segments. What an object lacks is 0: certificates and device, view number, finger position (unknown), impression and
+ * quality. So the view is finger 0, number 0. 32,768 bytes always suffice.
+ * Writes bytes. The places of 8 to 10 are counted from the object's first bit. Refuses: 27 for the size, then for the shape of the
+ * whole object; then 8 to 10, 19, 20.
+ */
+fsk_answer fsk_card_read(uint32_t size, const uint8_t *object, size_t object_length, uint8_t *record, size_t record_length);
+
+/*
+ * The object of one view of a record, for a card of this size, with nothing behind 90. The record's header must say what the size
+ * fixes (28). The view's name, impression, quality and segments are left behind, and so are the record's other views. Reading a
+ * written object gives the record of that one view, with 0 for what an object lacks; writing what fsk_card_read gave gives the
+ * object back, without what stood behind 90. An object is shorter than the record that its view stands in, so as many bytes as the
+ * record has always suffice.
+ * finger, number: the view. Writes bytes. Refuses: 27, 1 to 12, 13, 28, 20.
+ */
+fsk_answer fsk_card_write(uint32_t size, const uint8_t *record, size_t record_length, uint32_t finger, uint32_t number,
+                          uint8_t *object, size_t object_length);
+
+/*
+ * The low bytes of a RUN of start coordinates: the x of each line's start, line by line, or the y. At compact size a coordinate has
+ * one byte. Where an image has more than 255 points along x, its lines are put in the order of x, and each has just the low byte of
+ * it; likewise with y. Whoever reads them adds 256 wherever a byte is below the one before it. So a run starts at 255 at most,
+ * never falls, and rises by 255 at most in a step; it may be empty. Half as many bytes as the run has always suffice.
+ * run: 16-bit numbers, high byte first: two bytes each. Writes bytes. Refuses: 29, 20.
+ */
+fsk_answer fsk_low_bytes(const uint8_t *run, size_t run_length, uint8_t *bytes, size_t bytes_length);
+
+/*
+ * The run of such low bytes: each number is the byte and 256 for every drop up to it; an equal byte is no drop. Of what
+ * fsk_low_bytes wrote it is the run again, and fsk_low_bytes gives the bytes back. Twice as many bytes as are lent always suffice.
+ * Writes 16-bit numbers as bytes, high byte first: two bytes each. The answer's length counts these numbers, not the bytes. Where
+ * the output has an odd number of bytes, the last one stays as it was. Refuses: 29, 20.
+ */
+fsk_answer fsk_from_low_bytes(const uint8_t *bytes, size_t bytes_length, uint8_t *run, size_t run_length);
 
 /*
  * An ORDER writes a new record to a second buffer; the old one is only read. It names a view (finger, number) and the count of

@@ -21,13 +21,6 @@ typedef struct {
 static uint8_t record[MOST_RECORD + 1], second[MOST_RECORD], singly[2][MOST_RECORD], sheet[MOST_SHEET];
 static list pairs;
 
-static uint8_t *put_two_bytes(uint8_t *bytes, uint32_t number)
-{
-    bytes[0] = (uint8_t)(number >> 8);
-    bytes[1] = (uint8_t)number;
-    return bytes + 2;
-}
-
 /* Whether the text is an order and there is room for it. The list then has it. */
 static int add_order(const char *text)
 {

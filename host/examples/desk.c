@@ -87,18 +87,6 @@ static int comes_back(const change *done, size_t new_length, size_t length, size
     return as_set && as_before;
 }
 
-/* Writes the new record to the file. Gives the exit status, which is 2, after a word about it, if that cannot be done. */
-static int save(const char *file, size_t length)
-{
-    FILE *stream = fopen(file, "wb");
-    int saved = stream != NULL && fwrite(second, 1, length, stream) == length;
-    if (stream != NULL && fclose(stream) != 0)
-        saved = 0;
-    if (!saved)
-        perror(file);
-    return saved ? 0 : 2;
-}
-
 int main(int count, char **arguments)
 {
     change wanted;
@@ -123,5 +111,5 @@ int main(int count, char **arguments)
     const size_t new_length = set_cell(&wanted, (size_t)length, quality.length, cells);
     if (new_length == 0 || !comes_back(&wanted, new_length, (size_t)length, quality.length, cells))
         return 1;
-    return count == 9 ? save(arguments[8], new_length) : 0;
+    return count == 9 ? save(arguments[8], second, new_length) : 0;
 }

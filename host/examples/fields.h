@@ -1,6 +1,6 @@
 /*
- * What the examples need: a record from a file, a walk over the fields of its sheet, and a refusal in words; fingers.h has the
- * names of views. A sheet that fsk_read gave is whole and in order (fsk.h says in which), so the walk tests nothing.
+ * What the examples need: a record from a file and to a file, a walk over the fields of its sheet, and a refusal in words; fingers.h
+ * has the names of views. A sheet that fsk_read gave is whole and in order (fsk.h says in which), so the walk tests nothing.
  */
 #ifndef FIELDS_H
 #define FIELDS_H
@@ -32,6 +32,14 @@ typedef struct {
 static inline unsigned two_bytes(const uint8_t *bytes)
 {
     return (unsigned)(bytes[0] << 8 | bytes[1]);
+}
+
+/* Gives the place behind them. */
+static inline uint8_t *put_two_bytes(uint8_t *bytes, uint32_t number)
+{
+    bytes[0] = (uint8_t)(number >> 8);
+    bytes[1] = (uint8_t)number;
+    return bytes + 2;
 }
 
 /* Whether a field with this tag comes next. */
@@ -75,16 +83,13 @@ static inline size_t codes_of(field line)
     return line.length - 12;
 }
 
-/*
- * Reads the file into `record` and gives its length, or -1, after a word about it, if the file cannot be read. The buffer has a byte
- * more than a record, so that the library gets to see that a file is too long.
- */
-static inline long load(const char *file, uint8_t record[MOST_RECORD + 1])
+/* Reads a file of at most `room` bytes, or its first ones, and gives how many; -1, after a word about it, if it cannot be read. */
+static inline long load_bytes(const char *file, uint8_t *bytes, size_t room)
 {
     FILE *stream = fopen(file, "rb");
     long length = -1;
     if (stream != NULL) {
-        length = (long)fread(record, 1, MOST_RECORD + 1, stream);
+        length = (long)fread(bytes, 1, room, stream);
         if (ferror(stream))
             length = -1;
         fclose(stream);
@@ -94,7 +99,25 @@ static inline long load(const char *file, uint8_t record[MOST_RECORD + 1])
     return length;
 }
 
-/* Says why a call refused, where in the record, if the number has a place, and what can be done about it. */
+/* The same of a record. The buffer has a byte more than a record, so that the library gets to see that a file is too long. */
+static inline long load(const char *file, uint8_t record[MOST_RECORD + 1])
+{
+    return load_bytes(file, record, MOST_RECORD + 1);
+}
+
+/* Writes bytes to a file. Gives the exit status, which is 2, after a word about it, if that cannot be done. */
+static inline int save(const char *file, const uint8_t *bytes, size_t length)
+{
+    FILE *stream = fopen(file, "wb");
+    int saved = stream != NULL && fwrite(bytes, 1, length, stream) == length;
+    if (stream != NULL && fclose(stream) != 0)
+        saved = 0;
+    if (!saved)
+        perror(file);
+    return saved ? 0 : 2;
+}
+
+/* Says why a call refused, where in the record or object, if the number has a place, and what can be done about it. */
 static inline void explain(fsk_answer refusal)
 {
     const unsigned number = refusal.number, place = refusal.place;

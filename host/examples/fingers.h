@@ -51,22 +51,22 @@ static inline int is_number(const char *text, unsigned long most, uint32_t *numb
     return take_number(&text, most, number) && *text == '\0';
 }
 
-/* Whether the text is the name of a finger or a number. `finger` then has the position. */
-static inline int is_finger(const char *text, uint32_t *finger)
+/* Whether the text is one of so many names or a number. `number` then has that, or the name's place among the names. */
+static inline int is_named(const char *text, const char *const *names, uint32_t count, uint32_t *number)
 {
-    for (uint32_t position = 0; position < FINGERS; position++) {
-        if (strcmp(text, fingers[position]) == 0) {
-            *finger = position;
+    for (uint32_t place = 0; place < count; place++) {
+        if (strcmp(text, names[place]) == 0) {
+            *number = place;
             return 1;
         }
     }
-    return is_number(text, UINT32_MAX, finger);
+    return is_number(text, UINT32_MAX, number);
 }
 
 /* Whether the two texts are FINGER NUMBER. `view` then has the name. */
 static inline int is_name(char **texts, view_name *view)
 {
-    return is_finger(texts[0], &view->finger) && is_number(texts[1], UINT32_MAX, &view->number);
+    return is_named(texts[0], fingers, FINGERS, &view->finger) && is_number(texts[1], UINT32_MAX, &view->number);
 }
 
 #endif

@@ -1,4 +1,4 @@
-/* One run of a case, and what is wrong with it.
+/* The runs of a case, and what is wrong with them.
  *
  * The call is made with its slices lent between guards (guard.h). Number, place, length
  * and every byte of the output are compared, those that must stay too. The first wrong
@@ -79,6 +79,16 @@ static int run_is_wrong(uint32_t index, const test_case *c, placing run)
                          i, inside ? "written" : "must stay", expected, output_at[i]);
     }
     return 0;
+}
+
+/* A case runs with its slices at either guard, and empty ones as null too. */
+static int case_is_wrong(uint32_t index, const test_case *c)
+{
+    int has_empty = c->out_size == 0;
+    for (unsigned k = 0; k < c->inputs_lent; k++)
+        has_empty |= c->inputs[k].length == 0;
+    return run_is_wrong(index, c, AT_END) || run_is_wrong(index, c, AT_START)
+        || (has_empty && run_is_wrong(index, c, EMPTY_AS_NULL));
 }
 
 #endif

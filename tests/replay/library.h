@@ -14,7 +14,8 @@
 #include "guard.h"
 
 /* What the library answers to the case's call. Where it names a view, the first two
- * numbers are its finger position and its number. */
+ * numbers are its finger position and its number; but of card_write the first is the
+ * size, and these two follow, while the call takes the record between them. */
 static fsk_answer library(const test_case *c)
 {
     const uint8_t *in = inputs_at[0], *also = inputs_at[1];
@@ -53,6 +54,14 @@ static fsk_answer library(const test_case *c)
         return fsk_pores(in, in_len, n[0], n[1], n[2], out, out_len);
     case SET_PORES:
         return fsk_set_pores(in, in_len, n[0], n[1], n[2], also, also_len, out, out_len);
+    case CARD_READ:
+        return fsk_card_read(n[0], in, in_len, out, out_len);
+    case CARD_WRITE:
+        return fsk_card_write(n[0], in, in_len, n[1], n[2], out, out_len);
+    case LOW_BYTES:
+        return fsk_low_bytes(in, in_len, out, out_len);
+    case FROM_LOW_BYTES:
+        return fsk_from_low_bytes(in, in_len, out, out_len);
     }
     stop("a case has an unknown call");
 }

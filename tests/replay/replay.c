@@ -8,8 +8,9 @@
  *        libhost.a -o replay && ./replay FILE
  *
  * An accepted reading or writing is run back too: of a record by its sheet, of local
- * quality by its values, and of pores by their numbers. The orders of a list of pairs
- * are given singly too, and the lines of an accepted removal are removed in two calls.
+ * quality by its values, of pores by their numbers, of a run by its low bytes, and of a
+ * card's object by its record. The orders of a list of pairs are given singly too, and
+ * the lines of an accepted removal are removed in two calls.
  */
 #define _DEFAULT_SOURCE
 #include <inttypes.h>
@@ -17,14 +18,15 @@
 #include <stdio.h>
 #include <string.h>
 
+#include "card_back.h"
 #include "case_file.h"
 #include "compare.h"
 #include "fsk.h"
 #include "guard.h"
 #include "library.h"
 
-enum { LONGEST_RECORD = 32768, MOST_LINES = 1024 };
-enum { LINE_BYTES = 2, ORDER_BYTES = 6, PORE_BYTES = 4 };
+enum { MOST_LINES = 1024 };
+enum { LINE_BYTES = 2, ORDER_BYTES = 6, PORE_BYTES = 4, RUN_BYTES = 2 };
 
 /* Line numbers as a removal takes them. */
 typedef struct { uint8_t bytes[MOST_LINES * LINE_BYTES]; size_t length; } line_list;
@@ -35,12 +37,14 @@ static unsigned call_back(const test_case *c)
 {
     static const unsigned back[CALLS] = {[READ] = WRITE, [WRITE] = READ,
                                          [QUALITY] = SET_QUALITY, [SET_QUALITY] = QUALITY,
-                                         [PORES] = SET_PORES, [SET_PORES] = PORES};
+                                         [PORES] = SET_PORES, [SET_PORES] = PORES,
+                                         [LOW_BYTES] = FROM_LOW_BYTES,
+                                         [FROM_LOW_BYTES] = LOW_BYTES};
     return c->number == 0 ? back[c->call] : 0;
 }
 
 /* Values or pores that were read are written to the record they come from; those that
- * were written are read from the new record. Of pores the length counts numbers. */
+ * were written are read from the new record. Of pores and runs the length counts numbers. */
 static test_case way_back(const test_case *c)
 {
     test_case back = {.call = call_back(c), .numbers_passed = c->numbers_passed, .fill = c->fill};
@@ -53,7 +57,8 @@ static test_case way_back(const test_case *c)
         back.inputs[1] = c->written;
     }
     back.out_size = back.written.length;
-    back.length = back.written.length / (back.call == PORES ? PORE_BYTES : 1);
+    back.length = back.written.length / (back.call == PORES ? PORE_BYTES
+                                         : back.call == FROM_LOW_BYTES ? RUN_BYTES : 1);
     return back;
 }
 
@@ -166,15 +171,6 @@ static int in_two_is_wrong(uint32_t index, const test_case *c, uint32_t *in_two)
     return run_is_wrong(index, &call, AT_END);
 }
 
-static int case_is_wrong(uint32_t index, const test_case *c)
-{
-    int has_empty = c->out_size == 0;
-    for (unsigned k = 0; k < c->inputs_lent; k++)
-        has_empty |= c->inputs[k].length == 0;
-    return run_is_wrong(index, c, AT_END) || run_is_wrong(index, c, AT_START)
-        || (has_empty && run_is_wrong(index, c, EMPTY_AS_NULL));
-}
-
 int main(int argc, char **argv)
 {
     uint32_t cases, ways_back = 0, singly = 0, in_two = 0, wrong_cases = 0;
@@ -190,6 +186,10 @@ int main(int argc, char **argv)
         if (call_back(&c) != 0) {
             test_case back = way_back(&c);
             is_wrong |= case_is_wrong(index, &back);
+            ways_back++;
+        }
+        if (has_card_back(&c)) {
+            is_wrong |= card_back_is_wrong(index, &c);
             ways_back++;
         }
         if (has_orders(&c)) {

@@ -5,70 +5,44 @@ lent output decides between acceptance and 20. Of a list of pairs every record i
 between has to fit, so that 20 can also come before another refusal.
 """
 
-from dataclasses import dataclass, replace
-from functools import lru_cache
+from dataclasses import replace
 
+import card
+import card_ways
 import orders
 import pairs
 import pores
 import pores_ways
 import quality
+import runs
 from build import build
-from judge import judge
 from model import LARGEST_RECORD, Refusal
 from names import named_view
+from results import Outcome, judged_card, raised, record_of, written
 from sheet import from_sheet, to_sheet
 from trail import rounding, trail
 
 CALLS = {"read": 1, "write": 2, "trail": 3, "segment": 4,
          "remove": 5, "join": 6, "part": 7, "holds": 8,
          "quality": 9, "set_quality": 10, "pairs": 11,
-         "pores": 12, "set_pores": 13}
+         "pores": 12, "set_pores": 13, "card_read": 14, "card_write": 15,
+         "low_bytes": 16, "from_low_bytes": 17}
 # The calls that write a record in which one view is changed, and all calls that name a
-# view: its finger position and its number are the first two numbers that they take.
+# view: its finger position and its number are the first two numbers that they take, but
+# for card_write, where the card's size stands before them. Then the calls with a size.
 ORDERS = ("remove", "join", "part", "pairs", "set_quality", "set_pores")
-NAMING = ("trail", "segment", "quality", "pores") + ORDERS
+NAMING = ("trail", "segment", "quality", "pores", "card_write") + ORDERS
+SIZED = ("card_read", "card_write")
 
 
-@dataclass
-class Outcome:
-    """A refusal, or what is written; `length` counts elements of `size` bytes.
-
-    The fault (tables.faults_of) and the ways (tables.WAYS) in which a call was
-    accepted are only counted. The walk is that of a list of pairs that has come to
-    its orders.
-    """
-
-    number: int
-    place: int = 0
-    length: int = 0
-    written: bytes = b""
-    size: int = 1
-    fault: str = ""
-    ways: tuple = ()
-    walk: pairs.Walk = None
+def with_name(call, name, others):
+    """The numbers that a naming call takes: the name, and the others."""
+    return [*others, *name] if call in SIZED else [*name, *others]
 
 
-@lru_cache(maxsize=128)
-def judged(data):
-    """The record or the refusal; kept, as many cases lend the same record."""
-    try:
-        return judge(data)
-    except Refusal as refusal:
-        return refusal
-
-
-def record_of(data):
-    """The record; its refusal is raised otherwise."""
-    result = judged(data)
-    if isinstance(result, Refusal):
-        raise Refusal(result.number, result.place, result.fault)
-    return result
-
-
-def written(data, size=1, ways=()):
-    """Acceptance with the bytes written."""
-    return Outcome(0, 0, len(data) // size, data, size, ways=ways)
+def name_passed(call, numbers):
+    """The name among the numbers that a naming call takes."""
+    return tuple(numbers[1:3] if call in SIZED else numbers[:2])
 
 
 def answer_read(record):
@@ -187,12 +161,43 @@ def answer_set_pores(finger, number, segment, record, numbers):
                    ways=tuple(pores_ways.rewriting(old, segment, new)))
 
 
+def answer_card_read(size, data):
+    """27 over the size and the shape, then 9 and 8, 10, 19; a record of one view."""
+    found, record = raised(judged_card(size, data))
+    return written(record, ways=tuple(card_ways.reading(found, len(record))))
+
+
+def answer_card_write(size, finger, number, record):
+    """27 over the size, the record, then 13, 28; the view's object."""
+    card.judge_size(size)
+    whole = record_of(record)
+    view = named_view(whole, finger, number)
+    data = card.write(size, whole, view)
+    shape = card.judge_template(data)
+    return written(data, ways=tuple(card_ways.writing(whole, len(record), view, shape)))
+
+
+def answer_low_bytes(run):
+    """29; a byte for each number."""
+    found, numbers = runs.to_low_bytes(run)
+    return written(found, ways=tuple(runs.ways_of(numbers)))
+
+
+def answer_from_low_bytes(data):
+    """29; two bytes for each number, high byte first."""
+    numbers = runs.from_low_bytes(data)
+    return written(runs.bytes_of(numbers), runs.NUMBER_BYTES,
+                   tuple(runs.ways_of(numbers)))
+
+
 ANSWERS = {"read": answer_read, "write": answer_write, "trail": answer_trail,
            "segment": answer_segment, "remove": answer_remove,
            "join": answer_join, "part": answer_part, "pairs": answer_pairs,
            "holds": answer_holds, "quality": answer_quality,
            "set_quality": answer_set_quality, "pores": answer_pores,
-           "set_pores": answer_set_pores}
+           "set_pores": answer_set_pores, "card_read": answer_card_read,
+           "card_write": answer_card_write, "low_bytes": answer_low_bytes,
+           "from_low_bytes": answer_from_low_bytes}
 
 
 def outcome(call, numbers, slices):
@@ -215,13 +220,18 @@ def lent_to_list(result, out_size):
 
 
 def lent(result, out_size):
-    """The outcome where the lent output has `out_size` bytes: 20 comes last."""
+    """The outcome where the lent output has `out_size` bytes: 20 comes last. How the
+    room fits is a way in which the call was answered."""
     if result.walk is not None:
         return lent_to_list(result, out_size)
-    elements = len(result.written) // result.size
-    if elements > out_size // result.size:
-        return Outcome(20)
-    return result
+    room, over = divmod(out_size, result.size)
+    short = len(result.written) // result.size - room
+    ways = ("bytes over",) if over else ()
+    if short > 0:
+        return Outcome(20, ways=ways + (("one element short",) if short == 1 else ()))
+    if result.number == 0 and short == 0:
+        ways += ("in just enough room",)
+    return replace(result, ways=result.ways + ways)
 
 
 def given_singly(finger, number, count, record, listed, out_size):

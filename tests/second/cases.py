@@ -3,18 +3,20 @@
     python3 tests/second/cases.py --calls read,trail --seed 1 --count 20000 --out FILE
 
 Instead of names, --calls takes `orders` (the orders, set_quality, set_pores and
-pores, whose sequences mix them, and holds) or `others`; without it all calls are
-taken.
+pores, whose sequences mix them, and holds), `cards` (the calls of request [9]) or
+`others`; without it all calls are taken.
 The same seed, calls and count give the same file. All numbers in the file are
 unsigned and stand high byte first:
 
     file   8 bytes "FSKCASES", 4 bytes number of cases, then the cases
     case   1 byte   call: 1 read, 2 write, 3 trail, 4 segment, 5 remove,
                     6 join, 7 part, 8 holds, 9 quality, 10 set_quality,
-                    11 pairs, 12 pores, 13 set_pores
+                    11 pairs, 12 pores, 13 set_pores, 14 card_read,
+                    15 card_write, 16 low_bytes, 17 from_low_bytes
            1 byte   number of numbers passed, then 8 bytes for each,
                     in the order of the call's declaration: a view's
-                    finger position and number are the first two
+                    finger position and number are the first two, but of
+                    card_write the second and third, behind the size
            1 byte   number of input slices, then for each
                     4 bytes length and that many bytes
            4 bytes  size of the lent output in bytes (0: none, or an empty one)
@@ -27,9 +29,10 @@ unsigned and stand high byte first:
 
 Tables go to standard error: how often each number was met, how often each fault,
 how often calls were accepted in each way, behind which orders pores were read, what
-the names of views were like, and how often the laws of request [8] were met in each way
-(tables.py). What a chosen call can meet and never met is a failure. How many cases are
-refused with a place in the record goes to standard output.
+the names of views were like, which of two numbers was given, and how often the laws of
+request [8] were met in each way (tables.py). What a chosen call can meet and never met
+is a failure. How many cases are refused with a place in the record, or in the card's
+object, goes to standard output.
 """
 
 import argparse
@@ -44,8 +47,9 @@ from plan import Stock, streams
 from tables import Met, all_tables, never_met
 
 WITH_ORDERS = [*ORDERS, "pores", "holds"]
-GROUPS = {"orders": WITH_ORDERS,
-          "others": [call for call in CALLS if call not in WITH_ORDERS]}
+WITH_CARDS = ["card_read", "card_write", "low_bytes", "from_low_bytes"]
+GROUPS = {"orders": WITH_ORDERS, "cards": WITH_CARDS,
+          "others": [call for call in CALLS if call not in WITH_ORDERS + WITH_CARDS]}
 
 
 def case_bytes(case):

@@ -137,12 +137,9 @@ def index_cut(rng, parts):
     return put_together(parts)
 
 
-def broken_index(rng, record):
-    """An index in which one list breaks a rule of clause 6.3.2."""
-    parts = parts_of(record)
-    place = rng.randrange(len(record.views))
-    lines = len(record.views[place].lines)
-    index = record.views[place].index
+def broken_block(rng, view):
+    """An index block in which one list breaks a rule of clause 6.3.2."""
+    lines, index = len(view.lines), view.index
     lists = [differences(line, listed) for line, listed
              in enumerate(index.neighbours if index else [[]] * lines)]
     kind = rng.choice(("later zero", "over by one", "count", "over far"))
@@ -164,7 +161,14 @@ def broken_index(rng, record):
         bits.put((1 << w) - 1 if wrong_count else len(listed), w)
         for difference in listed:
             bits.put(difference, w)
-    parts.views[place].index = bits.to_bytes()
+    return bits.to_bytes()
+
+
+def broken_index(rng, record):
+    """A record in which one view has such an index block."""
+    parts = parts_of(record)
+    place = rng.randrange(len(record.views))
+    parts.views[place].index = broken_block(rng, record.views[place])
     return put_together(parts)
 
 

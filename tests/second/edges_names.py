@@ -6,10 +6,11 @@ views of a record are alike, and every call can be accepted on each of them. Wha
 of a name is not assumed here; names.py decides.
 """
 
-from dataclasses import dataclass
+from dataclasses import dataclass, replace
 from functools import lru_cache
 
 from build import build
+from card import SETS
 from make_names import names_near
 from model import (MOST_VIEWS, PORES_TYPE, QUALITY_TYPE, Index, Line, Record, Segment,
                    View)
@@ -49,11 +50,17 @@ def telling_view(place, position, number):
                 segments)
 
 
-def names_record(positions):
-    """A record with a view for each position; those of one finger count up."""
+def names_record(positions, size=None):
+    """A record with a view for each position; those of one finger count up. It can have
+    a card's size; then its lines tell their places by where they start."""
     views = [telling_view(place, position, positions[:place].count(position))
              for place, position in enumerate(positions)]
-    return Record(0, 197, 2, 4, 8, 16, 64, 255, views)
+    if size is None:
+        return Record(0, 197, 2, 4, 8, 16, 64, 255, views)
+    for place, view in enumerate(views):
+        view.lines = [replace(line, start_x=place, start_y=at, codes=[at])
+                      for at, line in enumerate(view.lines)]
+    return Record(0, *SETS[size], views)
 
 
 def last_of_fingers(record):
@@ -75,10 +82,11 @@ def near_names(record, views):
 
 
 @lru_cache(maxsize=None)
-def name_edges():
-    """All of them; those that no shorter list may leave out come first."""
-    five, crossed = names_record(FIVE), names_record(CROSSED)
-    one, eleven = names_record(ONE_FINGER), names_record(ALL_FINGERS)
+def name_edges(size=None):
+    """All of them, or all for cards of a size; those that no shorter list may leave out
+    come first."""
+    five, crossed, one, eleven = [names_record(positions, size) for positions in (
+        FIVE, CROSSED, ONE_FINGER, ALL_FINGERS)]
     some_of_one = [one.views[place] for place in (0, 1, 127, 128, 253, 254)]
     some_of_eleven = eleven.views[:1] + last_of_fingers(eleven)
     first = (own_names(five, five.views) + own_names(crossed, crossed.views)

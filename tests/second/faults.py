@@ -5,6 +5,8 @@ view, so that a place has to count the first one. The byte or bit where each
 part of it starts stands beside its making, and every place follows from these.
 """
 
+from functools import lru_cache
+
 from bits import with_bit_turned
 from build import parts_of, put_together
 from model import LARGEST_RECORD, MOST_LINES, Index, Line, Record, Segment, View
@@ -14,6 +16,21 @@ SKELETON = 56
 INDEX = 74
 EXTENDED = 79
 SIZE = 85
+
+# Index blocks over two lines that break a rule, from w on: the bit of the block that is
+# at fault, the fault, and the bytes.
+BROKEN_INDEXES = (
+    (0, "w", "00"), (0, "w", "11 08 10"), (0, "w", "FF 08 10"),
+    (8, "count past the end", "03"), (13, "count past the end", "05 00"),
+    (14, "difference past the end", "03 08"), (23, "difference past the end", "05 00 80"),
+    (17, "later difference of 0", "03 08 00"), (14, "sum above the line", "03 05 00"),
+    (17, "sum above the line", "03 08 20"), (20, "1 of up to 7 bits", "03 08 18"),
+    (22, "1 of up to 7 bits", "03 08 13"), (21, "1 before the eighth bit", "03 08 14 00"),
+    (26, "1 before the eighth bit", "03 08 10 3F"),
+    (27, "1 at the eighth bit", "03 08 10 10"),
+    (29, "1 behind the eighth bit", "03 08 10 04"),
+    (55, "1 behind the eighth bit", "03 08 10 00 00 00 01"),
+    (27, "eighth bit", "03 08 10 00"), (27, "eighth bit", "03 08 10 00 00"))
 
 
 def plain_line(codes):
@@ -128,24 +145,9 @@ def view_faults():
 
 
 def index_faults():
-    """Number 10: the block's bytes from w on, and the place."""
-    return [(10, place, fault, with_block("index", bytes.fromhex(block)))
-            for place, fault, block in (
-                (592, "w", "00"), (592, "w", "11 08 10"), (592, "w", "FF 08 10"),
-                (600, "count past the end", "03"), (605, "count past the end", "05 00"),
-                (606, "difference past the end", "03 08"),
-                (615, "difference past the end", "05 00 80"),
-                (609, "later difference of 0", "03 08 00"),
-                (606, "sum above the line", "03 05 00"),
-                (609, "sum above the line", "03 08 20"),
-                (612, "1 of up to 7 bits", "03 08 18"),
-                (614, "1 of up to 7 bits", "03 08 13"),
-                (613, "1 before the eighth bit", "03 08 14 00"),
-                (618, "1 before the eighth bit", "03 08 10 3F"),
-                (619, "1 at the eighth bit", "03 08 10 10"),
-                (621, "1 behind the eighth bit", "03 08 10 04"),
-                (647, "1 behind the eighth bit", "03 08 10 00 00 00 01"),
-                (619, "eighth bit", "03 08 10 00"), (619, "eighth bit", "03 08 10 00 00"))]
+    """Number 10: each of BROKEN_INDEXES in the second view."""
+    return [(10, 8 * INDEX + bit, fault, with_block("index", bytes.fromhex(block)))
+            for bit, fault, block in BROKEN_INDEXES]
 
 
 def segment_faults():
@@ -173,8 +175,10 @@ def far_off(number, place, fault, data):
     return number, place + 8 * more, fault, data
 
 
+@lru_cache(maxsize=None)
 def all_faults():
-    """Number, place, fault and record; each fault of the second view far off too."""
+    """Number, place, fault and record; each fault of the second view far off too. They
+    are made once."""
     near = (header_faults() + end_faults() + view_faults() + index_faults()
             + segment_faults())
     one_each = {entry[2]: entry for entry in near

@@ -6,7 +6,6 @@ against the law, byte for byte.
 
 from dataclasses import replace
 
-from answers import judged
 from build import build, index_bytes
 from model import Index
 from names import named_view
@@ -15,6 +14,7 @@ from orders_plan import numbers_as_bytes
 from pairs import JOIN, ORDER_BYTES, PART
 from laws_trial import (PLACES, Order, Trial, fills, held, list_order, pair_order,
                         removal, same, view_bytes, view_ends, view_of)
+from results import judged
 
 
 # ---- law 1 ----

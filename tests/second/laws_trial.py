@@ -8,12 +8,13 @@ the trial is then not checked. What several checks look at stands here too.
 
 from dataclasses import dataclass, field
 
-from answers import judged, outcome
+from answers import outcome
 from model import (HEADER_BYTES, LARGEST_RECORD, PORES_TYPE, QUALITY_TYPE,
                    VIEW_HEADER_BYTES)
 from names import named_view
 from orders_plan import numbers_as_bytes
 from pairs import bytes_of
+from results import judged
 
 KINDS = ("remove", "join", "part", "pairs")
 PLACES = ("first place", "middle place", "last place")

@@ -7,7 +7,8 @@ in which the cases of a call come. The names of views stand in make_names.py.
 
 from dataclasses import dataclass
 
-from answers import Outcome, lent, outcome
+from answers import lent, outcome
+from results import Outcome
 
 WITHOUT_OUTPUT = ("segment", "holds")
 PLENTY = (65535, 65536, 65537, 131072)
@@ -17,8 +18,9 @@ PLENTY = (65535, 65536, 65537, 131072)
 class Case:
     """One case: what is passed and lent, and what must come back.
 
-    Where it is the last of a law's trial, that law with each way in which it was met;
-    these are only counted.
+    Where it is the last of a law's trial, that law with each way in which it was met.
+    Where two numbers apply, the one that is given and the other. These are only
+    counted.
     """
 
     call: str
@@ -28,6 +30,7 @@ class Case:
     fill: int
     expected: Outcome
     laws: tuple = ()
+    before: tuple = ()
 
 
 def room_for_list(rng, lengths):
@@ -84,6 +87,14 @@ def lend_enough(rng, call, numbers, slices):
         return lend(rng, call, numbers, slices)
     lengths = [len(result.written)] + (result.walk.lengths if result.walk else [])
     return lend(rng, call, numbers, slices, max(lengths))
+
+
+def lend_twice(rng, call, numbers, slices):
+    """The cases of a call in just the room that it takes and in a byte less; where
+    nothing is written, in ample room and in none."""
+    wanted = len(outcome(call, numbers, slices).written)
+    return [lend(rng, call, numbers, slices, room)
+            for room in ((wanted, wanted - 1) if wanted > 0 else (PLENTY[1], 0))]
 
 
 def far_off(rng, right, count):

@@ -137,15 +137,16 @@ def random_positions(rng, count):
     return [rng.choice(few) for _ in range(count)]
 
 
-def random_record(rng, size, segments=0.5):
-    """A right record; size is tiny, small, middle, fingers or views."""
+def random_record(rng, size, segments=0.5, record=None):
+    """A right record; size is tiny, small, middle, fingers or views. A record without
+    views may be given, whose header it then has."""
     views, lines, codes = {"tiny": (1, 2, 3), "small": (2, 6, 8),
                            "middle": (4, 30, 12), "fingers": (9, 5, 3),
                            "views": (40, 2, 2)}[size]
     count = rng.randint(4 if size == "fingers" else 1, views)
     if size == "views" and rng.random() < 0.1:
         count = rng.choice((254, 255))
-    record = random_header(rng)
+    record = record or random_header(rng)
     for position in random_positions(rng, count):
         add_view(rng, record, position, rng.randint(0, lines),
                  rng.randint(0, codes), random_style(rng), segments)

@@ -63,9 +63,32 @@ LIST_FAULTS = ("empty list", "cut order", "cut order after 15 or 18",
                "above 1, only order", "above 1, first order", "above 1, middle order",
                "above 1, last order", "above 1 after 15 or 18")
 
+# What can be at fault where request [9] gives 27, which has no place: in a size number;
+# in the shape of a card's object, which are a tag, a length (of the template, of object
+# 90 in it, of an object behind that), bytes after it all, and 90's value.
+FAR_SIZES = (2, 3, 255, 256, 257, 65536, 65537, 1 << 31, (1 << 31) + 1, (1 << 32) - 1)
+SIZE_FAULTS = tuple("size %d" % size for size in FAR_SIZES) + ("another size",)
+LENGTH_FAULTS = ("length missing", "form 80", "form above 82", "length cut",
+                 "81 in vain", "81 for 127", "82 in vain", "82 for 255", "past the end")
+SHAPE_FAULTS = (("template: tag cut", "template: tag", "90: missing", "90: tag")
+                + tuple("%s: %s" % (part, fault) for part in ("template", "90", "behind")
+                        for fault in LENGTH_FAULTS)
+                + ("bytes after it", "width cut", "height cut", "skeleton length cut",
+                   "skeleton past the end", "index length cut", "index past the end",
+                   "bytes left over"))
+
+# What can be at fault where request [9] gives 28: one of bytes 15 to 21 alone, all
+# those in which the sizes differ, which are then the other's, or some of them.
+SET_FIELDS = ("points", "c", "b", "k", "straight step", "perpendicular step", "N")
+SET_FAULTS = SET_FIELDS + ("the other size's", "several")
+
+# What can be at fault where request [9] gives 29: in a run, and in its low bytes.
+RUN_FAULTS = ("odd length", "start above 255", "fall", "rise above 255")
+LOW_FAULTS = ("past 65535",)
 
 KNOWN_FAULTS = {16: OTHER_TYPE_FAULTS, 24: QUALITY_FAULTS, 25: LIST_FAULTS,
-                26: sum(PORE_FAULTS, ()), **FAULTS}
+                26: sum(PORE_FAULTS, ()), 27: SIZE_FAULTS + SHAPE_FAULTS,
+                28: SET_FAULTS, 29: RUN_FAULTS + LOW_FAULTS, **FAULTS}
 
 
 class Refusal(Exception):

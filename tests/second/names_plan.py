@@ -6,7 +6,7 @@ also given to all views of a record in turn, each to the record that the one bef
 left: two orders for each view, the first of them once more in between.
 """
 
-from answers import ORDERS, judged
+from answers import ORDERS
 from build import build
 from edges import small_records
 from edges_names import CROSSED, FIVE, name_edges, names_record
@@ -16,6 +16,7 @@ from names import find_view, name_of, views_of
 from pairs import JOIN, PART, bytes_of
 from pores import read
 from quality_plan import some
+from results import judged
 
 
 def right_pairs(index):

@@ -6,7 +6,7 @@ rewritings are chosen too, they stand among the orders. So do readings of pores;
 stands behind each order that left pores in its view.
 """
 
-from answers import ORDERS, judged, outcome
+from answers import ORDERS, outcome
 from build import build
 from lend import lend, line_count, place_in
 from make import fill, growing, random_record
@@ -17,6 +17,7 @@ from model import LARGEST_RECORD, PORES_TYPE, QUALITY_TYPE, Record, Segment
 from names import find_view, name_of
 from pores_plan import pores_case, readings_behind, record_with_pores, set_pores_case
 from quality_plan import set_quality_case
+from results import judged
 
 # The calls that are planned elsewhere.
 CASES = {"set_quality": set_quality_case, "set_pores": set_pores_case,

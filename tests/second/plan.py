@@ -7,8 +7,9 @@ records at the edges, for names of views that are easily mistaken, and for the l
 
 from functools import partial
 
-from answers import NAMING, ORDERS, judged
+from answers import NAMING, ORDERS, SIZED
 from build import build
+from card_plan import card_read_stream, card_write_stream
 from damage import KINDS, LONG_KINDS, damaged
 from damage_sheet import KINDS as SHEET_KINDS
 from damage_sheet import damaged_sheet, long_sheets
@@ -26,6 +27,8 @@ from pairs import JOIN, PART, bytes_of
 from pairs_plan import list_edge_cases, pairs_stream
 from pores_plan import pore_pairs, pore_removals, pores_stream, set_pores_stream
 from quality_plan import quality_stream, removal_edges, set_quality_stream
+from results import judged
+from runs_plan import runs_streams
 from sheet import to_sheet
 
 # For each order about pairs what it takes behind the view, where there are three lines,
@@ -235,7 +238,9 @@ def streams(calls):
               "segment": segment_stream, "write": write_stream,
               "holds": holds_stream,
               "quality": partial(quality_call_stream, quality_stream),
-              "set_quality": partial(quality_call_stream, set_quality_stream)}
+              "set_quality": partial(quality_call_stream, set_quality_stream),
+              "card_read": card_read_stream, "card_write": card_write_stream,
+              **runs_streams()}
     sequenced = [call for call in calls if call in ORDERS or call == "pores"]
     makers["pores"] = partial(pores_call_stream, pores_stream, sequenced)
     makers["set_pores"] = partial(pores_call_stream, set_pores_stream, sequenced)
@@ -243,5 +248,6 @@ def streams(calls):
         makers[call] = partial(order_call_stream, call, sequenced)
     makers["pairs"] = partial(pairs_call_stream, sequenced)
     for call in NAMING:
-        makers[call] = partial(names_first, call, makers[call])
+        if call not in SIZED:
+            makers[call] = partial(names_first, call, makers[call])
     return with_laws(makers, calls)

@@ -7,7 +7,7 @@ past them.
 """
 
 import make_pores
-from answers import judged, outcome
+from answers import outcome
 from build import build
 from edges_pore_numbers import filling, numbers_edges
 from edges_pore_removals import (LINES, REMOVAL_NAMES, bad_payloads, removal_edges,
@@ -22,6 +22,7 @@ from model import LARGEST_RECORD, PORES_TYPE, QUALITY_TYPE, Record, Segment
 from names import find_view, name_of
 from pores import NUMBER_FAULTS, bytes_of, from_numbers
 from quality_plan import filling_case, named_segment, some
+from results import judged
 
 # What a segment holds whose payload is to be rewritten at the edges.
 STORED = (b"", b"\0\1\2", b"\0\xc8\4\0", b"\0\0\x08" + bytes(40))

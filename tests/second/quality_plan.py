@@ -6,7 +6,7 @@ changed, other values, or broken ones; now and then the new record comes to 32,7
 bytes or just past them.
 """
 
-from answers import judged, outcome
+from answers import outcome
 from build import build
 from edges_quality import (FULL, NAMED, OTHER_TYPES, REMOVAL_NAMES, full_of_cells,
                            payload_edges, quality_record, removal_records,
@@ -18,6 +18,7 @@ from make_quality import broken_values, fresh_values, hopeless
 from model import LARGEST_RECORD, QUALITY_TYPE, Record
 from names import find_view, name_of
 from quality import FIRST_BYTES
+from results import judged
 
 # What a segment holds whose payload is to be rewritten at the edges.
 STORED = (b"", b"\1\1\1\0", b"\1\1\x08" + bytes(40), b"\0")

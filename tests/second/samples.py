@@ -3,24 +3,26 @@
 All are assertions. Run it alone; it prints one line when all hold. It shows
 that the second program reads document 01 as its own samples do, and that every
 fault has the place worked out by hand, every direction the nearest heading, every
-name the view worked out by hand, and local quality, lists of pairs and pores the
-bytes, before it judges anything.
+name the view worked out by hand, and local quality, lists of pairs, pores, cards'
+objects and runs the bytes, before it judges anything.
 """
 
 from dataclasses import replace
 
-from answers import NAMING, lent, outcome
+from answers import NAMING, lent, outcome, with_name
 from bits import signed
 from build import build, index_bytes, parts_of, put_together
 from faults import all_faults, base_bytes
 from judge import judge
 from model import FAULTS, Index, Line, Record, Refusal, Segment, View, least_width
 from names import name_of
+from samples_card import cards
 from samples_names import names_of_views
 from samples_pairs import lists_of_pairs
 from samples_pore_removals import removals_with_pores
 from samples_pores import pores_of_lines
 from samples_quality import local_quality
+from samples_runs import runs_by_hand
 from sheet import to_sheet
 from trail import first_heading, rounding, trail
 
@@ -150,15 +152,14 @@ def places():
     """Every fault has its place, in every call on a record, whatever view is named;
     above 12 it is 0."""
     assert number_and_place(base_bytes()) == (0, 0)
-    arguments = {"read": ([], []), "trail": ([2, 0, 0], []), "segment": ([2, 0, 0], []),
-                 "remove": ([2, 0, 1], [bytes([0, 0])]), "join": ([2, 1, 2, 0, 0], []),
-                 "part": ([2, 1, 2, 1, 1], []), "quality": ([2, 1, 0], []),
-                 "set_quality": ([2, 1, 0], [bytes([255, 255, 1])]),
-                 "pairs": ([2, 1, 2], [bytes(6)]), "pores": ([2, 1, 0], []),
-                 "set_pores": ([2, 1, 0], [bytes(8)])}
-    lists = [(call, *lent_too) for call, lent_too in arguments.items()]
-    lists += [(call, [11, 256] + arguments[call][0][2:], arguments[call][1])
-              for call in NAMING]
+    arguments = {"trail": ([0], []), "segment": ([0], []), "quality": ([0], []),
+                 "remove": ([1], [bytes([0, 0])]), "join": ([2, 0, 0], []),
+                 "part": ([2, 1, 1], []), "set_quality": ([0], [bytes([255, 255, 1])]),
+                 "pairs": ([2], [bytes(6)]), "pores": ([0], []),
+                 "set_pores": ([0], [bytes(8)]), "card_write": ([0], [])}
+    lists = [("read", [], []), ("card_write", [1, 2, 0], [])]
+    lists += [(call, with_name(call, name, arguments[call][0]), arguments[call][1])
+              for call in NAMING for name in ((2, 0), (2, 1), (11, 256))]
     met = set()
     for number, place, fault, data in all_faults():
         met.add((number, fault))
@@ -186,7 +187,9 @@ def places_of_others():
             ("set_quality", [2, 1, 0], [b""], 24),
             ("pores", [2, 2, 0], [], 13), ("pores", [2, 1, 1], [], 23),
             ("pores", [2, 1, 0], [], 26), ("set_pores", [2, 2, 0], [b""], 13),
-            ("set_pores", [2, 1, 1], [b""], 23), ("set_pores", [2, 1, 0], [b""], 26)):
+            ("set_pores", [2, 1, 1], [b""], 23), ("set_pores", [2, 1, 0], [b""], 26),
+            ("card_write", [2, 2, 1], [], 27), ("card_write", [0, 2, 2], [], 13),
+            ("card_write", [1, 2, 1], [], 28)):
         found = outcome(call, numbers, [base_bytes()] + more)
         assert (found.number, found.place) == (number, 0), found
     found = outcome("segment", [2, 1, 0], [base_bytes()])
@@ -237,5 +240,8 @@ if __name__ == "__main__":
     names_of_views(SAMPLE_A)
     pores_of_lines()
     removals_with_pores(SAMPLE_A)
+    cards()
+    runs_by_hand()
     print("samples: P1 to P11, the run-only samples, %d places, the headings, local"
-          " quality, lists of pairs, names of views and pores hold" % len(all_faults()))
+          " quality, lists of pairs, names of views, pores, cards and runs hold"
+          % len(all_faults()))

@@ -7,7 +7,7 @@ no name, and that an accepted record has no name twice.
 
 from itertools import product
 
-from answers import NAMING, ORDERS, outcome
+from answers import NAMING, ORDERS, outcome, with_name
 from judge import judge
 from model import Refusal
 from names import name_of
@@ -49,15 +49,16 @@ NO_VIEW = (
     (2147483650, 2), (2147483648, 0), (2, 2147483650), (0, 2147483648))
 
 # For each call what goes with a name: arguments that are right for each of the five
-# views, and others that would be refused otherwise.
+# views, and others that would be refused otherwise. No card has these views' widths.
 RIGHT = {"trail": ([0], []), "segment": ([0], []), "quality": ([0], []),
          "set_quality": ([0], [b"\1\1\x08\x55"]), "remove": ([2], [b"\0\0"]),
          "join": ([2, 0, 0], []), "part": ([2, 1, 0], []), "pairs": ([2], [bytes(6)]),
-         "pores": ([1], []), "set_pores": ([1], [bytes_of([200, 8, 0, 1, 9])])}
+         "pores": ([1], []), "set_pores": ([1], [bytes_of([200, 8, 0, 1, 9])]),
+         "card_write": ([0], [])}
 OTHERS = {"trail": ([2], []), "segment": ([2], []), "quality": ([9], []),
           "set_quality": ([0], [b""]), "remove": ([9], [b""]), "join": ([1, 0, 0], []),
           "part": ([2, 0, 2], []), "pairs": ([2], [b"\0"]), "pores": ([2], []),
-          "set_pores": ([1], [b"\0"])}
+          "set_pores": ([1], [b"\0"]), "card_write": ([1], [])}
 # The segment that a rewriting changes.
 REWRITTEN = {"set_quality": 0, "set_pores": 1}
 
@@ -65,7 +66,7 @@ REWRITTEN = {"set_quality": 0, "set_pores": 1}
 def call_on(call, name, data, arguments):
     """The outcome of a call on the view that has the name."""
     numbers, slices = arguments[call]
-    return outcome(call, [*name, *numbers], [data] + slices)
+    return outcome(call, with_name(call, name, numbers), [data] + slices)
 
 
 def place_meant(data, name):
@@ -119,7 +120,7 @@ def no_view():
     for call, number in (("trail", 15), ("segment", 23), ("quality", 23),
                          ("set_quality", 24), ("remove", 14), ("join", 14),
                          ("part", 15), ("pairs", 25), ("pores", 23),
-                         ("set_pores", 26)):
+                         ("set_pores", 26), ("card_write", 28)):
         for name in PLACES:
             assert call_on(call, name, FIVE_VIEWS, OTHERS).number == number, call
 

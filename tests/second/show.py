@@ -9,14 +9,15 @@ Of a long slice the first bytes are shown.
 import struct
 import sys
 
-from answers import CALLS, NAMING
+from answers import CALLS, NAMING, with_name
 
-# The numbers that a call takes behind the finger and number of a view, or at all.
+# The numbers that a call takes besides the finger and number of a view, or at all.
 NUMBERS = {"trail": ("line",), "segment": ("segment",), "quality": ("segment",),
            "set_quality": ("segment",), "pores": ("segment",),
            "set_pores": ("segment",), "remove": ("count",), "pairs": ("count",),
            "join": ("count", "line", "other line"),
-           "part": ("count", "line", "other line"), "holds": ("number", "length")}
+           "part": ("count", "line", "other line"), "holds": ("number", "length"),
+           "card_read": ("size",), "card_write": ("size",)}
 MOST_SHOWN = 1024
 BYTES_IN_A_ROW = 32
 
@@ -41,8 +42,10 @@ class Taker:
 
 def numbers_of(call):
     """What the numbers that a call takes are, in their order."""
-    view = ("finger", "view number") if call in NAMING else ()
-    return view + NUMBERS.get(call, ())
+    others = NUMBERS.get(call, ())
+    if call not in NAMING:
+        return others
+    return tuple(with_name(call, ("finger", "view number"), others))
 
 
 def take_case(taker):

@@ -1,12 +1,14 @@
 """What the cases of each call have to meet, and tables of how often they did.
 
-Six things are counted: the numbers that a call gives; the faults behind them,
-which are what the place of 2 to 12 points at, the rule that 24, 25 or 26 tells of,
+Seven things are counted: the numbers that a call gives; the faults behind them,
+which are what the place of 2 to 12 points at, the rule that 24 to 29 tells of,
 whether 16 stands before bad pores, or where in its list an order stands that is
 refused; the ways in which a call was accepted, of which it can have several at once;
 behind which orders pores were read; what the names of views were like, in calls
-that were accepted and in those that 13 refused; and the ways in which the laws of
-request [8] were met, where the calls chosen have them.
+that were accepted and in those that 13 refused; the ways in which the laws of
+request [8] were met, where the calls chosen have them; and which of two numbers of
+request [9] was given. Most calls have one row each; those with a card's size have one
+for each size (tables_card.py).
 """
 
 from collections import Counter
@@ -14,12 +16,14 @@ from collections import Counter
 import pores
 import pores_ways
 import quality
-from answers import NAMING, ORDERS, judged
-from laws_plan import are_planned
-from laws_trial import LAWS
+import tables_card
+from answers import NAMING, ORDERS, name_passed
 from model import FAULTS, LIST_FAULTS, OTHER_TYPE_FAULTS, PORE_FAULTS, QUALITY_FAULTS
 from names import RIGHT_NAMES, WRONG_NAMES, right_kinds, wrong_kinds
 from pairs import LISTS, PAIR_FAULTS
+from results import judged
+from tables_card import all_rows, row_of, rows_of
+from tables_laws import law_table, laws_to_meet
 from trail import ROUNDINGS
 
 OF_A_RECORD = {1} | set(FAULTS)
@@ -37,8 +41,9 @@ MUST_MEET = {
     "pairs": {0, 13, 14, 15, 17, 18, 19, 20, 25} | OF_A_RECORD,
     "pores": {0, 13, 20, 23, 26} | OF_A_RECORD,
     "set_pores": {0, 13, 19, 20, 23, 26} | OF_A_RECORD,
+    **tables_card.MUST_MEET,
 }
-NUMBERS = range(27)
+NUMBERS = range(30)
 # The faults that a call alone tells apart; a removal meets no pores of another type.
 FAULTS_OF = {"quality": {24: quality.PAYLOAD_FAULTS},
              "set_quality": {24: quality.VALUE_FAULTS},
@@ -46,24 +51,28 @@ FAULTS_OF = {"quality": {24: quality.PAYLOAD_FAULTS},
              "set_pores": {26: pores.NUMBER_FAULTS},
              "remove": {16: OTHER_TYPE_FAULTS, 26: tuple(
                  fault for fault in pores.PAYLOAD_FAULTS if fault != "type")},
-             "pairs": {**PAIR_FAULTS, 25: LIST_FAULTS}}
-# What is told apart among accepted cases of a call, and in which ways.
+             "pairs": {**PAIR_FAULTS, 25: LIST_FAULTS},
+             **tables_card.FAULTS_OF}
+# What is told apart among accepted cases of a call, and in which ways; of cards and runs
+# also where the room is one element short.
 WAYS = {"trail": ("first heading rounded", ROUNDINGS),
         "remove": ("segments in a removal", quality.CARRIED + pores_ways.REMOVALS),
         "quality": ("payload read", quality.READINGS),
         "set_quality": ("payload rewritten", quality.REWRITINGS),
         "pairs": ("list accepted", LISTS),
         "pores": ("pores read", pores_ways.READINGS),
-        "set_pores": ("pores rewritten", pores_ways.REWRITINGS)}
+        "set_pores": ("pores rewritten", pores_ways.REWRITINGS),
+        **tables_card.WAYS}
 # An order behind which pores were read that it left in its view.
 MOVED_UP = "remove, pores moved up"
 # What is told apart among names of views: in accepted cases, in accepted orders on the
 # record that an order before left, and in cases that 13 refuses.
 FOLLOWING = ("after an order on this view", "after one on the same finger",
              "after one on another finger")
-NAMES = (("view named", RIGHT_NAMES, NAMING),
+NAMING_ROWS = [row for call in NAMING for row in rows_of(call) if 13 in MUST_MEET[row]]
+NAMES = (("view named", RIGHT_NAMES, NAMING_ROWS),
          ("order in a sequence", FOLLOWING, ORDERS),
-         ("no view named", WRONG_NAMES, NAMING))
+         ("no view named", WRONG_NAMES, NAMING_ROWS))
 
 
 def following(name, before):
@@ -80,15 +89,17 @@ class Met:
     def __init__(self):
         self.numbers, self.ways, self.names = Counter(), Counter(), Counter()
         self.behind, self.order, self.laws = Counter(), None, Counter()
+        self.before = Counter()
 
     def add(self, case):
         """Counts a case."""
-        expected = case.expected
-        self.numbers[case.call, expected.number, expected.fault] += 1
-        self.ways.update((case.call, way) for way in expected.ways)
+        expected, row = case.expected, row_of(case)
+        self.numbers[row, expected.number, expected.fault] += 1
+        self.ways.update((row, way) for way in expected.ways)
         self.laws.update(case.laws)
+        self.before.update((row, pair) for pair in case.before)
         if case.call in NAMING:
-            self.names.update((case.call, kind) for kind in self.kinds_of_name(case))
+            self.names.update((row, kind) for kind in self.kinds_of_name(case))
         if case.call == "pores" and expected.number == 0:
             self.behind.update(self.orders_behind(case))
         if case.call in ORDERS and expected.number == 0:
@@ -98,27 +109,32 @@ class Met:
         """Whether a record is what the last accepted order left."""
         return self.order is not None and record == self.order.expected.written
 
+    @staticmethod
+    def named(case):
+        """The name of the view that a case is about."""
+        return name_passed(case.call, case.numbers)
+
     def orders_behind(self, case):
         """Behind which order pores were read that it left in its view, if any."""
-        if self.is_left(case.slices[0]) and case.numbers[:2] == self.order.numbers[:2]:
+        if self.is_left(case.slices[0]) and self.named(case) == self.named(self.order):
             yield self.order.call
             if "pores moved up" in self.order.expected.ways:
                 yield MOVED_UP
 
     def kinds_of_name(self, case):
         """What the name in a case is like, where it was accepted or refused with 13."""
-        name, record = case.numbers[:2], judged(case.slices[0])
+        name, record = self.named(case), judged(case.slices[0])
         if case.expected.number == 13:
             yield from wrong_kinds(record, *name)
         if case.expected.number == 0:
             yield from right_kinds(record, *name)
             if case.call in ORDERS and self.is_left(case.slices[0]):
-                yield following(name, self.order.numbers[:2])
+                yield following(name, self.named(self.order))
 
 
-def faults_of(call, number):
-    """The faults that are told apart where a call gives a number."""
-    return FAULTS_OF.get(call, {}).get(number) or FAULTS.get(number, ("",))
+def faults_of(row, number):
+    """The faults that are told apart where a row has a number."""
+    return FAULTS_OF.get(row, {}).get(number) or FAULTS.get(number, ("",))
 
 
 def orders_to_read_behind(calls):
@@ -128,26 +144,20 @@ def orders_to_read_behind(calls):
     return found + ([MOVED_UP] if "remove" in found else [])
 
 
-def laws_to_meet(calls):
-    """Each law with each way in which the cases of these calls have to meet it."""
-    if not are_planned(calls):
-        return []
-    return [(law, way) for law, (_, ways) in LAWS.items() for way in ways]
-
-
 def never_met(met, calls):
     """What the calls can meet and never met, as texts."""
-    wanted = [(call, number, fault) for call in calls
-              for number in sorted(MUST_MEET[call])
-              for fault in faults_of(call, number)]
+    rows = all_rows(calls)
+    wanted = [(row, number, fault) for row in rows for number in sorted(MUST_MEET[row])
+              for fault in faults_of(row, number)]
     missing = ["%s gives %d %s" % each for each in wanted if met.numbers[each] == 0]
-    for call in calls:
-        what, known = WAYS.get(call, ("", ()))
-        missing += ["%s, %s: %s" % (call, what, way) for way in known
-                    if met.ways[call, way] == 0]
-        missing += ["%s, %s: %s" % (call, what, kind)
-                    for what, known, naming in NAMES if call in naming
-                    for kind in known if met.names[call, kind] == 0]
+    for row in rows:
+        what, known = WAYS.get(row, ("", ()))
+        missing += ["%s, %s: %s" % (row, what, way) for way in known
+                    if met.ways[row, way] == 0]
+        missing += ["%s, %s: %s" % (row, what, kind)
+                    for what, known, naming in NAMES if row in naming
+                    for kind in known if met.names[row, kind] == 0]
+    missing += tables_card.before_missing(met, rows)
     missing += ["law %d: %s" % each for each in laws_to_meet(calls)
                 if met.laws[each] == 0]
     return missing + ["pores, read behind: %s" % order
@@ -155,27 +165,29 @@ def never_met(met, calls):
                       if met.behind[order] == 0]
 
 
-def number_table(met, calls):
-    """How often each call gave each number, as text."""
+def number_table(met, rows):
+    """How often each number was given, as text."""
     numbers = Counter()
-    for (call, number, _), times in met.numbers.items():
-        numbers[call, number] += times
-    lines = ["%-12s" % "call" + "".join("%6d" % number for number in NUMBERS)]
-    for call in calls:
-        lines.append("%-12s" % call + "".join(
-            "%6s" % (numbers[call, number] or ".") for number in NUMBERS))
+    for (row, number, _), times in met.numbers.items():
+        numbers[row, number] += times
+    lines = ["%-15s" % "call" + "".join("%6d" % number for number in NUMBERS)]
+    for row in rows:
+        lines.append("%-15s" % row + "".join(
+            "%6s" % (numbers[row, number] or ".") for number in NUMBERS))
     return "\n".join(lines)
 
 
-def fault_table(met, calls):
+def fault_table(met, rows):
     """How often each call on a record met each fault, as text."""
-    calls = [call for call in calls if OF_A_RECORD <= MUST_MEET[call]]
-    lines = ["%-28s" % "fault" + "".join("%12s" % call for call in calls)]
+    rows = [row for row in rows if OF_A_RECORD <= MUST_MEET[row]]
+    lines = ["%-28s" % "fault" + "".join("%13s" % row for row in rows)]
     for number, faults in (*FAULTS.items(), (16, OTHER_TYPE_FAULTS),
                            (24, QUALITY_FAULTS), (26, sum(PORE_FAULTS, ()))):
+        if not any(number in MUST_MEET[row] for row in rows):
+            continue
         for fault in faults:
             lines.append("%2d %-25s" % (number, fault) + "".join(
-                "%12s" % (met.numbers[call, number, fault] or ".") for call in calls))
+                "%13s" % (met.numbers[row, number, fault] or ".") for row in rows))
     return "\n".join(lines)
 
 
@@ -191,14 +203,14 @@ def list_table(met, calls):
     return "\n".join(lines)
 
 
-def way_tables(met, calls):
+def way_tables(met, rows):
     """How often each call was accepted in each of its ways, as text."""
     lines = []
-    for call in calls:
-        what, known = WAYS.get(call, ("", ()))
+    for row in rows:
+        what, known = WAYS.get(row, ("", ()))
         if known:
-            lines.append("%-28s%12s" % (what, call))
-        lines += ["   %-25s%12s" % (way, met.ways[call, way] or ".") for way in known]
+            lines.append("%-28s%15s" % (what, row))
+        lines += ["   %-25s%15s" % (way, met.ways[row, way] or ".") for way in known]
     return "\n".join(lines)
 
 
@@ -211,33 +223,24 @@ def behind_table(met, calls):
         "   %-25s%12s" % (order, met.behind[order] or ".") for order in found])
 
 
-def name_tables(met, calls):
+def name_tables(met, rows):
     """How often each call met each kind of name, as text."""
     lines = []
     for what, known, naming in NAMES:
-        chosen = [call for call in calls if call in naming]
+        chosen = [row for row in rows if row in naming]
         if chosen:
-            lines.append("%-33s" % what + "".join("%12s" % call for call in chosen))
+            lines.append("%-33s" % what + "".join("%13s" % row for row in chosen))
             lines += ["   %-30s" % kind + "".join(
-                "%12s" % (met.names[call, kind] or ".") for call in chosen)
+                "%13s" % (met.names[row, kind] or ".") for row in chosen)
                       for kind in known]
-    return "\n".join(lines)
-
-
-def law_table(met, calls):
-    """How often each law was met in each of its ways, as text."""
-    lines = []
-    for law, way in laws_to_meet(calls):
-        title, ways = LAWS[law]
-        if way == ways[0]:
-            lines.append("law %d, %s" % (law, title))
-        lines.append("   %-25s%12s" % (way, met.laws[law, way] or "."))
     return "\n".join(lines)
 
 
 def all_tables(met, calls):
     """The tables that have something to tell, one after another."""
-    tables = [number_table(met, calls), fault_table(met, calls), list_table(met, calls),
-              way_tables(met, calls), behind_table(met, calls), name_tables(met, calls),
-              law_table(met, calls)]
+    rows = all_rows(calls)
+    tables = [number_table(met, rows), fault_table(met, rows), list_table(met, calls),
+              tables_card.card_fault_table(met, rows), way_tables(met, rows),
+              behind_table(met, calls), name_tables(met, rows),
+              tables_card.before_table(met, rows), law_table(met, calls)]
     return "\n".join(table for table in tables if table)

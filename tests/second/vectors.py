@@ -8,11 +8,12 @@ first trails and segments of each view, which finger position and view number na
 the fingers rise, and of each the views count up while there is one. Behind the line
 of a segment whose local quality can be read stand its values, where 256 bytes hold
 them, and behind that of one whose pores can be read its numbers, where 1,024 bytes do.
-Here the same text comes from this program's own judge, sheet, trail, segment, quality
-and pores code, and vectors_records.py, vectors_names.py, vectors_quality.py and
-vectors_pores.py make records from plain values, so that neither rests on the library.
-Without an argument files and text are compared; with --write they are written and then
-compared.
+Of a card file it prints what comes of reading it at each size, and of writing that
+again. Here the same text comes from this program's own judge, sheet, trail, segment,
+quality, pores and card code, and vectors_records.py, vectors_names.py,
+vectors_quality.py, vectors_pores.py and vectors_card.py make records and objects from
+plain values, so that neither rests on the library. Without an argument files and text
+are compared; with --write they are written and then compared.
 """
 
 import argparse
@@ -26,6 +27,7 @@ from model import FAULTS, LARGEST_RECORD, Refusal
 from names import POSITIONS, find_view
 from pores import numbers_of
 from trail import trail
+from vectors_card import ENDING, card_rows, card_samples, cards_without_sample
 from vectors_names import name_samples
 from vectors_pores import pores_samples
 from vectors_quality import quality_samples
@@ -47,9 +49,11 @@ FOUND = ("a", "p3", "p5", "p6", "p7", "p8-b3", "p8-b4", "p9", "p10", "p11",
 
 
 def new_samples():
-    """All samples made here, by name."""
-    return {**limit_samples(), **heading_samples(), **quality_samples(),
-            **pores_samples(), **name_samples(), **refused_samples()}
+    """All samples made here, by file name: records, then cards."""
+    records = {**limit_samples(), **heading_samples(), **quality_samples(),
+               **pores_samples(), **name_samples(), **refused_samples()}
+    return {**{name + ".fsk": data for name, data in records.items()},
+            **{name + ENDING: data for name, data in card_samples().items()}}
 
 
 def view_text(view):
@@ -109,22 +113,28 @@ def detail_rows(data, record):
     return rows
 
 
+def listing(data, record):
+    """The listing of an accepted record."""
+    rows = ["record %d views %d" % (len(data), len(record.views))]
+    return rows + [view_text(view) for view in record.views]
+
+
 def file_rows(name, data):
     """What must be printed for one file; its first 32,769 bytes are the record."""
+    if name.endswith(ENDING):
+        return [name] + card_rows(data, listing)
     data = data[:MOST_READ]
     try:
         record = judge(data)
     except Refusal as refusal:
         return [name, "refused %d" % refusal.number, "place %d" % refusal.place]
-    rows = [name, "record %d views %d" % (len(data), len(record.views))]
-    rows += [view_text(view) for view in record.views]
-    rows.append(sheet_text(data))
-    return rows + detail_rows(data, record)
+    return ([name] + listing(data, record) + [sheet_text(data)]
+            + detail_rows(data, record))
 
 
 def names_in_order():
     """The file names that args must hold: those found, then the new ones."""
-    return [name + ".fsk" for name in FOUND + tuple(new_samples())]
+    return [name + ".fsk" for name in FOUND] + list(new_samples())
 
 
 def text_of(names):
@@ -146,14 +156,15 @@ def wrong_files():
     """The files of samples that are not those made here, or not there."""
     wrong = []
     for name, data in new_samples().items():
-        if bytes_of(FOLDER / "data" / (name + ".fsk")) != data:
-            wrong.append("data/%s.fsk is not the record made here" % name)
+        if bytes_of(FOLDER / "data" / name) != data:
+            wrong.append("data/%s is not the one made here" % name)
     return wrong
 
 
 def wrong_names(names):
     """What args leaves out, names in vain, or orders otherwise."""
-    there = {path.name for path in (FOLDER / "data").glob("*.fsk")}
+    there = {path.name for ending in (".fsk", ENDING)
+             for path in (FOLDER / "data").glob("*" + ending)}
     wrong = ["args does not name %s" % name for name in sorted(there - set(names))]
     wrong += ["args names %s, which is not there" % name
               for name in sorted(set(names) - there)]
@@ -163,14 +174,16 @@ def wrong_names(names):
 
 
 def numbers_without_sample(names):
-    """The refusals of a record, 1 to 12, that no file named here gives."""
-    given = set()
+    """The refusals of a record, 1 to 12, and of a card, that no file named here gives."""
+    records, cards = [], []
     for name in names:
         data = bytes_of(FOLDER / "data" / name)
         if data is not None:
-            given.add(outcome("read", [], [data[:MOST_READ]]).number)
+            (cards if name.endswith(ENDING) else records).append(data[:MOST_READ])
+    given = {outcome("read", [], [data]).number for data in records}
     return ["no sample is refused with %d" % number
-            for number in [1] + sorted(FAULTS) if number not in given]
+            for number in [1] + sorted(FAULTS) if number not in given
+            ] + cards_without_sample(cards)
 
 
 def wrong_text(found, expected):
@@ -200,7 +213,7 @@ def compare():
 def write():
     """Writes the new samples, the arguments and the text."""
     for name, data in new_samples().items():
-        (FOLDER / "data" / (name + ".fsk")).write_bytes(data)
+        (FOLDER / "data" / name).write_bytes(data)
     names = names_in_order()
     (FOLDER / "args").write_bytes("".join(name + "\n" for name in names).encode())
     (FOLDER / "stdout").write_bytes(text_of(names).encode())

@@ -9,7 +9,7 @@ use lib.ListN.{length, take, drop}
 use lib.Dec.{leb, ltb}
 use Rattle.bits.specs.Choice.{pick}
 use Rattle.bits.specs.Bits.{Bits}
-use Rattle.bits.specs.Codec.{Read, got, refused, next, Codec}
+use Rattle.bits.specs.Codec.{Read, got, refused, next, atStart, Codec}
 
 pub record Block (A : Type 0) : Type 1 where
   pub Fits : A → Type 0
@@ -88,3 +88,18 @@ module _ {A : Type 0} (w : Block A) (e : ℕ) (t : A → Bool) where
 module _ {A B : Type 0} (w : Block A) (f : A → B) where
   unfoldable pub recastDec : Bits → Read Bool B
   recastDec s = next (w .dec s) (λ a r. got (f a) r)
+
+-- nothing may be left; e is the refusal, at the first bit that is
+abbrev pub usedUp : {A : Type 0} → (e : ℕ) → A → Bits → Read Bool A
+usedUp e a [] = got a []
+usedUp e a (b ∷ s) = refused e (suc (length s))
+
+-- one value and nothing behind it
+module _ {A : Type 0} (c : Codec Bool A) (e : ℕ) where
+  unfoldable pub exactDec : Bits → Read Bool A
+  exactDec s = next (c .dec s) (usedUp e)
+
+-- what the block v refuses is refused before all that w does, at the first bit
+module _ {A B : Type 0} (v : Block A) (w : Block B) where
+  unfoldable pub siftedDec : Bits → Read Bool B
+  siftedDec s = next (atStart (length s) (v .dec s)) (λ a r. w .dec s)

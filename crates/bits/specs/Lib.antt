@@ -10,6 +10,7 @@ pub mod RefusingLaws
 pub mod Block
 pub mod BlockLaws
 pub mod SizedLaws
+pub mod ExactLaws
 pub mod Bytes
 pub mod BytesLaws
 pub mod Reads

@@ -16,7 +16,7 @@ use Rattle.format.specs.Named.{placeIn}
 use Rattle.format.specs.declared.ViewName.{ViewName}
 
 -- a refusal's place is counted from the start of the bytes, which have n bits
-abbrev pub fromRead : {A : Type 0} → ℕ → (Record → Outcome A) → Read Bool Record → Outcome A
+abbrev pub fromRead : {A B : Type 0} → ℕ → (B → Outcome A) → Read Bool B → Outcome A
 fromRead n f (C.got r rest) = f r
 fromRead n f (C.refused e left) = refused e (n - left)
 

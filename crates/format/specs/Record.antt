@@ -1,5 +1,5 @@
 -- The record: its header, then its views, and nothing behind them. Refusals 1 to 12, with their places.
-use Prim.Native.Nat.{ℕ, suc, _*_, _/_, _^_, _≤_, _<_}
+use Prim.Native.Nat.{ℕ, _*_, _/_, _^_, _≤_, _<_}
 use mathlib.Core.Bool.{Bool}
 use mathlib.Core.List.{List, [], _∷_}
 use lib.ListN.{length}
@@ -7,7 +7,8 @@ use Rattle.bits.specs.Choice.{pick, within}
 use Rattle.bits.specs.Lists.{Along}
 use Rattle.bits.specs.Bits.{Bits}
 use Rattle.bits.specs.Bytes.{bitsOf, bytesOf}
-use Rattle.bits.specs.Codec.{Read, got, refused, next, Codec}
+use Rattle.bits.specs.Codec.{Read, refused, next, Codec}
+use Rattle.bits.specs.Block.{usedUp}
 use Rattle.bits.specs.CodecLaws.{field, then, via, along, fixed, Ranged, ranged}
 use Rattle.outcome.specs.Refusals.{badSize, badIdentifier, badVersion, badLength, badHeader, bytesOver}
 use Rattle.format.specs.Limits.{leastBytes, mostBytes}
@@ -57,8 +58,7 @@ recordOf n =
 
 -- nothing may be left behind the last view: 12
 abbrev pub allOf : {A : Type 0} → A → Bits → Read Bool A
-allOf r [] = got r []
-allOf r (b ∷ s) = refused bytesOver (suc (length s))
+allOf r s = usedUp bytesOver r s
 
 -- "under 24 or over 32,768 bytes": 1, whose place is 0
 unfoldable pub read : List ℕ → Read Bool Record

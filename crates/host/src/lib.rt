@@ -12,6 +12,12 @@ ghost use Rattle.orders.specs.Order.{order};
 ghost use Rattle.order_holds.specs.Held.{held};
 ghost use Rattle.orders.specs.Called.{removalOrder, pairOrder};
 ghost use Rattle.orders.specs.Pairs.{pairsCall, pairs};
+ghost use Rattle.card.specs.Card.{cardRead, cardWrite};
+ghost use Rattle.card_runs.specs.Runs.{lowBytes, fromLowBytes};
+use card_reading::card_read;
+use card_runs::from_low_bytes;
+use card_runs::low_bytes;
+use card_writing::card_write;
 use format::ViewName;
 use order_holds::Held;
 use order_holds::which_holds;
@@ -218,4 +224,38 @@ pub extern "C" fn fsk_holds(old: &[u8], second: &[u8], number: u32, length: usiz
     ensures { λ r. ⌜ r ≡ held (now (old .entry)) (now (second .entry)) number length ⌝ }
 {
     which_holds(old, second, number, length)
+}
+
+#[no_mangle]
+pub extern "C" fn fsk_card_read(size: u32, object: &[u8], out: &mut [u8]) -> Answer
+    ensures { λ r. ⌜ Answers (cardRead size (now (object .entry))) (now (out .entry)) (now (out .exit)) r ⌝ }
+{
+    card_read(size, object, out)
+}
+
+#[no_mangle]
+pub extern "C" fn fsk_card_write(
+    size: u32,
+    bytes: &[u8],
+    finger: u32,
+    number: u32,
+    out: &mut [u8],
+) -> Answer
+    ensures { λ r. ⌜ Answers (cardWrite size (named finger number) (now (bytes .entry))) (now (out .entry)) (now (out .exit)) r ⌝ }
+{
+    card_write(size, bytes, ViewName { finger, number }, out)
+}
+
+#[no_mangle]
+pub extern "C" fn fsk_low_bytes(run: &[u8], out: &mut [u8]) -> Answer
+    ensures { λ r. ⌜ Answers (lowBytes (now (run .entry))) (now (out .entry)) (now (out .exit)) r ⌝ }
+{
+    low_bytes(run, out)
+}
+
+#[no_mangle]
+pub extern "C" fn fsk_from_low_bytes(bytes: &[u8], out: &mut [u8]) -> Answer
+    ensures { λ r. ⌜ AnswersInBytes (fromLowBytes (now (bytes .entry))) (now (out .entry)) (now (out .exit)) r ⌝ }
+{
+    from_low_bytes(bytes, out)
 }

@@ -1,19 +1,14 @@
 -- The lists that a host lends with an order. "Lists of wider numbers cross to it as bytes, high byte first": the lines of a removal,
 -- and the orders about pairs.
-use Prim.Native.Nat.{ℕ, _+_, _*_, _%_}
+use Prim.Native.Nat.{ℕ, _*_, _%_}
 use mathlib.Core.Bool.{Bool, not, _&&_}
 use mathlib.Core.List.{List, [], _∷_, map}
 use lib.ListN.{length}
 use lib.Dec.{leb, eqb}
 use Rattle.bits.specs.Choice.{pick}
 use Rattle.bits.specs.Lists.{every, empty?}
+pub use Rattle.put_bytes.specs.HighFirst.{numbersIn}
 use Rattle.orders.specs.Act.{Word}
-
--- two bytes each; a last one by itself is no number
-abbrev pub numbersIn : List ℕ → List ℕ
-numbersIn [] = []
-numbersIn (b ∷ []) = []
-numbersIn (b ∷ c ∷ bs) = (b * 256 + c) ∷ numbersIn bs
 
 -- ---- the lines of a removal
 

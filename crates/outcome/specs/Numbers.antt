@@ -59,3 +59,17 @@ poresNumbers = (1, 13) ∷ (20, 20) ∷ (23, 23) ∷ (26, 26) ∷ []
 
 abbrev pub setPoresNumbers : List (ℕ × ℕ)
 setPoresNumbers = (1, 13) ∷ (19, 20) ∷ (23, 23) ∷ (26, 26) ∷ []
+
+-- the card's object: "27, size number (before all others) or object shape, bytes after it included; then 8 to 10 on skeleton and index;
+-- .. each before 19 and 20"
+abbrev pub cardReadNumbers : List (ℕ × ℕ)
+cardReadNumbers = (8, 10) ∷ (19, 20) ∷ (27, 27) ∷ []
+
+-- a view's object: 27 for the size, "28, record points per cm, widths, steps or N not the size's", behind 1 to 13. It is shorter than the
+-- record, so that there is no 19.
+abbrev pub cardWriteNumbers : List (ℕ × ℕ)
+cardWriteNumbers = (1, 13) ∷ (20, 20) ∷ (27, 28) ∷ []
+
+-- runs: "29, .. before 19 and 20"; they have no largest length
+abbrev pub runNumbers : List (ℕ × ℕ)
+runNumbers = (20, 20) ∷ (29, 29) ∷ []

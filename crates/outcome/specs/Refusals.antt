@@ -105,3 +105,16 @@ badPairs = 25
 -- payload
 abbrev pub badPores : ℕ
 badPores = 26
+
+-- 27: card: a size number other than 0 and 1, or bytes that are no template 7F2E with object 90 first in it
+abbrev pub badObject : ℕ
+badObject = 27
+
+-- 28: card: points per cm, widths, steps or N of the record are not the size's
+abbrev pub otherScale : ℕ
+otherScale = 28
+
+-- 29: a run that falls, starts above 255, rises by over 255 in a step or has an odd length; or low bytes of which a coordinate would pass
+-- 65,535
+abbrev pub badRun : ℕ
+badRun = 29

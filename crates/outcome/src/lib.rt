@@ -95,4 +95,10 @@ impl Refusal {
     pub const BAD_PAIRS: u32 = 25;
 
     pub const BAD_PORES: u32 = 26;
+
+    pub const BAD_OBJECT: u32 = 27;
+
+    pub const OTHER_SCALE: u32 = 28;
+
+    pub const BAD_RUN: u32 = 29;
 }

@@ -4,20 +4,23 @@ use mathlib.Core.Path.{_≡_, refl, sym, ap, subst, _∙_}
 use Prim.Native.Nat.{ℕ, _+_, _-_, _*_, _≤_}
 use native.Mathlib.Omega.{arith}
 use mathlib.Core.Bool.{Bool, not}
+use mathlib.Core.Option.{Option, none, some}
 use mathlib.Core.List.{List, []}
 use lib.ListN.{length}
 use lib.Dec.{T, ltb, eqb}
 use mir.Facts.{eqb-no}
 use Rattle.bits.specs.Choice.{within}
-use Rattle.bits.specs.ChoiceLaws.{pick-case, within-not-high}
+use Rattle.bits.specs.ChoiceLaws.{pick-case, within-high, within-not-high}
 use Rattle.bits.specs.Codec.{Read}
 use Rattle.bits.specs.Codec as C
-use Rattle.outcome.specs.Outcome.{Outcome, refused, given, AnswersAs, Answers}
+use Rattle.outcome.specs.Refusals.{badObject}
+use Rattle.outcome.specs.Outcome.{Outcome, refused, given, room, numberOf, AnswersAs, Answers}
 use Rattle.outcome.specs.declared.Answer.{Answer}
 use Rattle.format.specs.Record.{Record, read}
 use Rattle.format.specs.Call.{fromRead, onRecord, inView, onView, inSegment, onSegment}
 use Rattle.format.specs.Places.{viewAt, count}
 use Rattle.format.specs.Named.{placeIn}
+use Rattle.format.specs.declared.Scale.{Scale}
 use Rattle.format.specs.declared.ViewName.{ViewName}
 use Rattle.format.proofs.Laws.Record.{read-is}
 use Rattle.places.specs.Reach.{reach, Agree, AnsweredAlike}
@@ -28,6 +31,9 @@ use Rattle.segment.specs.Segment.{payloadIn, payload, firstBitRead, segmentAnsw
 use Rattle.rewrite.specs.Format.{PayloadFormat}
 use Rattle.rewrite.specs.Called.{readIn, readPayload, setIn, setPayload}
 use Rattle.rewrite.proofs.Laws.PayloadNumbers.{reading-refused, setting-refused}
+use Rattle.card.specs.Size.{scaleOf, sameScale}
+use Rattle.card.specs.Card.{objectGiven, cardWrite}
+use Rattle.card.proofs.Laws.Calls as CardCalls
 use Rattle.orders.specs.Order.{Order, verdict, ordered, order}
 use Rattle.orders.specs.Pairs.{PairsCall, pairsCall, pairs}
 use Rattle.orders.proofs.Laws.Numbers.{verdict-above}
@@ -142,3 +148,18 @@ pub pairs-decided : (view : ViewName) (n : ℕ) (orders a b : List ℕ) {before 
 pairs-decided view n orders a b {before} {before₂ = before₂} h k =
     answered-alike judged (λ r. tt) a b (pairs-shows (pairsCall view n orders before) a h)
     (pairs-shows (pairsCall view n orders before₂) b k)
+
+-- a view's object at a size
+pub card-decided : (sizeNumber : ℕ) (view : ViewName) (a b : List ℕ) {before after before₂ after₂ : List ℕ} {x y : Answer}
+    → Answers (cardWrite sizeNumber view a) before after x → Answers (cardWrite sizeNumber view b) before₂ after₂ y
+    → T (within 2 12 (x .number)) → Agree (x .place + reach (x .number)) a b → AnsweredAlike x y
+card-decided sizeNumber view a b {before} {after} {before₂} {after₂} {x} {y} h k = sized (scaleOf sizeNumber) refl
+  where
+    sized : (o : Option Scale) → scaleOf sizeNumber ≡ o → T (within 2 12 (x .number)) → Agree (x .place + reach (x .number)) a b → AnsweredAlike x y
+    sized none e = λ t.
+        let n : x .number ≡ badObject = h .number ∙ ap (λ (o : Outcome ℕ). numberOf (room (length before) o)) (CardCalls.write-none sizeNumber view a e) in
+        absurd (omega (arith, n, within-high 2 12 (x .number) t))
+    sized (some scale) e =
+        view-alike view (objectGiven scale) (λ i r. pick-case Own (sameScale (r .head .scale) scale) _ _ (λ t. tt) (λ t. tt)) a b
+        (answer-shows (subst (λ (o : Outcome ℕ). Answers o before after x) (CardCalls.write-in sizeNumber e view a) h))
+        (answer-shows (subst (λ (o : Outcome ℕ). Answers o before₂ after₂ y) (CardCalls.write-in sizeNumber e view b) k))

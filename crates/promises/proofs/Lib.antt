@@ -9,3 +9,5 @@ pub mod PromisesQuality
 pub mod PromisesPores
 pub mod PromisesPairs
 pub mod PromisesSplit
+pub mod PromisesCard
+pub mod PromisesRuns

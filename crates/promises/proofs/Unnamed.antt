@@ -1,9 +1,10 @@
 -- 13 of each call on a view: exactly where the bytes read as a record of which no view has the name. Each refuses with 13 there, and
 -- has other numbers of its own.
-use mathlib.Core.Path.{_≡_, ap, _∙_}
+use mathlib.Core.Path.{_≡_, ap, _∙_, subst}
 use mathlib.Core.Logic.{_≢_}
 use Prim.Native.Nat.{ℕ, _≤_}
 use native.Mathlib.Omega.{arith}
+use mathlib.Core.Option.{some}
 use mathlib.Core.List.{List}
 use lib.Dec.{ltb}
 use Rattle.bits.specs.ChoiceLaws.{pick-case}
@@ -15,6 +16,7 @@ use Rattle.outcome.proofs.Refused.{refused-answer, refused-told}
 use Rattle.format.specs.Record.{read}
 use Rattle.format.specs.Places.{viewAt, count}
 use Rattle.format.specs.Named.{NoViewNamed}
+use Rattle.format.specs.declared.Scale.{Scale}
 use Rattle.format.specs.declared.ViewName.{ViewName}
 use Rattle.format.proofs.Laws.Finger.{Other, SaysNone, unnamed-refused, refused-unnamed, unnamed-segment, segment-unnamed}
 use Rattle.trail.specs.Trail.{trailIn, trailing}
@@ -22,6 +24,9 @@ use Rattle.segment.specs.Segment.{payloadIn, payload, firstBitRead, segmentAnsw
 use Rattle.rewrite.specs.Format.{PayloadFormat}
 use Rattle.rewrite.specs.Called.{readIn, readPayload, setIn, setPayload}
 use Rattle.rewrite.proofs.Laws.PayloadNumbers.{reading-refused, setting-refused}
+use Rattle.card.specs.Size.{scaleOf, sameScale}
+use Rattle.card.specs.Card.{objectGiven, cardWrite}
+use Rattle.card.proofs.Laws.Calls as CardCalls
 use Rattle.orders.specs.Order.{Order, ordered, order}
 use Rattle.orders.specs.Pairs.{PairsCall, pairsCall, pairs}
 use Rattle.orders.proofs.Laws.Numbers.{ordered-other}
@@ -85,3 +90,12 @@ pub pairs-answer-unnamed : (view : ViewName) (n : ℕ) (orders bytes : List ℕ)
 pairs-answer-unnamed view n orders bytes {before} =
     let m : PairsCall = pairsCall view n orders before in
     answer-exactly (pairs-unnamed m bytes) (λ k. pairs-view m bytes (λ f. unnamed-refused view f bytes k))
+
+-- a view's object at a size that there is
+pub card-unnamed : (sizeNumber : ℕ) {scale : Scale} (view : ViewName) (bytes : List ℕ) → scaleOf sizeNumber ≡ some scale → {before after : List ℕ} {a : Answer}
+    → Answers (cardWrite sizeNumber view bytes) before after a → Exactly view bytes (a .number)
+card-unnamed sizeNumber {scale} view bytes e {before} {after} {a} h =
+    answer-exactly
+    (refused-unnamed view (objectGiven scale) bytes λ i r _ _. pick-case Other (sameScale (r .head .scale) scale) _ _ (λ t. tt) (λ t z. absurd (omega arith)))
+    (unnamed-refused view (objectGiven scale) bytes)
+    (subst (λ (o : Outcome ℕ). Answers o before after a) (CardCalls.write-in sizeNumber e view bytes) h)

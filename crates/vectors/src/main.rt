@@ -1,7 +1,10 @@
 // Runs the library's calls on each file that an argument names, and prints what came of it: the listing, the place of a refusal, the
 // sheet's length, and for each view, named by finger position and number, the trails of its first lines, the lengths of its first
-// segments, and the values of their local quality or the numbers of their pores.
+// segments, and the values of their local quality or the numbers of their pores. Of a file whose name ends in d (.card), for each size the
+// record that its object makes, and whether the record's view makes the object again.
 use bits::four_at;
+use card_reading::card_read;
+use card_writing::card_write;
 use format::Header;
 use format::ViewName;
 use judge::Verdict;
@@ -186,6 +189,74 @@ fn of_record(bytes: &[u8]) {
     }
 }
 
+// What the record's view makes at that size: how many bytes, and whether they are the object's.
+fn back(size: u32, bytes: &[u8], object: &[u8]) {
+    let mut out = io::large_buffer();
+    let unnamed = ViewName {
+        finger: 0,
+        number: 0,
+    };
+    let answer = card_write(size, bytes, unnamed, &mut out);
+    text(b"object ");
+    number(answer.length);
+    if is_start(object, &out, answer.length) {
+        text(b" bytes, the same\n");
+    } else {
+        text(b" bytes, another\n");
+    }
+}
+
+// Whether the object has `length` bytes, which `out` starts with.
+fn is_start(object: &[u8], out: &[u8], length: usize) -> bool {
+    if object.len() != length {
+        return false;
+    }
+    let mut i: usize = 0;
+    while i < length && i < out.len() {
+        if byte(object[i]) != byte(out[i]) {
+            return false;
+        }
+        i += 1;
+    }
+    true
+}
+
+// The record in the first `length` bytes of `out`, and what it makes.
+fn shown(size: u32, out: &[u8], length: usize, object: &[u8]) {
+    if out.len() < length {
+        return;
+    }
+    let bytes = &out[..length];
+    list_text::listing(bytes);
+    back(size, bytes, object);
+}
+
+// A card's object, read at that size.
+fn of_object(size: u32, object: &[u8]) {
+    let mut out = io::large_buffer();
+    let answer = card_read(size, object, &mut out);
+    text(b"card ");
+    number(size as usize);
+    text(b"\n");
+    if answer.number != 0 {
+        list_text::refused(answer.number);
+        text(b"place ");
+        number(answer.place as usize);
+        text(b"\n");
+        return;
+    }
+    shown(size, &out, answer.length, object);
+}
+
+// Whether the name is that of a card's object: it ends in d.
+fn is_card(path: &[u8]) -> bool {
+    let n = path.len();
+    if n == 0 {
+        return false;
+    }
+    byte(path[n - 1]) == 100
+}
+
 fn of_file(path: &[u8]) {
     let fd = os::open_read(path);
     if fd < 0 {
@@ -197,7 +268,12 @@ fn of_file(path: &[u8]) {
     libc::close(fd);
     text(path);
     text(b"\n");
-    of_record(&buffer[..n]);
+    if is_card(path) {
+        of_object(0, &buffer[..n]);
+        of_object(1, &buffer[..n]);
+    } else {
+        of_record(&buffer[..n]);
+    }
 }
 
 // Whether there is an argument of that number.

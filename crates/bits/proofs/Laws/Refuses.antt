@@ -14,7 +14,7 @@ use lib.Dec.{leb}
 use Rattle.bits.specs.Choice.{pick}
 use Rattle.bits.specs.Bits.{Bits}
 use Rattle.bits.specs.Codec.{Read, got, refused, next, Codec, fieldDec, thenDec, timesDec, alongDec, viaDec, onlyDec, sound, judgedDec, atStart, wholeDec, roomDec}
-use Rattle.bits.specs.Block.{Block, few, zerosDec, manyDec, endedDec, maybeDec, fillDec, inside, sizedDec, aheadDec, passDec, recastDec}
+use Rattle.bits.specs.Block.{Block, few, zerosDec, manyDec, endedDec, maybeDec, fillDec, inside, sizedDec, aheadDec, passDec, recastDec, usedUp, exactDec, siftedDec}
 
 -- ---- what is said of a refusal
 
@@ -189,6 +189,24 @@ module _ {P : ℕ → Type 0} where
   unfolding recastDec
   recast-refuses w f h = map-refuses f h
 
+-- ---- nothing left, and what is sifted
+
+module _ {P : ℕ → Type 0} where
+  pub used-refuses : {A : Type 0} (e : ℕ) (a : A) → P e → Refuses P (usedUp e a)
+  used-refuses e a p = record { at = go }
+    where
+      go : (s : Bits) → Refusal (AtMost P (length s)) (usedUp e a s)
+      go [] = accepted
+      go (b ∷ s) = by (p, le-refl (suc (length s)))
+
+  pub exact-refuses : {A : Type 0} (c : Codec Bool A) (e : ℕ) → P e → Refuses P (c .dec) → Refuses P (exactDec c e)
+  unfolding exactDec
+  exact-refuses c e p h = next-refuses c h λ a. used-refuses e a p
+
+  pub sifted-refuses : {A B : Type 0} (v : Block A) (w : Block B) → Refuses P (v .dec) → Refuses P (w .dec) → Refuses P (siftedDec v w)
+  unfolding siftedDec
+  sifted-refuses v w h k = record { at = λ s. next-refusal (start-refusal (h .at s)) λ a r _. k .at s }
+
 -- ---- all of them
 
 -- tt proves that a number is one of P, where that computes
@@ -210,5 +228,7 @@ pub ruleset refusing = (
   ahead-refuses,
   pass-refuses,
   recast-refuses,
+  exact-refuses,
+  sifted-refuses,
   tt,
 )

@@ -14,6 +14,7 @@ use Rattle.bits.specs.Bytes.{Byte, bitsOf, inBytes}
 use Rattle.bits.specs.BytesLaws.{bits-append, length-bitsOf, in-bits}
 use Rattle.bits.specs.Codec.{Codec}
 use Rattle.bits.specs.CodecLaws.{encAll, field}
+use Rattle.bits.specs.BlockBytes.{each-byte}
 use Rattle.put_bytes.specs.HighFirst.{two, joined}
 
 pub record Spells (xs : List ℕ) (s : Bits) : Type 0 where
@@ -68,5 +69,4 @@ module _ {A : Type 0} (c : Codec Bool A) where
   spells-map f k (x ∷ xs) h = k x (h .0) ⊕ spells-map f k xs (h .1)
 
 pub spells-bytes : (e : ℕ) (xs : List ℕ) → All Byte xs → Spells xs (encAll (field e 8) xs)
-spells-bytes e [] h = spells-none
-spells-bytes e (x ∷ xs) h = spells-byte (h .0) ⊕ spells-bytes e xs (h .1)
+spells-bytes e xs h = record { bytes = h; bits = each-byte e xs }

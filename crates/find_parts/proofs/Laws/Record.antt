@@ -1,7 +1,7 @@
 -- A record that was read, taken apart: its header's bits, and its views behind them.
-use mathlib.Core.Path.{_≡_, refl, ap, _∙_, subst}
+use mathlib.Core.Path.{_≡_, ap, _∙_, subst}
 use Prim.Native.Nat.{ℕ, _≤_}
-use mathlib.Core.List.{List, [], _∷_, _++_}
+use mathlib.Core.List.{List, [], _++_}
 use lib.ListN.{length, drop, length-append}
 use lib.Seq.{drop-at}
 use Rattle.bits.specs.Choice.{within}
@@ -11,10 +11,12 @@ use Rattle.bits.specs.BitsLaws.{length-bits}
 use Rattle.bits.specs.Bytes.{bitsOf}
 use Rattle.bits.specs.Codec.{got, alongDec}
 use Rattle.bits.specs.CodecLaws.{not-got, next-got, along-back}
+use Rattle.bits.specs.ExactLaws.{used-up}
 use Rattle.bits.proofs.Laws.Apart.{then-got, via-got}
+use Rattle.outcome.specs.Refusals.{bytesOver}
 use Rattle.format.specs.Limits.{leastBytes, mostBytes}
 use Rattle.format.specs.View.{view}
-use Rattle.format.specs.Record.{Record, FitsHeader, header, tellSeen, views, recordOf, allOf, read}
+use Rattle.format.specs.Record.{Record, FitsHeader, header, tellSeen, views, recordOf, read}
 use Rattle.format.specs.declared.Header.{Header}
 
 -- behind x, which starts the bits
@@ -37,10 +39,6 @@ pub record RecordAt (s : List ℕ) (r : Record) : Type 0 where
   pub tail : Bits
   pub head : bitsOf s ≡ header (length s) .enc (r .head, count) ++ tail
   pub views : alongDec (view (r .head .scale .widths)) tellSeen (length (r .views)) [] (drop 192 (bitsOf s)) ≡ got (r .views) []
-
-all-got : {a r : Record} (t : Bits) → allOf a t ≡ got r [] → (a ≡ r) × (t ≡ [])
-all-got [] p = (cc, refl)
-all-got (b ∷ t) p = not-got p
 
 -- what recordOf reads, where nothing is left
 record-got : (s : List ℕ) {r : Record} → 24 ≤ length s → length s ≤ 32768 → recordOf (length s) .dec (bitsOf s) ≡ got r [] → RecordAt s r
@@ -69,6 +67,6 @@ record-apart s {r} p =
     let n : ℕ = length s in
     pick-split (within leastBytes mostBytes n) _ _ p
     (λ t k. next-got (recordOf n .dec (bitsOf s)) _ k λ a u e m.
-    let (x, y) = all-got u m in
+    let (x, y, _) = used-up bytesOver u m in
     record-got s (within-low leastBytes mostBytes n t) (within-high leastBytes mostBytes n t) (rw (x, y) at e))
     (λ t k. not-got k)

@@ -49,7 +49,7 @@ spells-block w v =
 abbrev sized : {A : Type 0} → Block A → A → Bits
 sized w v = bitsOfNumber 16 (length (w .enc v) / 8) ++ w .enc v
 
-spells-sized : {A : Type 0} (w : Block A) (v : A) → length (w .enc v) / 8 < 2 ^ 16 → Spells (sizedOut w v) (sized w v)
+pub spells-sized : {A : Type 0} (w : Block A) (v : A) → length (w .enc v) / 8 < 2 ^ 16 → Spells (sizedOut w v) (sized w v)
 spells-sized w v h = rw (length-in (w .enc v)) (spells-two h ⊕ spells-block w v)
 
 -- ---- headers; e is the refusal

@@ -62,6 +62,22 @@ module _ {A : Type 0} (view : ViewName) (f : ℕ → Record → Outcome A) (byte
       pick-split (ltb i (length (r .views))) _ _ g (λ t q. k r rest i e (here view r (ltb→lt i (length (r .views)) t)) q)
       (λ t q. let z : _≡_ {A = ℕ} 0 1 = cc in absurd (omega arith))
 
+  -- a refusal with another number than 1 to 13 is the call's own
+  pub own-view : {P : Type 0} (e p : ℕ) → 13 < e → onView view f bytes ≡ refused e p
+      → ((r : Record) (rest : Bits) (i : ℕ) → read bytes ≡ C.got r rest → Means view r i → f i r ≡ refused e p → P) → P
+  unfolding onRecord onView
+  own-view {P} e p l h k = go (read bytes) refl h
+    where
+      go : (o : Read Bool Record) → read bytes ≡ o → fromRead (8 * length bytes) (inView view f) o ≡ refused e p → P
+      go (C.got r rest) q g =
+          let i : ℕ = placeIn view (r .views) in
+          pick-split (ltb i (length (r .views))) _ _ g (λ t y. k r rest i q (here view r (ltb→lt i (length (r .views)) t)) y)
+          (λ t y. let z : noView ≡ e = cc in absurd (omega arith))
+      go (C.refused m left) q g =
+          let z : m ≡ e = cc in
+          let (t, _, _) = read-refuses bytes m left q in
+          absurd (omega (arith, within-high 1 12 m t))
+
 -- ---- a call on a segment
 
 module _ {A : Type 0} (view : ViewName) (place : ℕ) (f : ℕ → Record → Outcome A) (bytes : List ℕ) where
@@ -87,20 +103,8 @@ module _ {A : Type 0} (view : ViewName) (place : ℕ) (f : ℕ → Record → Ou
   pub own-segment : {P : Type 0} (e p : ℕ) → 13 < e → e ≢ noSegment → onSegment view place f bytes ≡ refused e p
       → ((r : Record) (rest : Bits) (i : ℕ) → read bytes ≡ C.got r rest → Means view r i → place < length (viewAt r i .segments)
       → f i r ≡ refused e p → P) → P
-  unfolding onRecord onView onSegment
-  own-segment {P} e p l n h k = go (read bytes) refl h
-    where
-      in-view : (r : Record) (rest : Bits) (i : ℕ) → read bytes ≡ C.got r rest → Means view r i → inSegment place f i r ≡ refused e p → P
-      in-view r rest i q m g =
-          pick-split (ltb place (length (viewAt r i .segments))) _ _ g (λ t y. k r rest i q m (ltb→lt place (length (viewAt r i .segments)) t) y)
-          (λ t y. let z : noSegment ≡ e = cc in absurd (n (sym z)))
-
-      go : (o : Read Bool Record) → read bytes ≡ o → fromRead (8 * length bytes) (inView view (inSegment place f)) o ≡ refused e p → P
-      go (C.got r rest) q g =
-          let i : ℕ = placeIn view (r .views) in
-          pick-split (ltb i (length (r .views))) _ _ g (λ t y. in-view r rest i q (here view r (ltb→lt i (length (r .views)) t)) y)
-          (λ t y. let z : noView ≡ e = cc in absurd (omega arith))
-      go (C.refused m left) q g =
-          let z : m ≡ e = cc in
-          let (t, _, _) = read-refuses bytes m left q in
-          absurd (omega (arith, within-high 1 12 m t))
+  unfolding onSegment
+  own-segment e p l n h k =
+      own-view view (inSegment place f) bytes e p l h λ r rest i q m g.
+      pick-split (ltb place (length (viewAt r i .segments))) _ _ g (λ t y. k r rest i q m (ltb→lt place (length (viewAt r i .segments)) t) y)
+      (λ t y. let z : noSegment ≡ e = cc in absurd (n (sym z)))

@@ -1,9 +1,9 @@
 -- Reading and writing of a record, in bytes: what is written is read, and what is read was written. So reading accepts exactly the
 -- bytes of the records that are allowed.
-use mathlib.Core.Path.{_≡_, refl, sym, ap, ap₂, _∙_}
+use mathlib.Core.Path.{_≡_, sym, ap, ap₂, _∙_}
 use Prim.Native.Nat.{ℕ, _^_, _≤_, _<_}
 use native.Mathlib.Omega.{arith}
-use mathlib.Core.List.{List, [], _∷_, append-nil}
+use mathlib.Core.List.{List, [], append-nil}
 use lib.ListN.{length}
 use Rattle.bits.specs.Choice.{within}
 use Rattle.bits.specs.ChoiceLaws.{pick-yes, pick-split, within-low, within-high, within-yes}
@@ -13,8 +13,10 @@ use Rattle.bits.specs.Bytes.{Byte, bitsOf}
 use Rattle.bits.specs.BytesLaws.{length-bitsOf, length-bytesOf, bits-bytes, bytes-bits}
 use Rattle.bits.specs.Codec.{got}
 use Rattle.bits.specs.CodecLaws.{not-got, next-got}
+use Rattle.bits.specs.ExactLaws.{used-up}
+use Rattle.outcome.specs.Refusals.{bytesOver}
 use Rattle.format.specs.Limits.{leastBytes, mostBytes}
-use Rattle.format.specs.Record.{Record, FitsHeader, Narrow, FitsRecord, recordOf, read, allOf, size, write, Allowed}
+use Rattle.format.specs.Record.{Record, FitsHeader, Narrow, FitsRecord, recordOf, read, size, write, Allowed}
 use Rattle.format.specs.declared.Widths.{Widths}
 use Rattle.format.specs.declared.Header.{Header}
 use Rattle.format.proofs.Laws.Size.{size-is, views-length}
@@ -26,10 +28,6 @@ record-there n r l f = rw (append-nil (recordOf n .enc r)) at (recordOf n .there
 record-back : (n : ℕ) (s : Bits) (r : Record) → recordOf n .dec s ≡ got r [] → FitsRecord r × (s ≡ recordOf n .enc r)
 unfolding recordOf
 record-back n s r p = let ((l, f), e) = recordOf n .back s r [] p in (f, e ∙ append-nil (recordOf n .enc r))
-
-all-of : {a r : Record} {q : Bits} (rest : Bits) → allOf a rest ≡ got r q → (a ≡ r) × (rest ≡ []) × (q ≡ [])
-all-of [] p = (cc, refl, cc)
-all-of (b ∷ s) p = not-got p
 
 pub read-there : (r : Record) → Allowed r → read (write r) ≡ got r []
 unfolding read write leastBytes mostBytes
@@ -48,7 +46,7 @@ read-is bytes r q p =
     let n : ℕ = length bytes in
     pick-split (within leastBytes mostBytes n) _ _ p
     (λ t k. next-got (recordOf n .dec (bitsOf bytes)) _ k λ a rest e m.
-    let (b, z, y) = all-of rest m in
+    let (b, z, y) = used-up bytesOver rest m in
     let (f, g) = record-back n (bitsOf bytes) r (e ∙ ap₂ got b z) in
     let s : n ≡ size r = omega (arith, size-is n r, ap length g, length-bitsOf bytes) in
     (record { fits = f; small = rw (← s) (within-high leastBytes mostBytes n t) }, s, g, y))

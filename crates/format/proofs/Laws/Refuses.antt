@@ -2,27 +2,26 @@
 -- each format from its parts; scale and headFields, which the sheet reads too, have it for whatever numbers they are given, and an end
 -- for its one number.
 use mathlib.Core.Path.{_≡_}
-use Prim.Native.Nat.{ℕ, suc, _-_, _*_, _≤_}
+use Prim.Native.Nat.{ℕ, _-_, _*_, _≤_}
 use native.Mathlib.Omega.{arith}
 use native.Mathlib.Nat.{le-refl, sub-self}
-use mathlib.Core.List.{List, [], _∷_}
+use mathlib.Core.List.{List}
 use lib.ListN.{length}
 use lib.Dec.{T, le→leb}
 use Rattle.bits.specs.Choice.{within}
 use Rattle.bits.specs.ChoiceLaws.{T-true, within-low, within-high, within-yes}
-use Rattle.bits.specs.Bits.{Bits}
 use Rattle.bits.specs.Bytes.{bitsOf}
 use Rattle.bits.specs.BytesLaws.{length-bitsOf}
 use Rattle.bits.specs.Codec.{refused}
-use Rattle.bits.proofs.Laws.Refuses.{Refusal, accepted, by, AtMost, Refuses, refused-by, refusal-map, pick-refusal, next-refuses, refusing}
-use Rattle.outcome.specs.Refusals.{badSize, badLine}
+use Rattle.bits.proofs.Laws.Refuses.{by, AtMost, Refuses, refused-by, refusal-map, pick-refusal, next-refuses, used-refuses, refusing}
+use Rattle.outcome.specs.Refusals.{badSize, badLine, tooManyLines, badIndex, bytesOver}
 use Rattle.outcome.specs.Placed.{Placed}
 use Rattle.format.specs.Limits.{leastBytes, mostBytes}
 use Rattle.format.specs.Line.{end, line, skeleton}
 use Rattle.format.specs.Index.{neighbours, index, indexBlock}
 use Rattle.format.specs.Segments.{segment, segments}
 use Rattle.format.specs.View.{headFields, viewHeader, view}
-use Rattle.format.specs.Record.{scale, header, views, recordOf, allOf, read}
+use Rattle.format.specs.Record.{scale, header, views, recordOf, read}
 use Rattle.format.specs.declared.Widths.{Widths}
 
 abbrev Listed : ℕ → Type 0
@@ -34,24 +33,24 @@ pub end-refuses : (P : ℕ → Type 0) (w : Widths) → P badLine → Refuses P 
 unfolding end
 end-refuses P w p = search refusing depth 12
 
-line-refuses : (w : Widths) → Refuses Listed (line w .dec)
+line-refuses : (P : ℕ → Type 0) (w : Widths) → P badLine → Refuses P (line w .dec)
 unfolding line
-line-refuses w = search (refusing, end-refuses) depth 12
+line-refuses P w p = search (refusing, end-refuses) depth 12
 
-skeleton-refuses : (w : Widths) → Refuses Listed (skeleton w .dec)
+pub skeleton-refuses : (P : ℕ → Type 0) (w : Widths) → P badLine → P tooManyLines → Refuses P (skeleton w .dec)
 unfolding skeleton
-skeleton-refuses w = search (refusing, line-refuses)
+skeleton-refuses P w p q = search (refusing, line-refuses)
 
-neighbours-refuses : (w l : ℕ) → Refuses Listed (neighbours w l .dec)
-neighbours-refuses w l = search refusing depth 12
+neighbours-refuses : (P : ℕ → Type 0) (w l : ℕ) → P badIndex → Refuses P (neighbours w l .dec)
+neighbours-refuses P w l p = search refusing depth 12
 
-index-refuses : (n : ℕ) → Refuses Listed (index n .dec)
+index-refuses : (P : ℕ → Type 0) (n : ℕ) → P badIndex → Refuses P (index n .dec)
 unfolding index
-index-refuses n = search (refusing, neighbours-refuses)
+index-refuses P n p = search (refusing, neighbours-refuses)
 
-indexBlock-refuses : (n : ℕ) → Refuses Listed (indexBlock n .dec)
+pub indexBlock-refuses : (P : ℕ → Type 0) (n : ℕ) → P badIndex → Refuses P (indexBlock n .dec)
 unfolding indexBlock
-indexBlock-refuses n = search (refusing, index-refuses)
+indexBlock-refuses P n p = search (refusing, index-refuses)
 
 segment-refuses : Refuses Listed (segment .dec)
 unfolding segment
@@ -93,13 +92,6 @@ record-refuses n = search (refusing, header-refuses, views-refuses)
 
 -- ---- reading, in bytes
 
-all-refuses : {A : Type 0} (a : A) → Refuses Listed (allOf a)
-all-refuses a = record { at = go }
-  where
-    go : (s : Bits) → Refusal (AtMost Listed (length s)) (allOf a s)
-    go [] = accepted
-    go (b ∷ s) = by (tt, le-refl (suc (length s)))
-
 -- what is said of a refusal of bytes that have n bits
 abbrev InRecord : ℕ → ℕ → ℕ → Type 0
 InRecord n e left = T (within 1 12 e) × (left ≤ n) × Placed n e (n - left)
@@ -118,5 +110,5 @@ pub read-refuses : (bytes : List ℕ) (e left : ℕ) → read bytes ≡ refused 
 unfolding read
 read-refuses bytes e left p =
     let n : ℕ = length bytes in
-    let h = next-refuses (recordOf n) (record-refuses n) all-refuses .at (bitsOf bytes) in
+    let h = next-refuses (recordOf n) (record-refuses n) (λ r. used-refuses bytesOver r tt) .at (bitsOf bytes) in
     refused-by (pick-refusal (within leastBytes mostBytes n) (refusal-map (field-in (8 * n)) (rw length-bitsOf at h)) (by (size-in (8 * n)))) p

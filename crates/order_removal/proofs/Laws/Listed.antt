@@ -1,7 +1,7 @@
--- A removal list's numbers in its bytes: the i-th is in bytes 2 i and 2 i + 1; and the test of the list, number by number.
+-- The test of a removal list, number by number, and what its bytes say where it is right.
 use mathlib.Core.Path.{_≡_, refl, sym, ap, _∙_}
 use mathlib.Core.Logic.{_≢_}
-use Prim.Native.Nat.{ℕ, zero, suc, _+_, _*_, _/_, _%_, _≤_, _<_}
+use Prim.Native.Nat.{ℕ, suc, _+_, _*_, _%_, _≤_, _<_}
 use native.Mathlib.Omega.{arith}
 use mathlib.Core.Bool.{Bool, true, false, _&&_}
 use mathlib.Core.List.{List, [], _∷_}
@@ -10,41 +10,12 @@ use lib.Dec.{T, eqb, leb, ltb}
 use mir.Facts.{yes-eqb, no-eqb, yes-leb, yes-ltb, no-leb, no-ltb}
 use Rattle.bits.specs.ChoiceLaws.{pick-yes, pick-no, T-true, T-false, eq-split}
 use Rattle.bits.specs.Lists.{All}
+use Rattle.put_bytes.proofs.Numbers.{length-numbers, numbers-from, number-at}
 use Rattle.orders.specs.Survive.{at}
 use Rattle.orders.specs.Listed.{numbersIn, removalLines}
 use Rattle.orders.specs.Order.{risesOk, linesOk}
 use Rattle.orders.proofs.Laws.Renumber.{ok-lines}
 use Rattle.order_removal.specs.Rank.{Rising}
-
--- ---- bytes and numbers
-
-pub length-numbers : (bs : List ℕ) → length (numbersIn bs) ≡ length bs / 2
-length-numbers [] = refl
-length-numbers (b ∷ []) = refl
-length-numbers (b ∷ c ∷ bs) = omega (arith, length-numbers bs)
-
-first-number : (bs : List ℕ) → 2 ≤ length bs → numbersIn bs ≡ (getD bs 0 0 * 256 + getD bs 1 0) ∷ numbersIn (drop 2 bs)
-first-number [] l = absurd (omega arith)
-first-number (b ∷ []) l = absurd (omega arith)
-first-number (b ∷ c ∷ bs) l = refl
-
--- the number at byte a stands before those from byte a + 2 on
-pub numbers-from : (a : ℕ) (bs : List ℕ) → a + 2 ≤ length bs → numbersIn (drop a bs) ≡ (getD bs a 0 * 256 + getD bs (a + 1) 0) ∷ numbersIn (drop (a + 2) bs)
-numbers-from zero bs l = first-number bs (omega arith)
-numbers-from (suc a) [] l = absurd (omega arith)
-numbers-from (suc a) (b ∷ bs) l =
-    let e : suc a + 1 ≡ suc (a + 1) = omega arith in
-    let f : suc a + 2 ≡ suc (a + 2) = omega arith in
-    rw (e, f) (numbers-from a bs (omega arith))
-
-pub number-at : (bs : List ℕ) (i : ℕ) → 2 * i + 2 ≤ length bs → at (numbersIn bs) i ≡ getD bs (2 * i) 0 * 256 + getD bs (2 * i + 1) 0
-number-at [] i l = absurd (omega arith)
-number-at (b ∷ []) i l = absurd (omega arith)
-number-at (b ∷ c ∷ bs) zero l = refl
-number-at (b ∷ c ∷ bs) (suc i) l =
-    let e : 2 * suc i ≡ suc (suc (2 * i)) = omega arith in
-    let f : suc (suc (2 * i)) + 1 ≡ suc (suc (2 * i + 1)) = omega arith in
-    rw (e, f) (number-at bs i (omega arith))
 
 listed-even : (bs : List ℕ) → length bs % 2 ≡ 0 → removalLines bs ≡ numbersIn bs
 listed-even bs e = pick-yes (eqb (length bs % 2) 0) _ _ (yes-eqb e)

@@ -1,0 +1,10 @@
+pub mod LengthParts
+pub mod LengthLaws
+pub mod Length
+pub mod Object
+pub mod ShapeLaws
+pub mod Size
+pub mod Sizes
+pub mod Card
+pub mod Stored
+pub mod Accepted
