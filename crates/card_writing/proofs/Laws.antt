@@ -5,13 +5,13 @@ use native.Mathlib.Omega.{arith}
 use mathlib.Core.Bool.{true, false}
 use mathlib.Core.Option.{some}
 use mathlib.Core.List.{List, [], _∷_, _++_}
-use lib.ListN.{length, set, length-take, length-drop}
+use lib.ListN.{length, set}
 use Rattle.bits.specs.ChoiceLaws.{pick-yes, pick-no}
 use Rattle.bits.specs.Lists.{All}
 use Rattle.bits.specs.Bytes.{Byte}
 use Rattle.put_bytes.specs.Laid.{Laid}
 use Rattle.put_bytes.specs.HighFirst.{two, start}
-use Rattle.put_bytes.proofs.Laws.{stored, laid-same, lent}
+use Rattle.put_bytes.proofs.Laws.{stored}
 use Rattle.outcome.specs.Refusals.{otherScale}
 use Rattle.outcome.specs.Outcome.{refused, given}
 use Rattle.format.specs.Record.{Record}
@@ -48,10 +48,6 @@ module _ (n : ℕ) {d : List ℕ} where
 
     pub long-laid : 256 ≤ n → Laid (start 0x82 n) d after r → LengthLaid n d after r
     long-laid l k = record { laid = rw (long-out n l) k }
-
--- what is left of a buffer behind what is laid
-pub room-left : {done out now : List ℕ} {n : ℕ} (m : ℕ) → Laid done out now n → n + m ≤ length out → m ≤ length (lent now n)
-room-left {now = now} {n = n} m h l = simp (length-take, length-drop) (omega (arith, laid-same h (omega arith)))
 
 -- ---- the object with this value
 

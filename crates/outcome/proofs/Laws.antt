@@ -45,6 +45,12 @@ room-zero {A} {P} n {o} never z k = go o refl z
 pub zero-room : {A : Type 0} (n : ℕ) {o : Outcome A} {xs : List A} → o ≡ given xs → length xs ≤ n → numberOf (room n o) ≡ 0
 zero-room n {xs = xs} q l = ap (λ x. numberOf (room n x)) q ∙ ap numberOf (room-enough n xs l)
 
+-- a number that is neither 0 nor 20 is the outcome's own
+pub own-number : {A : Type 0} {e : ℕ} → e ≢ 0 → e ≢ noRoom → (n : ℕ) (o : Outcome A) → numberOf (room n o) ≡ e → (p : ℕ) × (o ≡ refused e p)
+own-number a b n (refused d p) h = (p, ap (λ (m : ℕ). refused m p) h)
+own-number {A} {e} a b n (given xs) h =
+    absurd (pick-case (λ (o : Outcome A). numberOf o ≡ e → ⊥) (leb (length xs) n) _ _ (λ t z. a (sym z)) (λ t z. b (sym z)) h)
+
 module _ {A B : Type 0} {form : List A → List B} {lent : ℕ} {o : Outcome A} {before : List B} where
   -- "It is proved that two outcomes allowed by it are equal."
   pub one-answer : {after₁ after₂ : List B} {a₁ a₂ : Answer} → AnswersAs form lent o before after₁ a₁ → AnswersAs form lent o before after₂ a₂

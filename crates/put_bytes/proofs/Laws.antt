@@ -5,7 +5,7 @@ use Prim.Native.Nat.{ℕ, suc, _+_, _-_, _*_, _≤_, _<_}
 use native.Mathlib.Nat.{zero-add}
 use native.Mathlib.Numerals.{add-one}
 use native.Mathlib.Omega.{arith}
-use lib.ListN.{length, take, drop, getD, set, length-append, length-drop, drop-of-length-le, take-append-drop}
+use lib.ListN.{length, take, drop, getD, set, length-append, length-take, length-drop, drop-of-length-le, take-append-drop}
 use lib.Seq.{set-split, paste-suc, sets, sets-eq, take-at, drop-at, drop-drop, take-all, length-take-le}
 use Rattle.put_bytes.specs.Laid.{Laid}
 use Rattle.put_bytes.specs.HighFirst.{two, joined}
@@ -47,6 +47,12 @@ lent xs a = take (length xs - a) (drop a xs)
 
 abbrev pub back : List ℕ → ℕ → List ℕ → List ℕ
 back xs a ys = take a xs ++ (ys ++ drop (length xs - a) (drop a xs))
+
+-- behind what is laid there is room for m more
+pub room-behind : {done d xs : List ℕ} {a : ℕ} (m : ℕ) → Laid done d xs a → a + m ≤ length d → m ≤ length (lent xs a)
+room-behind {xs = xs} {a = a} m h l =
+    let n : length (lent xs a) ≡ length xs - a = simp (length-take, length-drop) (omega arith) in
+    omega (arith, n, laid-same h (omega arith))
 
 -- The rest of the buffer is lent from a on, where done ends, and comes back with new at its start: then both are laid. xs is the
 -- buffer when it is lent, ys its lent part afterwards.

@@ -1,6 +1,6 @@
 -- When the calls on a card's object answer 0, 27 and 28.
 use mathlib.Core.Path.{_≡_, refl, sym, ap, _∙_, subst}
-use mathlib.Core.Logic.{_≢_, inl, inr}
+use mathlib.Core.Logic.{inl, inr}
 use Prim.Native.Nat.{ℕ, _*_}
 use native.Mathlib.Omega.{arith}
 use mathlib.Core.Option.{Option, none, some}
@@ -9,16 +9,16 @@ use mathlib.Core.List.{List}
 use lib.ListN.{length}
 use lib.Dec.{T, leb}
 use mir.Facts.{T-not}
-use Rattle.bits.specs.ChoiceLaws.{pick-case, pick-split, within-high}
+use Rattle.bits.specs.ChoiceLaws.{pick-split, within-high}
 use Rattle.bits.specs.Bytes.{bitsOf}
 use Rattle.bits.specs.Codec.{Read, got}
 use Rattle.bits.specs.Codec as C
 use Rattle.bits.proofs.Laws.Refuses.{refused-by}
 use Rattle.bits.proofs.Laws.Nested.{sifted-out}
-use Rattle.outcome.specs.Refusals.{noRoom, badObject, otherScale}
-use Rattle.outcome.specs.Outcome.{Outcome, refused, given, room, numberOf, Answers}
+use Rattle.outcome.specs.Refusals.{badObject, otherScale}
+use Rattle.outcome.specs.Outcome.{Outcome, refused, room, numberOf, Answers}
 use Rattle.outcome.specs.declared.Answer.{Answer}
-use Rattle.outcome.proofs.Laws.{room-zero, zero-room}
+use Rattle.outcome.proofs.Laws.{room-zero, zero-room, own-number}
 use Rattle.format.specs.Limits.{mostBytes}
 use Rattle.format.specs.Record.{size}
 use Rattle.format.specs.Call.{fromRead}
@@ -62,17 +62,9 @@ module _ {before after : List ℕ} {a : Answer} where
 
   -- ---- 27
 
-  -- a number that is neither 0 nor 20 is the outcome's own
-  own-number : {o : Outcome ℕ} {n : ℕ} → Answers o before after a → a .number ≡ n → n ≢ 0 → n ≢ noRoom → (p : ℕ) × (o ≡ refused n p)
-  own-number {o} {n} h z d e = go o refl (sym (h .number) ∙ z)
-    where
-      go : (x : Outcome ℕ) → o ≡ x → numberOf (room (length before) x) ≡ n → (p : ℕ) × (o ≡ refused n p)
-      go (refused m p) q y = (p, q ∙ ap (λ (k : ℕ). refused k p) y)
-      go (given xs) q y = pick-case (λ (x : Outcome ℕ). numberOf x ≡ n → (p : ℕ) × (o ≡ refused n p)) (leb (length xs) (length before)) _ _ (λ t v. absurd (d (sym v))) (λ t v. absurd (e (sym v))) y
-
   pub read-wrong : (sizeNumber : ℕ) (object : List ℕ) → Answers (cardRead sizeNumber object) before after a → a .number ≡ badObject → WrongObject sizeNumber object
   read-wrong sizeNumber object h z =
-      let (p, q) = own-number h z (λ y. absurd (omega arith)) (λ y. absurd (omega arith)) in
+      let (p, q) = own-number (λ y. absurd (omega arith)) (λ y. absurd (omega arith)) (length before) _ (sym (h .number) ∙ z) in
       sized (scaleOf sizeNumber) refl q
     where
       at : (scale : Scale) {p : ℕ} (o : Read Bool Content) → card (scale .widths) .dec (bitsOf object) ≡ o
@@ -109,7 +101,7 @@ module _ {before after : List ℕ} {a : Answer} where
 
   pub write-other : (sizeNumber : ℕ) (view : ViewName) (bytes : List ℕ) → Answers (cardWrite sizeNumber view bytes) before after a → a .number ≡ otherScale → OtherScale sizeNumber view bytes
   write-other sizeNumber view bytes h z =
-      let (p, q) = own-number h z (λ y. absurd (omega arith)) (λ y. absurd (omega arith)) in
+      let (p, q) = own-number (λ y. absurd (omega arith)) (λ y. absurd (omega arith)) (length before) _ (sym (h .number) ∙ z) in
       sized (scaleOf sizeNumber) refl q
     where
       sized : (o : Option Scale) → scaleOf sizeNumber ≡ o → {p : ℕ} → cardWrite sizeNumber view bytes ≡ refused otherScale p → OtherScale sizeNumber view bytes

@@ -2,10 +2,9 @@
 -- Its tag, its length and the value, one behind the other.
 use native.Mathlib.Omega.{arith}
 use lib.ListN.{length}
-use Rattle.put_bytes.proofs.Laws.{laid-next}
+use Rattle.put_bytes.proofs.Laws.{laid-next, room-behind}
 use Rattle.card.specs.Stored.{lengthOut}
 use Rattle.card.proofs.Laws.Written.{inner-long}
-use Rattle.card_writing.proofs.Laws.{room-left}
 use borrow.Author.Needs.{needs}
 use Rattle.card_writing.proofs.inner_put.Statement.{statement}
 use Rattle.card_writing.proofs.inner_put.Tie as tie
@@ -33,7 +32,7 @@ put-length-requires : tie.Need-put-length-requires
 put-length-requires c κs =
     record {
       small = omega (arith, c .before .before .before .before .before .before .before .before .pre .short);
-      room = room-left (length (lengthOut (length (c .before .before .before .before .before .before .before .before .args .value .now)))) (c .before .before .before .copy .ensures) (omega (arith, c .before .before .before .copy .ensures .count, c .before .before .before .before .before .before .before .before .pre .room, inner-long (c .before .before .before .before .before .before .before .before .args .value .now)));
+      room = room-behind (length (lengthOut (length (c .before .before .before .before .before .before .before .before .args .value .now)))) (c .before .before .before .copy .ensures) (omega (arith, c .before .before .before .copy .ensures .count, c .before .before .before .before .before .before .before .before .pre .room, inner-long (c .before .before .before .before .before .before .before .before .args .value .now)));
     }
 
 add-at : tie.Need-add-at
@@ -54,7 +53,7 @@ part-copy-end c =
 
 copy-requires-2 : tie.Need-copy-requires-2
 copy-requires-2 c κs =
-    room-left (length (c .before .before .before .before .before .before .before .before .before .before .before .before .args .value .now)) (laid-next (c .before .before .before .before .before .before .before .copy .ensures) (c .before .before .before .put-length .ensures .laid)) (omega (arith, c .before .before .before .before .before .before .before .copy .ensures .count, c .before .before .before .put-length .ensures .laid .count, c .before .before .before .before .before .before .before .before .before .before .before .before .pre .room, inner-long (c .before .before .before .before .before .before .before .before .before .before .before .before .args .value .now)))
+    room-behind (length (c .before .before .before .before .before .before .before .before .before .before .before .before .args .value .now)) (laid-next (c .before .before .before .before .before .before .before .copy .ensures) (c .before .before .before .put-length .ensures .laid)) (omega (arith, c .before .before .before .before .before .before .before .copy .ensures .count, c .before .before .before .put-length .ensures .laid .count, c .before .before .before .before .before .before .before .before .before .before .before .before .pre .room, inner-long (c .before .before .before .before .before .before .before .before .before .before .before .before .args .value .now)))
 
 add-at-2 : tie.Need-add-at-2
 add-at-2 c =

@@ -2,10 +2,10 @@
 -- Its tag, its length and object 90, one behind the other.
 use native.Mathlib.Omega.{arith}
 use lib.ListN.{length}
-use Rattle.put_bytes.proofs.Laws.{laid-next}
+use Rattle.put_bytes.proofs.Laws.{laid-next, room-behind}
 use Rattle.card.specs.Stored.{lengthOut, object90Out}
 use Rattle.card.proofs.Laws.Views.{inner-few, object-few}
-use Rattle.card_writing.proofs.Laws.{room-left, inner-is, template-long, object-laid}
+use Rattle.card_writing.proofs.Laws.{inner-is, template-long, object-laid}
 use borrow.Author.Needs.{needs}
 use Rattle.card_writing.proofs.object_put.Statement.{statement}
 use Rattle.card_writing.proofs.object_put.Tie as tie
@@ -36,7 +36,7 @@ put-length-requires c κs =
     let t = c .before .before .before .before .before .tagged-bytes .ensures in
     record {
       small = omega (arith, inner-is value t, inner-few value, c .before .before .before .before .before .before .before .before .pre .short);
-      room = room-left (length (lengthOut (c .before .before .before .before .before .tagged-bytes .result))) (c .before .before .before .put-two .ensures) (omega (arith, c .before .before .before .put-two .ensures .count, c .before .before .before .before .before .before .before .before .pre .room, template-long value t));
+      room = room-behind (length (lengthOut (c .before .before .before .before .before .tagged-bytes .result))) (c .before .before .before .put-two .ensures) (omega (arith, c .before .before .before .put-two .ensures .count, c .before .before .before .before .before .before .before .before .pre .room, template-long value t));
     }
 
 add-at : tie.Need-add-at
@@ -66,7 +66,7 @@ inner-put-requires c κs =
     let l = c .before .before .before .put-length .ensures .laid in
     record {
       short = c .before .before .before .before .before .before .before .before .before .before .before .before .pre .short;
-      room = room-left (length (object90Out value)) (laid-next p l) (omega (arith, p .count, l .count, c .before .before .before .before .before .before .before .before .before .before .before .before .pre .room, template-long value (c .before .before .before .before .before .before .before .before .before .tagged-bytes .ensures)));
+      room = room-behind (length (object90Out value)) (laid-next p l) (omega (arith, p .count, l .count, c .before .before .before .before .before .before .before .before .before .before .before .before .pre .room, template-long value (c .before .before .before .before .before .before .before .before .before .tagged-bytes .ensures)));
     }
 
 add-at-2 : tie.Need-add-at-2

@@ -5,12 +5,11 @@ use Prim.Native.Nat.{ℕ, _≤_}
 use native.Mathlib.Omega.{arith}
 use mathlib.Core.Option.{Option, none, some}
 use mathlib.Core.List.{List}
-use lib.ListN.{length}
-use lib.Dec.{leb}
-use Rattle.bits.specs.ChoiceLaws.{pick-case, eq-split}
+use Rattle.bits.specs.ChoiceLaws.{eq-split}
 use Rattle.outcome.specs.Refusals.{tooLong}
-use Rattle.outcome.specs.Outcome.{Outcome, refused, given, room, numberOf, AnswersAs}
+use Rattle.outcome.specs.Outcome.{Outcome, refused, room, numberOf, AnswersAs}
 use Rattle.outcome.specs.declared.Answer.{Answer}
+use Rattle.outcome.proofs.Laws.{own-number}
 use Rattle.format.specs.declared.ViewName.{ViewName}
 use Rattle.rewrite.specs.Format.{frameOf, PayloadFormat}
 use Rattle.rewrite.specs.Called.{valuesGiven, readIn, readPayload, valuesSet, setIn, setPayload}
@@ -22,19 +21,13 @@ none-said : {A : Type 0} (o : Option A) → ((a : A) → o ≡ some a → ⊥) �
 none-said none f = refl
 none-said (some a) f = absurd (f a refl)
 
--- a number above 23 is the outcome's
-told-high : {e : ℕ} → 24 ≤ e → (n : ℕ) (o : Outcome ℕ) → numberOf (room n o) ≡ e → (p : ℕ) × (o ≡ refused e p)
-told-high high n (refused d p) h = (p, ap (λ (m : ℕ). refused m p) h)
-told-high {e} high n (given xs) h =
-    absurd (pick-case (λ (o : Outcome ℕ). numberOf o ≡ e → ⊥) (leb (length xs) n) _ _ (λ t z. absurd (omega arith)) (λ t z. absurd (omega arith)) h)
-
 module _ {A : Type 0} (F : PayloadFormat A) (view : ViewName) (place : ℕ) (bytes : List ℕ)
     {B : Type 0} {form : List ℕ → List B} {lent : ℕ} {before after : List B} {a : Answer} where
   module _ (h : AnswersAs form lent (readPayload F view place bytes) before after a) where
     pub reading-broken : 24 ≤ F .bad → a .number ≡ F .bad → BrokenReading F view place bytes
     unfolding readPayload
     reading-broken high z =
-        let (p, q) = told-high high lent (readPayload F view place bytes) (sym (h .number) ∙ z) in
+        let (p, q) = own-number (λ y. absurd (omega arith)) (λ y. absurd (omega arith)) lent (readPayload F view place bytes) (sym (h .number) ∙ z) in
         let t = own-there view place (readIn F place) bytes (F .bad) p high q in
         record { there = t; wrong = λ k v right e. not-given (sym q ∙ reading-gives F t k right e) }
 
@@ -53,7 +46,7 @@ module _ {A : Type 0} (F : PayloadFormat A) (view : ViewName) (place : ℕ) (byt
     pub setting-broken : 24 ≤ F .bad → a .number ≡ F .bad → BrokenSetting F view place values bytes
     unfolding setPayload
     setting-broken high z =
-        let (p, q) = told-high high lent (setPayload F view place values bytes) (sym (h .number) ∙ z) in
+        let (p, q) = own-number (λ y. absurd (omega arith)) (λ y. absurd (omega arith)) lent (setPayload F view place values bytes) (sym (h .number) ∙ z) in
         let t = own-there view place (setIn F place values) bytes (F .bad) p high q in
         record {
           there = t;

@@ -11,7 +11,7 @@ use Rattle.bits.specs.Bytes.{Byte, inBytes}
 use Rattle.bits.proofs.Laws.Parts.{part, part-length}
 use Rattle.put_bytes.specs.Laid.{Laid}
 use Rattle.put_bytes.specs.HighFirst.{two}
-use Rattle.put_bytes.proofs.Laws.{laid-same, laid-next, lent, back}
+use Rattle.put_bytes.proofs.Laws.{laid-next, lent, back, room-behind}
 use Rattle.format.specs.Segments.{Segment, segments}
 use Rattle.format.specs.Record.{Record, size, write, Allowed}
 use Rattle.format.specs.Places.{viewAt, segmentAt}
@@ -75,12 +75,6 @@ module _ {s : List ℕ} {view : ViewName} {place : ℕ} {x : Spot} (h : SegmentS
         ∙ ap₂ (λ (d g : ℕ). put (newLength s x (length payload)) (newExtended x (length payload)) d (x .payload .from - 2 - d) g) z i)
 
 -- ---- the bytes up to the payload, part by part
-
--- behind what is laid there is room for m more
-pub room-behind : {done out now : List ℕ} {n : ℕ} (m : ℕ) → Laid done out now n → n + m ≤ length out → m ≤ length (lent now n)
-room-behind {now = now} {n = n} m h l =
-    let a : length (lent now n) ≡ length now - n = simp (length-take, length-drop) (omega arith) in
-    omega (arith, a, laid-same h (omega arith))
 
 head-count : (s : List ℕ) (to n : ℕ) → 12 ≤ to → to ≤ length s → length (headOf s to n) ≡ to
 head-count s to n l k = simp (length-append, length-take, length-drop) (omega arith)

@@ -4,8 +4,8 @@ use native.Mathlib.Omega.{arith}
 use Prim.Native.Nat.{_-_}
 use lib.ListN.{length}
 use Rattle.bits.proofs.Laws.Parts.{part}
-use Rattle.put_bytes.proofs.Laws.{laid-next}
-use Rattle.rewrite_put.proofs.Laws.Front.{room-behind, bounds, room-is, head-end, between-long, between-end}
+use Rattle.put_bytes.proofs.Laws.{laid-next, room-behind}
+use Rattle.rewrite_put.proofs.Laws.Front.{bounds, room-is, head-end, between-long, between-end}
 use borrow.Author.Needs.{needs}
 use Rattle.rewrite_put.proofs.front_put.Statement.{statement}
 use Rattle.rewrite_put.proofs.front_put.Tie as tie
