@@ -206,11 +206,6 @@ static inline void plain_set_widths(plain_record *record, const uint8_t *scale)
     record->end_bits = 2 + record->b + 2 * record->c;
 }
 
-/* 8 and 9, then 10, of a view's skeleton and of its index; places are counted from the record's
- * bytes. The first counts the view's lines, which the second needs. */
-fsk_answer plain_judge_skeleton(plain_record *record, plain_view *view);
-fsk_answer plain_judge_index(plain_record *record, const plain_view *view);
-
 /* Judges 1 to 12 and gives the refusal, its place too; its number is 0 if the record is accepted.
  * `record` then holds what is said above; its view only if it has the one with the wanted name. */
 fsk_answer plain_judge(const uint8_t *bytes, size_t length, plain_name wanted,

@@ -3,7 +3,7 @@
  * width on to the end of the index, an object has the bytes that a view has in a record, so these
  * are judged and then copied as they are.
  */
-#include "plain.h"
+#include "plain_blocks.h"
 
 /* The template's tag, and that of the view in it. */
 enum { TEMPLATE = 0x7F2E, SKELETAL = 0x90 };
@@ -109,9 +109,9 @@ fsk_answer plain_card_read(uint32_t size, const uint8_t *object, size_t object_l
     if (size >= SIZES || !find_value(lent, &value) || !find_blocks(value, &judged.view))
         return plain_refused(BAD_OBJECT);
     plain_set_widths(&judged, scales[size]);
-    if ((refusal = plain_judge_skeleton(&judged, &judged.view)).number != 0)
+    if ((refusal = judge_skeleton(&judged, &judged.view)).number != 0)
         return refusal;
-    if ((refusal = plain_judge_index(&judged, &judged.view)).number != 0)
+    if ((refusal = judge_index(&judged, &judged.view)).number != 0)
         return refusal;
     length = HEADER + NAMING + value.length + NO_SEGMENTS;
     if ((refusal = plain_judge_length(length, record_length)).number != 0)
