@@ -11,9 +11,9 @@ use find_parts::view::Part;
 pub struct Tag;
 
 impl Tag {
-    pub const TEMPLATE: usize = 32558; // 7F2E
+    pub const TEMPLATE: usize = 0x7F2E;
 
-    pub const SKELETON: usize = 144; // 90
+    pub const SKELETON: usize = 0x90;
 }
 
 // A length and the byte behind it, or one that is cut or not in its shortest form.
@@ -64,7 +64,7 @@ fn length_at(bytes: &[u8], a: usize) -> LengthAt
             next: b,
         };
     }
-    if first == 129 {
+    if first == 0x81 {
         if left < 2 {
             return LengthAt::Bad;
         }
@@ -77,7 +77,7 @@ fn length_at(bytes: &[u8], a: usize) -> LengthAt
             next: b + 1,
         };
     }
-    if first != 130 {
+    if first != 0x82 {
         return LengthAt::Bad;
     }
     if left < 3 {

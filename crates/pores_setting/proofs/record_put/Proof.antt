@@ -1,7 +1,8 @@
 -- Made by tools/proof fill from answers/record_put.ans: change it there.
 -- Its parts, one behind the other.
 use native.Mathlib.Omega.{arith}
-use Rattle.rewrite_put.proofs.Laws.Front.{room-behind, front-end, in-all, tail-long}
+use Rattle.put_bytes.proofs.Laws.{room-behind}
+use Rattle.rewrite_put.proofs.Laws.Front.{front-end, in-all, tail-long}
 use Rattle.pores_setting.proofs.Laws.{payload-end, put-room, tail-room, record-put}
 use borrow.Author.Needs.{needs}
 use Rattle.pores_setting.proofs.record_put.Statement.{statement}
