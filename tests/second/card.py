@@ -11,11 +11,14 @@ from dataclasses import dataclass
 from bits import number_at
 from card_build import INNER_TAG, TEMPLATE_TAG, card_bytes, card_parts
 from judge import judge_index, judge_skeleton
-from model import FAR_SIZES, SET_FIELDS, Record, Refusal, View
+from model import FAR_SIZES, SET_FIELDS, Record, Refusal, View, refusing
 
 # Of each size, normal and compact, a record's bytes 15 to 21: points per cm, c, b, k,
 # straight step, 256 times perpendicular over straight step, N.
 SETS = ((200, 11, 8, 4, 24, 60, 32), (100, 8, 6, 4, 16, 60, 32))
+
+# 27 where something has another shape.
+must = refusing(27)
 
 
 @dataclass
@@ -38,12 +41,6 @@ class Card:
 
     shape: Shape
     record: Record
-
-
-def must(condition, fault):
-    """Number 27 where something has another shape."""
-    if not condition:
-        raise Refusal(27, 0, fault)
 
 
 def judge_size(size):

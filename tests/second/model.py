@@ -105,6 +105,15 @@ class Refusal(Exception):
         self.fault = fault
 
 
+def refusing(number):
+    """A judge of conditions: it refuses with this number, which has no place, where one
+    does not hold, and the fault tells which."""
+    def must(condition, fault=""):
+        if not condition:
+            raise Refusal(number, 0, fault)
+    return must
+
+
 def fault_given(number, judge_bytes, data, about):
     """The fault with which these bytes are refused by this number, which has no place;
     none where they are not refused."""

@@ -12,7 +12,7 @@ bytes are counted (19) before any is written.
 import struct
 from dataclasses import dataclass, replace
 
-from model import LARGEST_RECORD, PORE_FAULTS, PORES_TYPE, Refusal
+from model import LARGEST_RECORD, PORE_FAULTS, PORES_TYPE, Refusal, refusing
 
 FIRST_BYTES = 3
 NUMBER_BYTES = 4
@@ -22,6 +22,9 @@ LARGEST_NUMBER = (1 << 32) - 1
 PAYLOAD_FAULTS = PORE_FAULTS[0] + PORE_FAULTS[1]
 NUMBER_FAULTS = PORE_FAULTS[0] + PORE_FAULTS[2]
 
+# 26 where a rule is broken.
+must = refusing(26)
+
 
 @dataclass
 class Pores:
@@ -30,12 +33,6 @@ class Pores:
     resolution: int
     e: int
     lines: list
-
-
-def must(condition, fault):
-    """Number 26 where a rule is broken."""
-    if not condition:
-        raise Refusal(26, 0, fault)
 
 
 def longest_step(e):

@@ -11,7 +11,7 @@ the number of bytes is compared before a cell is read.
 from dataclasses import dataclass, replace
 
 from bits import BitList, first_one, number_at
-from model import QUALITY_FAULTS, QUALITY_TYPE, Refusal
+from model import QUALITY_FAULTS, QUALITY_TYPE, Refusal, refusing
 
 FIRST_BYTES = 3
 MOST_BITS = 8
@@ -23,6 +23,9 @@ VALUE_FAULTS = tuple(fault for fault in QUALITY_FAULTS if fault != "1 in padding
 READINGS = ("no cells", "no padding", "padding")
 REWRITINGS = ("mended", "unchanged", "other cells", "longer", "shorter")
 CARRIED = ("no segments", "quality well formed", "quality not well formed")
+
+# 24 where a rule is broken.
+must = refusing(24)
 
 
 @dataclass
@@ -48,12 +51,6 @@ def number_of_cells(view, cell_width, cell_height):
 def bytes_for(cells, bits):
     """The whole bytes that so many values of so many bits take."""
     return (cells * bits + 7) // 8
-
-
-def must(condition, fault):
-    """Number 24 where a rule is broken."""
-    if not condition:
-        raise Refusal(24, 0, fault)
 
 
 def judge_first_bytes(data, view):

@@ -5,7 +5,7 @@ in the next 256. A host passes 16-bit numbers, high byte first. Both ways are ju
 here (29).
 """
 
-from model import Refusal
+from model import refusing
 
 NUMBER_BYTES = 2
 LARGEST_NUMBER = 65535
@@ -16,11 +16,8 @@ RUN_WAYS = ("empty", "one number", "start 0", "start 255", "equal neighbours",
             "rise of 255", "rise of 1 over a 256", "next 256", "65535 reached",
             "over 65535 numbers")
 
-
-def must(condition, fault):
-    """Number 29 where a run cannot be told by its low bytes."""
-    if not condition:
-        raise Refusal(29, 0, fault)
+# 29 where a run cannot be told by its low bytes.
+must = refusing(29)
 
 
 def bytes_of(numbers):

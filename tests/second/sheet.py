@@ -7,7 +7,10 @@ only then its values over the whole sheet (22), as document 01 orders them.
 from bits import signed, unsigned
 from build import view_header_bytes
 from model import (IMPRESSIONS, MOST_LINES, MOST_VIEWS, Index, Line, Record,
-                   Refusal, Segment, View, differences)
+                   Refusal, Segment, View, differences, refusing)
+
+# 22 where a value is not right.
+must = refusing(22)
 
 
 def field_bytes(tag, value):
@@ -140,12 +143,6 @@ def judge_shape(sheet):
     if len(views) < 1 or len(views) > MOST_VIEWS:
         raise Refusal(21)
     return head, views
-
-
-def must(condition):
-    """Number 22 where a value is not right."""
-    if not condition:
-        raise Refusal(22)
 
 
 def line_from(value, record):

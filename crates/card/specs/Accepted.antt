@@ -43,8 +43,11 @@ pub record AcceptedCardRead (sizeNumber : ℕ) (object : List ℕ) (lent : ℕ) 
   pub room : size (itsRecord at) ≤ lent
 
 -- 27: there is no such size, or the bytes have no such shape
+abbrev pub NoShape : List ℕ → Type 0
+NoShape object = (c : Card (List ℕ) (List ℕ)) (rest : Bits) → shape .dec (bitsOf object) ≢ got c rest
+
 abbrev pub WrongObject : (sizeNumber : ℕ) → List ℕ → Type 0
-WrongObject sizeNumber object = (scaleOf sizeNumber ≡ none) ⊎ ((c : Card (List ℕ) (List ℕ)) (rest : Bits) → shape .dec (bitsOf object) ≢ got c rest)
+WrongObject sizeNumber object = (scaleOf sizeNumber ≡ none) ⊎ NoShape object
 
 -- ---- writing
 

@@ -8,21 +8,31 @@ use mir.Facts.{yes-ltb, no-ltb}
 use Rattle.bits.specs.ChoiceLaws.{pick-yes, pick-no, pick-case, T-true, T-false, eqb-false, split, eq-split}
 use Rattle.bits.specs.BitsLaws.{length-bits}
 use Rattle.bits.specs.CodecLaws.{Matches}
-use Rattle.card.specs.LengthParts.{firstOk, bitsBehind, leastBehind, lengthParts, makeLength, partsOfLength}
+use Rattle.card.specs.LengthParts.{firstOk, bitsBehind, leastBehind, lengthParts, makeLength, byForm, partsOfLength}
 
 -- ---- a length has one of three forms
 
 pub forms {ℓ} : {X : Type ℓ} (n : ℕ) → (n < 128 → X) → (128 ≤ n → n < 256 → X) → (256 ≤ n → X) → X
 forms n f g h = split 128 n (λ l. split 256 n h (λ k. g l k)) f
 
+module _ {A : Type 0} (n : ℕ) (x y z : A) where
+  pub form-one : n < 128 → byForm n x y z ≡ x
+  form-one h = pick-yes (ltb n 128) _ _ (yes-ltb h)
+
+  pub form-81 : 128 ≤ n → n < 256 → byForm n x y z ≡ y
+  form-81 l h = pick-no (ltb n 128) _ _ (no-ltb l) ∙ pick-yes (ltb n 256) _ _ (yes-ltb h)
+
+  pub form-82 : 256 ≤ n → byForm n x y z ≡ z
+  form-82 l = pick-no (ltb n 128) _ _ (no-ltb {a = n} (omega arith)) ∙ pick-no (ltb n 256) _ _ (no-ltb l)
+
 pub short-parts : (n : ℕ) → n < 128 → partsOfLength n ≡ (n, 0)
-short-parts n h = pick-yes (ltb n 128) _ _ (yes-ltb h)
+short-parts n h = form-one n _ _ _ h
 
 pub middle-parts : (n : ℕ) → 128 ≤ n → n < 256 → partsOfLength n ≡ (0x81, n)
-middle-parts n l h = pick-no (ltb n 128) _ _ (no-ltb l) ∙ pick-yes (ltb n 256) _ _ (yes-ltb h)
+middle-parts n l h = form-81 n _ _ _ l h
 
 pub long-parts : (n : ℕ) → 256 ≤ n → partsOfLength n ≡ (0x82, n)
-long-parts n l = pick-no (ltb n 128) _ _ (no-ltb {a = n} (omega arith)) ∙ pick-no (ltb n 256) _ _ (no-ltb l)
+long-parts n l = form-82 n _ _ _ l
 
 -- ---- and so has its first byte
 

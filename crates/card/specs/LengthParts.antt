@@ -25,5 +25,9 @@ lengthParts = then (only (field badObject 8) badObject firstOk) λ first. only (
 abbrev pub makeLength : ℕ × ℕ → ℕ
 makeLength (first, n) = pick (ltb first 128) first n
 
+-- what goes with the form that a length n takes: one byte; 81; 82
+abbrev pub byForm : {A : Type 0} → (n : ℕ) → A → A → A → A
+byForm n one with81 with82 = pick (ltb n 128) one (pick (ltb n 256) with81 with82)
+
 abbrev pub partsOfLength : ℕ → ℕ × ℕ
-partsOfLength n = pick (ltb n 128) (n, 0) (pick (ltb n 256) (0x81, n) (0x82, n))
+partsOfLength n = byForm n (n, 0) (0x81, n) (0x82, n)

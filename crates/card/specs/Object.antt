@@ -36,9 +36,13 @@ object-whole tag value whole x = simp length-append (omega (arith, whole (x .0),
 
 -- ---- the value of object 90: s is the skeleton block, i the index block, which may look at what s reads
 
+-- width and height
+abbrev pub imageSize : Codec Bool (ℕ × ℕ)
+imageSize = then (field badObject 16) λ _. field badObject 16
+
 module _ {A B : Type 0} (s : Block A) (i : A → Block B) where
   abbrev pub valueParts : Codec Bool ((ℕ × ℕ) × (A × B))
-  valueParts = then (then (field badObject 16) λ _. field badObject 16) λ _. then (prefixed s badObject) λ a. prefixed (i a) badObject
+  valueParts = then imageSize λ _. then (prefixed s badObject) λ a. prefixed (i a) badObject
 
   pub value-whole : (x : (ℕ × ℕ) × (A × B)) → length (valueParts .enc x) % 8 ≡ 0
   value-whole x = simp (length-append, length-bits) (omega (arith, s .bytes (x .1 .0), i (x .1 .0) .bytes (x .1 .1)))

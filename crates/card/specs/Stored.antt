@@ -2,18 +2,17 @@
 use Prim.Native.Nat.{ℕ}
 use mathlib.Core.List.{List, [], _∷_, _++_}
 use lib.ListN.{length}
-use lib.Dec.{ltb}
-use Rattle.bits.specs.Choice.{pick}
 use Rattle.put_bytes.specs.HighFirst.{two}
 use Rattle.format.specs.Line.{skeleton}
 use Rattle.format.specs.Index.{indexBlock}
 use Rattle.format.specs.declared.Widths.{Widths}
 use Rattle.find_parts.specs.Stored.{sizedOut}
+use Rattle.card.specs.LengthParts.{byForm}
 use Rattle.card.specs.Card.{Content}
 
 -- a length
 abbrev pub lengthOut : ℕ → List ℕ
-lengthOut n = pick (ltb n 128) (n ∷ []) (pick (ltb n 256) (0x81 ∷ n ∷ []) (0x82 ∷ two n))
+lengthOut n = byForm n (n ∷ []) (0x81 ∷ n ∷ []) (0x82 ∷ two n)
 
 -- the value of object 90: so a view's bytes stand in a record, too, from its width up to the end of its index
 abbrev pub valueOut : Widths → Content → List ℕ

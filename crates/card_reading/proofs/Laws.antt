@@ -48,7 +48,7 @@ use Rattle.card.proofs.Laws.Fits.{scale-fits, value-bytes, record-size, record-
 use Rattle.card_shape.specs.Shape.{Bad, ShapeStands}
 use Rattle.card_shape.specs.declared.Value.{Value}
 use Rattle.card_shape.proofs.Laws.Object.{value-within, skeletonOf, indexOf, skeleton-before, index-before, cardAt, card-skeleton-bad, card-index-bad, value-good, card-good, shape-good}
-use Rattle.card_reading.specs.Reading.{NarrowWidths, SmallScale, Carded, recordFor}
+use Rattle.card_reading.specs.Reading.{NarrowWidths, SmallScale, Carded, recordFor, givenOf}
 
 -- ---- the judge
 
@@ -178,7 +178,7 @@ module _ (scale : Scale) (c : Content) where
       ap₂ front (record-size scale c) tail
 
   pub given-record : {v : List ℕ} → FitsScale scale → content w .Fits c → v ≡ valueOut w c
-      → recordGiven scale c ≡ pick (leb (30 + length v) mostBytes) (given (recordFor scale v)) (refused tooLong 0)
+      → recordGiven scale c ≡ givenOf scale v
   given-record {v} f h e =
       let r : Record = recordOfCard scale c in
       let n : size r ≡ 30 + length v = record-size scale c ∙ ap (λ (x : List ℕ). 30 + length x) (sym e) in
@@ -188,9 +188,6 @@ module _ (scale : Scale) (c : Content) where
       ∙ ap (λ (k : ℕ). pick (leb k mostBytes) (given (recordFor scale v)) (refused tooLong 0)) n
 
 -- ---- what is given of a value v
-
-abbrev pub givenOf : Scale → List ℕ → Outcome ℕ
-givenOf s v = pick (leb (30 + length v) mostBytes) (given (recordFor s v)) (refused tooLong 0)
 
 module _ (s : Scale) (v : List ℕ) where
   pub too-long : 32768 - 30 < length v → givenOf s v ≡ refused tooLong 0

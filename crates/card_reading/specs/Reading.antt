@@ -67,6 +67,10 @@ pub record RecordRoom (value : List ℕ) (s : Scale) (out : List ℕ) : Type 0 w
   pub short : 30 + length value ≤ 32768
   pub room : 30 + length value ≤ length out
 
--- it is given, where it is short enough and there is room
+-- it is given where it is short enough
+abbrev pub givenOf : Scale → List ℕ → Outcome ℕ
+givenOf s value = pick (leb (30 + length value) mostBytes) (given (recordFor s value)) (refused tooLong 0)
+
+-- and where there is room
 pub record RecordGiven (value : List ℕ) (s : Scale) (before after : List ℕ) (r : Answer) : Type 0 where
-  pub is : (o : Outcome ℕ) → o ≡ pick (leb (30 + length value) mostBytes) (given (recordFor s value)) (refused tooLong 0) → Answers o before after r
+  pub is : (o : Outcome ℕ) → o ≡ givenOf s value → Answers o before after r

@@ -22,6 +22,13 @@ one-value p q = p ∙ sym q
 pub same-answer : (a b : Answer) → a .number ≡ b .number → a .place ≡ b .place → a .length ≡ b .length → a ≡ b
 same-answer a b p q r = λ i. record { number = p i; place = q i; length = r i }
 
+-- what is refused is not given, and what is given is one list
+pub not-given : {A P : Type 0} {e p : ℕ} {xs : List A} → refused e p ≡ given xs → P
+not-given h = let z : _≡_ {A = ℕ} 0 1 = cc in absurd (omega arith)
+
+pub given-is : {A : Type 0} {xs ys : List A} → _≡_ {A = Outcome A} (given xs) (given ys) → xs ≡ ys
+given-is h = cc
+
 -- given room, the outcome is what it is
 pub room-enough : {A : Type 0} (n : ℕ) (xs : List A) → length xs ≤ n → room n (given xs) ≡ given xs
 room-enough n xs h = pick-yes (leb (length xs) n) _ _ (le→leb (length xs) n h)

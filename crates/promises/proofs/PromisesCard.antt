@@ -4,7 +4,7 @@
 --   bits/specs/Choice, Lists, Bits, Bytes, Codec   within; All; Bits; Byte, bitsOf; got
 --   outcome/specs/Refusals, Numbers, Placed  noView, badObject, otherScale; Gives, cardReadNumbers, cardWriteNumbers; Placed
 --   outcome/specs/Outcome      refused, given, Answers, Gave
---   format/specs/Record, Places, Named   Record, read, write, size; viewAt; named, NoViewNamed
+--   format/specs/Record, Named   read, write; named, NoViewNamed
 --   card/specs/Length, Object  the format of an object, whatever its blocks are
 --   card/specs/Size            scaleOf: what each size fixes
 --   card/specs/Card            Content, card, recordOfCard, cardRead, cardOfView, viewOfCard, objectOf, cardWrite

@@ -3,8 +3,8 @@
 --   bits/specs/Lists, Bytes    All; Byte
 --   put_bytes/specs/HighFirst  two, joined, numbersIn
 --   outcome/specs/Refusals, Numbers   badRun; Gives, runNumbers
---   outcome/specs/Outcome      given, AnswersAs, Answers, AnswersInBytes, Gave
---   card_runs/specs/Runs       runOk, lowOf, lowBytes, runOf, fromLowBytes
+--   outcome/specs/Outcome      given, Answers, AnswersInBytes, Gave
+--   card_runs/specs/Runs       runOk, lowBytes, runOf, fromLowBytes
 --   card_runs/specs/Accepted   SmallSteps, RightRun, AcceptedLow, backAt, AcceptedBack, PassesOver
 -- `Answer` is the struct of outcome/src, `length`, `getD`, `take`, `T` and the signs are the toolchain's. That a refusal writes nothing, and
 -- that the contracts allow one answer and one buffer alone, is said of every call on the front page (`refusal-writes-nothing`,

@@ -18,7 +18,7 @@ use Rattle.bits.proofs.Laws.Nested.{sifted-out}
 use Rattle.outcome.specs.Refusals.{badObject, otherScale}
 use Rattle.outcome.specs.Outcome.{Outcome, refused, room, numberOf, Answers}
 use Rattle.outcome.specs.declared.Answer.{Answer}
-use Rattle.outcome.proofs.Laws.{room-zero, zero-room, own-number}
+use Rattle.outcome.proofs.Laws.{not-given, room-zero, zero-room, own-number}
 use Rattle.format.specs.Limits.{mostBytes}
 use Rattle.format.specs.Record.{size}
 use Rattle.format.specs.Call.{fromRead}
@@ -32,7 +32,7 @@ use Rattle.card.specs.Size.{scaleOf, sameScale}
 use Rattle.card.specs.Card.{Content, shape, content, card, recordOfCard, recordGiven, cardRead, objectGiven, cardWrite}
 use Rattle.card.specs.Accepted.{itsRecord, AcceptedCardRead, WrongObject, AcceptedCardWrite, OtherScale}
 use Rattle.card.proofs.Laws.Calls.{read-none, read-in, write-none, write-in, read-given, reads-given, same-itself, write-given, written-given, other-given}
-use Rattle.card.proofs.Laws.Numbers.{read-never, write-never, shape-refuses, Refusal, byShape, byBlock, card-refusal}
+use Rattle.card.proofs.Laws.Numbers.{read-never, write-never, shape-refuses, RefusedObject, byShape, byBlock, card-refusal}
 
 module _ {before after : List ℕ} {a : Answer} where
   -- ---- reading
@@ -70,10 +70,10 @@ module _ {before after : List ℕ} {a : Answer} where
       at : (scale : Scale) {p : ℕ} (o : Read Bool Content) → card (scale .widths) .dec (bitsOf object) ≡ o
           → fromRead (8 * length object) (recordGiven scale) o ≡ refused badObject p → WrongObject sizeNumber object
       at scale (got c r) d g =
-          pick-split (leb (size (recordOfCard scale c)) mostBytes) _ _ g (λ t y. let k : _≡_ {A = ℕ} 0 1 = cc in absurd (omega arith)) (λ t y. let k : _≡_ {A = ℕ} 19 27 = cc in absurd (omega arith))
+          pick-split (leb (size (recordOfCard scale c)) mostBytes) _ _ g (λ t y. not-given (sym y)) (λ t y. let k : _≡_ {A = ℕ} 19 27 = cc in absurd (omega arith))
       at scale (C.refused e l) d g = of-refusal (card-refusal (scale .widths) object d) (cc)
         where
-          of-refusal : Refusal object e l → e ≡ badObject → WrongObject sizeNumber object
+          of-refusal : RefusedObject object e l → e ≡ badObject → WrongObject sizeNumber object
           of-refusal (byShape x y n) k = inr n
           of-refusal (byBlock t y) k = absurd (omega (arith, within-high 8 10 e t))
 
@@ -110,7 +110,7 @@ module _ {before after : List ℕ} {a : Answer} where
           let z : _≡_ {A = ℕ} 27 28 = cc in absurd (omega arith)
       sized (some scale) e {p} q =
           own-view view (objectGiven scale) bytes otherScale p (omega arith) (sym (write-in sizeNumber e view bytes) ∙ q) λ r rest i d m g.
-          pick-split (sameScale (r .head .scale) scale) _ _ g (λ t y. let k : _≡_ {A = ℕ} 0 1 = cc in absurd (omega arith))
+          pick-split (sameScale (r .head .scale) scale) _ _ g (λ t y. not-given (sym y))
           (λ t y. record {
             at = record { scale = scale; known = e; value = r; reads = d ∙ ap (got r) (read-is bytes r rest d .3); i = i; means = m };
             other = λ same. T-not (sameScale (r .head .scale) scale) (subst (λ (s : Scale). T (sameScale s scale)) (sym same) (same-itself scale)) t;

@@ -6,9 +6,9 @@ use mathlib.Core.List.{List}
 use lib.ListN.{length, take}
 use Rattle.bits.specs.Lists.{All}
 use Rattle.bits.specs.Bytes.{Byte}
-use Rattle.outcome.specs.Outcome.{Outcome, given, Answers, Gave}
+use Rattle.outcome.specs.Outcome.{given, Answers, Gave}
 use Rattle.outcome.specs.declared.Answer.{Answer}
-use Rattle.outcome.proofs.Laws.{answer-there, answer-accepted}
+use Rattle.outcome.proofs.Laws.{given-is, answer-there, answer-accepted}
 use Rattle.format.specs.Limits.{mostBytes}
 use Rattle.format.specs.Record.{write}
 use Rattle.format.specs.Named.{named}
@@ -18,9 +18,6 @@ use Rattle.card.specs.Card.{recordOfCard, cardRead, cardWrite}
 use Rattle.card.specs.Accepted.{ReadsAt, itsRecord, Alone, ViewAtSize, itsCard}
 use Rattle.card.proofs.Laws.Calls.{reads-given, write-back, write-given, written-reads}
 use Rattle.card.proofs.Laws.Numbers.{read-never, write-never}
-
-given-is : {xs ys : List ℕ} → _≡_ {A = Outcome ℕ} (given xs) (given ys) → xs ≡ ys
-given-is q = cc
 
 module _ {before after before₂ after₂ : List ℕ} {a b : Answer} where
   pub read-then-write : (sizeNumber : ℕ) (object : List ℕ) (x : ReadsAt sizeNumber object) → All Byte object → Alone x

@@ -6,7 +6,7 @@ use native.Mathlib.Omega.{arith}
 use mathlib.Core.Bool.{Bool, true, false, not}
 use mathlib.Core.Option.{Option, none, some}
 use mathlib.Core.List.{List, [], _++_, append-nil}
-use lib.ListN.{length, length-append}
+use lib.ListN.{length}
 use lib.Dec.{T, leb, leb→le, le→leb}
 use Rattle.bits.specs.ChoiceLaws.{pick-yes, pick-no, pick-split, T-true, eqb-true}
 use Rattle.bits.specs.Lists.{All}
@@ -19,6 +19,7 @@ use Rattle.bits.specs.Codec as C
 use Rattle.bits.specs.BlockBytes.{value-there, value-back}
 use Rattle.outcome.specs.Refusals.{badObject, otherScale}
 use Rattle.outcome.specs.Outcome.{Outcome, refused, given}
+use Rattle.outcome.proofs.Laws.{not-given, given-is}
 use Rattle.format.specs.Limits.{mostBytes}
 use Rattle.format.specs.View.{View, viewHeader, view}
 use Rattle.format.specs.Record.{Record, tellSeen, read, write, size, Allowed}
@@ -31,9 +32,6 @@ use Rattle.format.specs.declared.ViewName.{ViewName}
 use Rattle.format.proofs.Laws.Record.{read-there, read-is}
 use Rattle.format.proofs.Laws.Call.{on-view, given-view}
 use Rattle.format.proofs.Laws.Named.{name-means}
-use Rattle.find_parts.specs.Stored.{viewOut}
-use Rattle.find_parts.proofs.Laws.Written.{view-blocks, stored-long}
-use Rattle.find_parts.proofs.Laws.Apart.{ahead, behind, ahead-long, apart}
 use Rattle.card.specs.Length.{objectLength}
 use Rattle.card.specs.Object.{Other}
 use Rattle.card.specs.ShapeLaws.{taggedBits}
@@ -42,33 +40,37 @@ use Rattle.card.specs.Card.{Content, content, card, viewOfCard, recordOf
 use Rattle.card.specs.Stored.{valueOut, object90Out, objectOut}
 use Rattle.card.specs.Accepted.{ReadsAt, itsRecord, Alone, ViewAtSize, itsCard, itsObject}
 use Rattle.card.proofs.Laws.Written.{inner-long, object-written, valueIs, object90-spells, value-spells}
-use Rattle.card.proofs.Laws.Views.{same-scale-is, object-small, view-short}
-use Rattle.card.proofs.Laws.Fits.{scale-fits, value-parts, record-size, record-allowed}
+use Rattle.card.proofs.Laws.Views.{same-scale-is, value-small, object-small, view-short}
+use Rattle.card.proofs.Laws.Fits.{scale-fits, record-size, record-allowed}
 
 -- ---- the size
+
+module _ {A : Type 0} (f : Scale → Outcome A) {o : Option Scale} where
+  in-none : o ≡ none → inSize o f ≡ refused badObject 0
+  in-none e = ap (λ (x : Option Scale). inSize x f) e
+
+  in-known : {scale : Scale} → o ≡ some scale → inSize o f ≡ f scale
+  in-known e = ap (λ (x : Option Scale). inSize x f) e
 
 module _ (sizeNumber : ℕ) where
   pub read-none : (object : List ℕ) → scaleOf sizeNumber ≡ none → cardRead sizeNumber object ≡ refused badObject 0
   unfolding cardRead
-  read-none object e = ap (λ (o : Option Scale). inSize o (λ s. fromRead (8 * length object) (recordGiven s) (card (s .widths) .dec (bitsOf object)))) e
+  read-none object e = in-none _ e
 
   pub write-none : (view : ViewName) (bytes : List ℕ) → scaleOf sizeNumber ≡ none → cardWrite sizeNumber view bytes ≡ refused badObject 0
   unfolding cardWrite
-  write-none view bytes e = ap (λ (o : Option Scale). inSize o (λ s. onView view (objectGiven s) bytes)) e
+  write-none view bytes e = in-none _ e
 
   module _ {scale : Scale} (known : scaleOf sizeNumber ≡ some scale) where
     pub read-in : (object : List ℕ) → cardRead sizeNumber object ≡ fromRead (8 * length object) (recordGiven scale) (card (scale .widths) .dec (bitsOf object))
     unfolding cardRead
-    read-in object = ap (λ (o : Option Scale). inSize o (λ s. fromRead (8 * length object) (recordGiven s) (card (s .widths) .dec (bitsOf object)))) known
+    read-in object = in-known _ known
 
     pub write-in : (view : ViewName) (bytes : List ℕ) → cardWrite sizeNumber view bytes ≡ onView view (objectGiven scale) bytes
     unfolding cardWrite
-    write-in view bytes = ap (λ (o : Option Scale). inSize o (λ s. onView view (objectGiven s) bytes)) known
+    write-in view bytes = in-known _ known
 
 -- ---- what is given
-
-not-given : {A : Type 0} {P : Type 0} {e p : ℕ} {xs : List A} → refused e p ≡ given xs → P
-not-given h = let z : _≡_ {A = ℕ} 0 1 = cc in absurd (omega arith)
 
 pub read-given : (sizeNumber : ℕ) (object bytes : List ℕ) → cardRead sizeNumber object ≡ given bytes → (x : ReadsAt sizeNumber object) × (bytes ≡ write (itsRecord x))
 unfolding card
@@ -79,11 +81,8 @@ read-given sizeNumber object bytes h = sized (scaleOf sizeNumber) refl
     at known (C.refused e l) d g = not-given g
     at {scale} known (C.got c r) d g =
         pick-split (leb (size (recordOfCard scale c)) mostBytes) _ _ g
-        (λ t q. (record { scale = scale; known = known; value = c; reads = d ∙ ap (got c) (card (scale .widths) .all (bitsOf object) c r d); small = leb→le (size (recordOfCard scale c)) mostBytes t }, sym (same q)))
+        (λ t q. (record { scale = scale; known = known; value = c; reads = d ∙ ap (got c) (card (scale .widths) .all (bitsOf object) c r d); small = leb→le (size (recordOfCard scale c)) mostBytes t }, sym (given-is q)))
         (λ t q. not-given q)
-      where
-        same : {xs ys : List ℕ} → _≡_ {A = Outcome ℕ} (given xs) (given ys) → xs ≡ ys
-        same q = cc
 
     sized : (o : Option Scale) → scaleOf sizeNumber ≡ o → (x : ReadsAt sizeNumber object) × (bytes ≡ write (itsRecord x))
     sized none e = not-given (sym (read-none sizeNumber object e) ∙ h)
@@ -144,13 +143,6 @@ module _ (r : Record) (i : ℕ) (l : i < length (r .views)) (a : Allowed r) wher
   abbrev widths : Widths
   widths = r .head .scale .widths
 
-  -- the record of that view alone is no longer
-  view-small : 30 + length (valueOut widths (cardOfView v)) ≤ size r
-  view-small =
-      let front : 24 ≤ length (ahead r i (size r)) = omega (arith, ahead-long r i (size r)) in
-      let e = ap length (apart r i l) in
-      omega (arith, front, view-blocks widths v, value-parts widths (cardOfView v), stored-long r, e, length-append (ahead r i (size r)) (viewOut widths v ++ behind r i), length-append (viewOut widths v) (behind r i))
-
   -- its content fits
   view-content : content widths .Fits (cardOfView v)
   unfolding content objectLength view viewHeader
@@ -171,9 +163,6 @@ pub write-given : (sizeNumber : ℕ) (view : ViewName) (bytes object : List ℕ)
     → (x : ViewAtSize sizeNumber view bytes) × (x .value .head .scale ≡ x .scale) × (object ≡ itsObject x)
 write-given sizeNumber view bytes object h = sized (scaleOf sizeNumber) refl
   where
-    given-is : {xs ys : List ℕ} → _≡_ {A = Outcome ℕ} (given xs) (given ys) → xs ≡ ys
-    given-is q = cc
-
     sized : (o : Option Scale) → scaleOf sizeNumber ≡ o → (x : ViewAtSize sizeNumber view bytes) × (x .value .head .scale ≡ x .scale) × (object ≡ itsObject x)
     sized none e = not-given (sym (write-none sizeNumber view bytes e) ∙ h)
     sized (some scale) e =
@@ -198,7 +187,7 @@ module _ {sizeNumber : ℕ} {view : ViewName} {bytes : List ℕ} (x : ViewAtSize
   unfolding objectOf card
   written-reads =
       let small : 30 + length (valueOut (x .scale .widths) (itsCard x)) ≤ size (x .value) =
-      subst (λ (s : Scale). 30 + length (valueOut (s .widths) (itsCard x)) ≤ size (x .value)) same (view-small (x .value) (x .i) (x .means .there) allowed) in (
+      subst (λ (s : Scale). 30 + length (valueOut (s .widths) (itsCard x)) ≤ size (x .value)) same (value-small (x .value) (x .i) (x .means .there)) in (
         record {
           scale = x .scale;
           known = x .known;

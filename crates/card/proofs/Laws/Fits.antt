@@ -12,8 +12,6 @@ use Rattle.bits.specs.Bytes.{Byte, bitsOf, bytesOf, inBytes}
 use Rattle.bits.specs.BytesLaws.{length-bitsOf, in-bits}
 use Rattle.bits.specs.CodecLaws.{encAll}
 use Rattle.format.specs.Limits.{mostBytes}
-use Rattle.format.specs.Line.{skeleton}
-use Rattle.format.specs.Index.{indexBlock}
 use Rattle.format.specs.Segments.{segments}
 use Rattle.format.specs.View.{view, viewHeader}
 use Rattle.format.specs.Record.{FitsScale, size, Allowed}
@@ -28,7 +26,7 @@ use Rattle.card.specs.ShapeLaws.{taggedBits}
 use Rattle.card.specs.Size.{normal, compact, scaleOf}
 use Rattle.card.specs.Card.{Content, content, viewOfCard, recordOfCard}
 use Rattle.card.specs.Stored.{valueOut, object90Out}
-use Rattle.card.proofs.Laws.Written.{ShortValue, Short, valueIs, value-spells, object90-spells}
+use Rattle.card.proofs.Laws.Written.{value-long, ShortValue, Short, valueIs, value-spells, object90-spells}
 
 -- ---- the sizes
 
@@ -55,12 +53,12 @@ module _ (w : Widths) (c : Content) (h : content w .Fits c) where
   abbrev v : List ℕ
   v = valueOut w c
 
-  pub value-long : length (valueIs w c) ≡ 8 * length v
-  value-long = ap length (value-spells w c short-value .bits) ∙ length-bitsOf v
+  bits-long : length (valueIs w c) ≡ 8 * length v
+  bits-long = ap length (value-spells w c short-value .bits) ∙ length-bitsOf v
 
   value-small : length v < 2 ^ 16
   unfolding content objectLength
-  value-small = omega (arith, h .1 .0 .0 .1, value-long)
+  value-small = omega (arith, h .1 .0 .0 .1, bits-long)
 
   -- the template holds 90 and whatever follows
   pub short : Short w c
@@ -79,9 +77,6 @@ module _ (w : Widths) (c : Content) (h : content w .Fits c) where
 
 -- ---- the record that it makes
 
-pub value-parts : (w : Widths) (c : Content) → length (valueOut w c) ≡ 4 + ((2 + length (inBytes (skeleton w .enc (c .skeleton)))) + (2 + length (inBytes (indexBlock (length (c .skeleton)) .enc (c .index)))))
-value-parts w c = simp length-append (omega arith)
-
 no-segments : length (inBytes (segments .enc [])) ≡ 0
 unfolding segments bytesOf
 no-segments = refl
@@ -99,7 +94,7 @@ module _ (scale : Scale) (c : Content) where
 
   -- 24 bytes of header, 4 of zeros before the value and 2 behind it
   pub record-size : size (recordOfCard scale c) ≡ 30 + length (valueOut w c)
-  record-size = sym (stored-long (recordOfCard scale c)) ∙ omega (arith, out-long, view-blocks w (viewOfCard c), no-segments, value-parts w c)
+  record-size = sym (stored-long (recordOfCard scale c)) ∙ omega (arith, out-long, view-blocks w (viewOfCard c), no-segments, value-long w c)
 
   pub record-allowed : FitsScale scale → content w .Fits c → size (recordOfCard scale c) ≤ mostBytes → Allowed (recordOfCard scale c)
   unfolding recordOfCard content view viewHeader segments

@@ -42,6 +42,7 @@ use Rattle.card.specs.Length.{objectLength}
 use Rattle.card.specs.Object.{Card, other}
 use Rattle.card.specs.Size.{scaleOf, sameScale}
 use Rattle.card.specs.Card.{Content, shape, content, card, recordOfCard, recordGiven, cardRead, objectGiven, cardWrite}
+use Rattle.card.specs.Accepted.{NoShape}
 use Rattle.card.proofs.Laws.Sifted.{Settled, right, wrong, card-settled}
 use Rattle.card.proofs.Laws.Calls.{read-none, read-in, write-none, write-in}
 
@@ -76,13 +77,10 @@ content-refuses w = search (refusing, length-refuses, other-refuses, skeleton-re
 
 -- ---- a refused object
 
-abbrev pub NoShape : List ℕ → Type 0
-NoShape object = (c : Card (List ℕ) (List ℕ)) (rest : Bits) → shape .dec (bitsOf object) ≢ got c rest
-
 -- by its shape, at its start; or by a block of it
-pub data Refusal (object : List ℕ) (e left : ℕ) : Type 0 where
-  byShape : e ≡ badObject → left ≡ 8 * length object → NoShape object → Refusal object e left
-  byBlock : OfBlocks e → left ≤ 8 * length object → Refusal object e left
+pub data RefusedObject (object : List ℕ) (e left : ℕ) : Type 0 where
+  byShape : e ≡ badObject → left ≡ 8 * length object → NoShape object → RefusedObject object e left
+  byBlock : OfBlocks e → left ≤ 8 * length object → RefusedObject object e left
 
 module _ (w : Widths) (object : List ℕ) where
   abbrev z : Bits
@@ -102,16 +100,16 @@ module _ (w : Widths) (object : List ℕ) where
       go : Settled {A = A} OfBlocks (C.refused e l) → OfBlocks e
       go (wrong q) = q
 
-  pub card-refusal : {e left : ℕ} → card w .dec z ≡ C.refused e left → Refusal object e left
+  pub card-refusal : {e left : ℕ} → card w .dec z ≡ C.refused e left → RefusedObject object e left
   unfolding card
   card-refusal {e} {left} d = go (shape .dec z) refl
     where
-      go : (o : Read Bool (Card (List ℕ) (List ℕ))) → shape .dec z ≡ o → Refusal object e left
+      go : (o : Read Bool (Card (List ℕ) (List ℕ))) → shape .dec z ≡ o → RefusedObject object e left
       go (got c r) s =
           let k : content w .dec z ≡ C.refused e left = sym (sifted-on shape (content w) s) ∙ d in
           byBlock (settled-number (content-settled s) k) (rw (← length-bitsOf object) (refused-by (content-refuses w .at z) k .1))
       go (C.refused x y) s =
-          let k : C.refused x (length z) ≡ C.refused e left = sym (sifted-out shape (content w) s ∙ refl) ∙ d in
+          let k : C.refused x (length z) ≡ C.refused e left = sym (sifted-out shape (content w) s) ∙ d in
           byShape (sym (refused-number k) ∙ sym (refused-by (shape-refuses .at z) s .0)) (sym (refused-left k) ∙ length-bitsOf object)
           (λ c r h. never (sym s ∙ h))
         where
@@ -130,7 +128,7 @@ module _ (w : Widths) (object : List ℕ) where
 abbrev ReadPlaced : List ℕ → ℕ → ℕ → Type 0
 ReadPlaced object e p = T (among cardReadNumbers e) × Placed (8 * length object) e p
 
-placed-refusal : (object : List ℕ) (e left : ℕ) → Refusal object e left → ReadPlaced object e (8 * length object - left)
+placed-refusal : (object : List ℕ) (e left : ℕ) → RefusedObject object e left → ReadPlaced object e (8 * length object - left)
 placed-refusal object e left (byShape x y n) =
     let p : 8 * length object - left ≡ 0 = rw y (sub-self (8 * length object)) in
     rw (x, p) (tt, no-place (8 * length object) badObject)

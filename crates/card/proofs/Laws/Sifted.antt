@@ -12,13 +12,13 @@ use Rattle.bits.specs.ChoiceLaws.{pick-yes}
 use Rattle.bits.specs.Lists.{All}
 use Rattle.bits.specs.Bits.{Bits, bitsOfNumber}
 use Rattle.bits.specs.Codec.{Read, got, refused, next, Codec, thenDec, viaDec}
-use Rattle.bits.specs.CodecLaws.{encAll, field, then, fixed}
+use Rattle.bits.specs.CodecLaws.{encAll, field, fixed}
 use Rattle.bits.specs.Block.{Block, inside, sizedDec, aheadDec, usedUp, exactDec, recastDec}
 use Rattle.bits.specs.SizedLaws.{headed, prefixed}
 use Rattle.bits.specs.Reads.{keeping}
 use Rattle.outcome.specs.Refusals.{badObject}
 use Rattle.card.specs.Length.{objectLength}
-use Rattle.card.specs.Object.{anyBytes, Other, objectHead, dataObject, valueParts, value-whole, valueBlock, other, others, template, wholeObject, Card, makeCard, cardBlock}
+use Rattle.card.specs.Object.{anyBytes, Other, objectHead, dataObject, imageSize, valueParts, value-whole, valueBlock, other, others, template, wholeObject, Card, makeCard, cardBlock}
 use Rattle.card.specs.ShapeLaws.{valueBits, templateBits, objectBits}
 
 -- a block of n bytes, with r behind it
@@ -85,9 +85,6 @@ module _ (Q : ℕ → Type 0) where
     lines-end (got p []) right k =
         subst (λ (o : Read Bool B). Settled Q (next (next (next o (λ z r. got (p, z) r)) withImage) ended)) (sym (index-part p)) (index-ends p (i p .dec y) (k p))
     lines-end (refused e l) (wrong q) k = wrong q
-
-    abbrev imageSize : Codec Bool (ℕ × ℕ)
-    imageSize = then (field badObject 16) λ _. field badObject 16
 
     value-opened : valueParts s i .dec (valueBits width height x y) ≡ next (next (inside rest (s .dec x)) withLines) withImage
     unfolding thenDec

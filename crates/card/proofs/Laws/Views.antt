@@ -4,20 +4,15 @@ use mathlib.Core.Path.{_≡_, sym, ap, _∙_, subst}
 use Prim.Native.Nat.{ℕ, _+_, _-_, _≤_, _<_}
 use native.Mathlib.Omega.{arith}
 use mathlib.Core.Bool.{Bool, true}
-use mathlib.Core.Option.{Option, some}
 use mathlib.Core.List.{List, [], _∷_, _++_, append-assoc}
 use lib.ListN.{length, take, drop, length-append}
 use lib.Seq.{take-at, drop-at}
-use lib.Dec.{T, ltb, eqb, eqb→eq}
+use lib.Dec.{T, eqb, eqb→eq}
 use Rattle.bits.specs.Lists.{All}
 use Rattle.bits.specs.ListsLaws.{all-true, along-at}
-use Rattle.bits.specs.ChoiceLaws.{pick-case}
-use Rattle.bits.specs.Bits.{Bits}
-use Rattle.bits.specs.Bytes.{Byte, inBytes}
+use Rattle.bits.specs.Bytes.{Byte}
 use Rattle.bits.specs.Codec.{got}
 use Rattle.put_bytes.specs.HighFirst.{two}
-use Rattle.outcome.specs.Refusals.{noView}
-use Rattle.outcome.specs.Outcome.{refused}
 use Rattle.format.specs.Limits.{mostBytes}
 use Rattle.format.specs.Line.{skeleton}
 use Rattle.format.specs.Index.{indexBlock}
@@ -25,12 +20,8 @@ use Rattle.format.specs.Segments.{segments}
 use Rattle.format.specs.View.{View, viewHeader, view}
 use Rattle.format.specs.Record.{Record, tellSeen, read, size, Allowed}
 use Rattle.format.specs.Places.{noViewThere, viewAt}
-use Rattle.format.specs.Named.{placeIn}
-use Rattle.format.specs.Call.{onView}
-use Rattle.format.specs.declared.ViewName.{ViewName}
 use Rattle.format.specs.declared.Widths.{Widths}
 use Rattle.format.specs.declared.Scale.{Scale}
-use Rattle.format.proofs.Laws.Call.{no-view}
 use Rattle.format.proofs.Laws.Record.{read-back}
 use Rattle.find_parts.specs.Stored.{sizedOut, viewOut, recordOut}
 use Rattle.find_parts.specs.Stands.{BlocksIn}
@@ -38,10 +29,11 @@ use Rattle.find_parts.specs.declared.view.Blocks.{Blocks}
 use Rattle.find_parts.proofs.Laws.Blocks.{cut, block-bits, block-long}
 use Rattle.find_parts.proofs.Laws.Written.{written, stored-long}
 use Rattle.find_parts.proofs.Laws.Apart.{ahead, behind, ahead-long, apart}
-use Rattle.card.specs.Size.{scaleOf, sameScale, inSize}
-use Rattle.card.specs.Card.{cardOfView, objectGiven, cardWrite}
+use Rattle.card.specs.LengthLaws.{forms}
+use Rattle.card.specs.Size.{sameScale}
+use Rattle.card.specs.Card.{cardOfView}
 use Rattle.card.specs.Stored.{lengthOut, valueOut, object90Out, objectOut}
-use Rattle.card.proofs.Laws.Written.{Short, inner-long}
+use Rattle.card.proofs.Laws.Written.{short-out, middle-out, long-out, value-long, Short, inner-long}
 
 -- ---- scales
 
@@ -64,8 +56,7 @@ same-scale-is s t e =
 -- ---- how long an object is
 
 pub length-few : (n : ℕ) → length (lengthOut n) ≤ 3
-length-few n =
-    pick-case (λ (xs : List ℕ). length xs ≤ 3) (ltb n 128) _ _ (λ _. omega arith) (λ _. pick-case (λ (xs : List ℕ). length xs ≤ 3) (ltb n 256) _ _ (λ _. omega arith) (λ _. omega arith))
+length-few n = forms n (λ h. rw (short-out n h) (omega arith)) (λ l h. rw (middle-out n l h) (omega arith)) (λ l. rw (long-out n l) (omega arith))
 
 pub inner-few : (value : List ℕ) → length (object90Out value) ≤ 4 + length value
 inner-few value = omega (arith, inner-long value, length-few (length value))
@@ -88,9 +79,6 @@ module _ (w : Widths) (v : View) where
   view-parts : viewOut w v ≡ front ++ (value ++ sizedOut segments (v .segments))
   view-parts = simp append-assoc
 
-  value-long : length value ≡ 8 + length (inBytes (skeleton w .enc (v .lines))) + length (inBytes (indexBlock (length (v .lines)) .enc (v .index)))
-  value-long = simp length-append (omega arith)
-
 -- ---- a view of a record
 
 regroup : (a b c d e : List ℕ) → a ++ ((b ++ (c ++ d)) ++ e) ≡ (a ++ b) ++ (c ++ (d ++ e))
@@ -107,10 +95,11 @@ module _ (r : Record) (i : ℕ) (l : i < length (r .views)) where
   record-parts = apart r i l ∙ ap (λ (xs : List ℕ). ahead r i (size r) ++ (xs ++ behind r i)) (view-parts w v)
       ∙ regroup (ahead r i (size r)) (front w v) (value w v) (sizedOut segments (v .segments)) (behind r i)
 
-  pub value-small : 28 + length (valueOut w (cardOfView v)) ≤ size r
+  -- the record of that view alone is no longer than this one
+  pub value-small : 30 + length (valueOut w (cardOfView v)) ≤ size r
   value-small =
       let front-long : 24 ≤ length (ahead r i (size r)) = omega (arith, ahead-long r i (size r)) in
-      omega (arith, stored-long r, value-long w v, simp length-append at (ap length record-parts))
+      omega (arith, stored-long r, value-long w (cardOfView v), simp length-append at (ap length record-parts))
 
   -- "each before 19 and 20": there is no 19 here
   pub object-small : length (objectOut (valueOut w (cardOfView v))) ≤ size r
@@ -137,14 +126,6 @@ module _ (r : Record) (i : ℕ) (l : i < length (r .views)) where
       let last : List ℕ = sizedOut segments (v .segments) ++ behind r i in
       let f : length first ≡ from = omega (arith, length-append (ahead r i (size r)) (front w v), ahead-long r i (size r), b .before) in
       let m : length (value w v) ≡ n =
-      omega (arith, value-long w v, block-bits (b .lines), block-long (skeleton w) (v .lines), block-bits (b .index), block-long (indexBlock (length (v .lines))) (v .index), b .lines .from, b .index .from, b .next, b .before) in
+      omega (arith, value-long w (cardOfView v), block-bits (b .lines), block-long (skeleton w) (v .lines), block-bits (b .index), block-long (indexBlock (length (v .lines))) (v .index), b .lines .from, b .index .from, b .next, b .before) in
       ap (λ (xs : List ℕ). take n (drop from xs)) (z ∙ written r a ∙ record-parts)
       ∙ ap (take n) (drop-at first (value w v ++ last) from f) ∙ take-at (value w v) last n m
-
--- ---- the order of the refusals
-
--- a view that is not there is 13, whatever scale the record has
-pub no-view-first : (number : ℕ) (view : ViewName) (s : List ℕ) {scale : Scale} {r : Record} {rest : Bits} → scaleOf number ≡ some scale → read s ≡ got r rest
-    → length (r .views) ≤ placeIn view (r .views) → cardWrite number view s ≡ refused noView 0
-unfolding cardWrite
-no-view-first number view s {scale} e h l = ap (λ (x : Option Scale). inSize x (λ t. onView view (objectGiven t) s)) e ∙ no-view view (objectGiven scale) s h l

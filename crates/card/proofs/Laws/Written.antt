@@ -4,9 +4,6 @@ use Prim.Native.Nat.{ℕ, _+_, _/_, _^_, _≤_, _<_}
 use native.Mathlib.Omega.{arith}
 use mathlib.Core.List.{List, [], _∷_, _++_, append-nil}
 use lib.ListN.{length, length-append}
-use lib.Dec.{ltb}
-use mir.Facts.{yes-ltb, no-ltb}
-use Rattle.bits.specs.ChoiceLaws.{pick-yes, pick-no}
 use Rattle.bits.specs.Bits.{Bits, bitsOfNumber}
 use Rattle.bits.specs.Bytes.{inBytes}
 use Rattle.bits.specs.BytesLaws.{length-bitsOf}
@@ -17,7 +14,7 @@ use Rattle.format.specs.declared.Widths.{Widths}
 use Rattle.find_parts.proofs.Laws.InBytes.{Spells, _⊕_, in-spelled, spells-byte, spells-two}
 use Rattle.find_parts.proofs.Laws.Written.{spells-sized}
 use Rattle.card.specs.LengthParts.{lengthParts}
-use Rattle.card.specs.LengthLaws.{forms, short-parts, middle-parts, long-parts, short-bits}
+use Rattle.card.specs.LengthLaws.{forms, form-one, form-81, form-82, short-parts, middle-parts, long-parts, short-bits}
 use Rattle.card.specs.Length.{objectLength}
 use Rattle.card.specs.Object.{Other}
 use Rattle.card.specs.ShapeLaws.{valueBits, taggedBits, objectBits}
@@ -27,13 +24,13 @@ use Rattle.card.specs.Stored.{lengthOut, valueOut, object90Out, objectOu
 -- ---- a length
 
 pub short-out : (n : ℕ) → n < 128 → lengthOut n ≡ n ∷ []
-short-out n h = pick-yes (ltb n 128) _ _ (yes-ltb h)
+short-out n h = form-one n _ _ _ h
 
 pub middle-out : (n : ℕ) → 128 ≤ n → n < 256 → lengthOut n ≡ 0x81 ∷ n ∷ []
-middle-out n l h = pick-no (ltb n 128) _ _ (no-ltb l) ∙ pick-yes (ltb n 256) _ _ (yes-ltb h)
+middle-out n l h = form-81 n _ _ _ l h
 
 pub long-out : (n : ℕ) → 256 ≤ n → lengthOut n ≡ 0x82 ∷ two n
-long-out n l = pick-no (ltb n 128) _ _ (no-ltb {a = n} (omega arith)) ∙ pick-no (ltb n 256) _ _ (no-ltb l)
+long-out n l = form-82 n _ _ _ l
 
 short-spells : (n : ℕ) → n < 128 → Spells (n ∷ []) (lengthParts .enc (n, 0))
 unfolding bitsOfNumber
@@ -58,7 +55,13 @@ tagged-spells {value = value} {v = v} a b h =
 pub inner-long : (value : List ℕ) → length (object90Out value) ≡ 1 + length (lengthOut (length value)) + length value
 inner-long value = length-append (0x90 ∷ lengthOut (length value)) value ∙ omega arith
 
--- ---- the value of 90, whose numbers and lengths fit 16 bits
+-- ---- the value of 90
+
+-- two numbers, and two blocks behind their lengths
+pub value-long : (w : Widths) (c : Content) → length (valueOut w c) ≡ 8 + length (inBytes (skeleton w .enc (c .skeleton))) + length (inBytes (indexBlock (length (c .skeleton)) .enc (c .index)))
+value-long w c = simp length-append (omega arith)
+
+-- its numbers and lengths fit 16 bits
 
 pub record ShortValue (w : Widths) (c : Content) : Type 0 where
   pub width : c .width < 2 ^ 16

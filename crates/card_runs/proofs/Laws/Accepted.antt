@@ -4,13 +4,12 @@ use Prim.Native.Nat.{ℕ}
 use native.Mathlib.Omega.{arith}
 use mathlib.Core.List.{List}
 use lib.ListN.{length}
-use lib.Dec.{T, leb, not-T}
-use Rattle.bits.specs.ChoiceLaws.{pick-case}
+use lib.Dec.{T, not-T}
 use Rattle.put_bytes.specs.HighFirst.{numbersIn}
-use Rattle.outcome.specs.Refusals.{badRun, noRoom}
+use Rattle.outcome.specs.Refusals.{badRun}
 use Rattle.outcome.specs.Outcome.{Outcome, refused, given, room, numberOf, AnswersAs}
 use Rattle.outcome.specs.declared.Answer.{Answer}
-use Rattle.outcome.proofs.Laws.{room-zero, zero-room}
+use Rattle.outcome.proofs.Laws.{not-given, room-zero, zero-room, own-number}
 use Rattle.card_runs.specs.Runs.{lowOf, lentOk, lowBytes, runOf, restoredOk, fromLowBytes}
 use Rattle.card_runs.specs.Accepted.{RightRun, AcceptedLow, RightBytes, AcceptedBack, PassesOver}
 use Rattle.card_runs.proofs.Numbers.{low-never, back-never}
@@ -19,9 +18,7 @@ use Rattle.card_runs.proofs.Laws.Plain.{run-steps, steps-run, length-lo
 
 -- what is given has another number than 29, whatever the room
 not-bad : (n : ℕ) {o : Outcome ℕ} {xs : List ℕ} → o ≡ given xs → numberOf (room n o) ≡ badRun → ⊥
-not-bad n {xs = xs} q z =
-    pick-case (λ (x : Outcome ℕ). numberOf x ≡ badRun → ⊥) (leb (length xs) n) (given xs) (refused noRoom 0) (λ t e. omega arith) (λ t e. omega arith)
-    (ap (λ (x : Outcome ℕ). numberOf (room n x)) (sym q) ∙ z)
+not-bad n {o} q z = let (p, r) = own-number (λ y. absurd (omega arith)) (λ y. absurd (omega arith)) n o z in not-given (sym r ∙ q)
 
 bad : (n : ℕ) {o : Outcome ℕ} → o ≡ refused badRun 0 → numberOf (room n o) ≡ badRun
 bad n q = ap (λ (x : Outcome ℕ). numberOf (room n x)) q

@@ -17,6 +17,7 @@ use Rattle.put_bytes.proofs.Laws.{twos-length}
 use Rattle.put_bytes.proofs.Numbers.{numbers-written, numbers-small}
 use Rattle.outcome.specs.Refusals.{badRun}
 use Rattle.outcome.specs.Outcome.{refused, given}
+use Rattle.outcome.proofs.Laws.{not-given}
 use Rattle.card_runs.specs.Runs.{climbs, runOk, lowOf, lentOk, lowBytes, addedAt, restored, runOf, restoredOk, fromLowBytes}
 
 -- ---- to low bytes and back
@@ -90,11 +91,11 @@ restored-refused bytes t = pick-no (restoredOk bytes) _ _ t
 -- what is given was right
 pub low-given : (lent : List ℕ) {bytes : List ℕ} → lowBytes lent ≡ given bytes → T (lentOk lent) × (lowOf (numbersIn lent) ≡ bytes)
 unfolding lowBytes
-low-given lent q = pick-split (lentOk lent) _ _ q (λ t e. (t, cc)) (λ t e. let z : _≡_ {A = ℕ} 0 1 = cc in absurd (omega arith))
+low-given lent q = pick-split (lentOk lent) _ _ q (λ t e. (t, cc)) (λ t e. not-given e)
 
 pub back-given : (bytes : List ℕ) {run : List ℕ} → fromLowBytes bytes ≡ given run → T (restoredOk bytes) × (runOf bytes ≡ run)
 unfolding fromLowBytes
-back-given bytes q = pick-split (restoredOk bytes) _ _ q (λ t e. (t, cc)) (λ t e. let z : _≡_ {A = ℕ} 0 1 = cc in absurd (omega arith))
+back-given bytes q = pick-split (restoredOk bytes) _ _ q (λ t e. (t, cc)) (λ t e. not-given e)
 
 -- the tests, taken apart
 pub lent-right : (lent : List ℕ) → T (lentOk lent) → (length lent % 2 ≡ 0) × T (runOk (numbersIn lent))

@@ -3,12 +3,13 @@ use mathlib.Core.Path.{_≡_, sym, ap, _∙_}
 use mathlib.Core.Logic.{_≢_}
 use Prim.Native.Nat.{ℕ, _+_, _-_, _*_, _≤_, _<_}
 use native.Mathlib.Omega.{arith}
+use mathlib.Core.Bool.{Bool}
 use mathlib.Core.List.{List, []}
 use lib.ListN.{length, drop}
 use lib.Dec.{eqb}
 use Rattle.bits.specs.Bits.{Bits}
 use Rattle.bits.specs.Bytes.{bitsOf}
-use Rattle.bits.specs.Codec.{got, refused, fieldDec}
+use Rattle.bits.specs.Codec.{Read, got, refused, fieldDec}
 use Rattle.bits.specs.CodecLaws.{field, only, fixed}
 use Rattle.bits.specs.Block.{Block}
 use Rattle.bits.specs.Reads.{found, fault, Reads}
@@ -20,6 +21,18 @@ use Rattle.card.specs.Object.{Other, others, objectHead, dataObject, template, 
 use Rattle.card_shape.specs.Shape.{Bad, WholeValue, CutValue}
 use Rattle.card_shape.proofs.Laws.Others.{counted-is, object-cut, object-good}
 use Rattle.find_parts.specs.declared.view.Part.{Part}
+
+-- ---- a part that is refused, inside what is refused for it
+
+bad-inside : {A B : Type 0} {d : Bits → Read Bool A} {c : Bits → Read Bool B} (s : List ℕ) (x : Part) → x .from ≤ x .to → x .to ≤ length s
+    → ((q : ℕ) → q ≤ 8 * (x .to - x .from) → d (bitsOf (part s (x .from) (x .to - x .from))) ≡ refused badObject (8 * (x .to - x .from) - q) → Reads c s 0 (fault badObject (8 * x .from + q)))
+    → Bad d (part s (x .from) (x .to - x .from)) → Bad c s
+bad-inside s x i l f h =
+    let n : length (part s (x .from) (x .to - x .from)) ≡ x .to - x .from = part-length s (x .from) (x .to - x .from) (omega arith) in
+    record {
+      place = 8 * x .from + h .place;
+      reads = f (h .place) (omega (arith, h .reads .within)) (h .reads .is ∙ ap (λ (m : ℕ). refused badObject (8 * m - h .place)) n);
+    }
 
 -- ---- a data object whose tag is n bytes and must be `tag`
 
@@ -54,12 +67,7 @@ module _ {A : Type 0} (value : Block A) {s : List ℕ} where
       template-bad l d = ahead-stop _ _ (headed-bad (objectHead (fixed badObject 8 0x90)) value badObject (x .to - x .from) (x .from) (counted-is (fixed badObject 8 0x90) value 1 tag _ (x .from) (w .counted)) (omega (arith, w .ordered, w .within)) l d)
 
       pub template-blocks : Bad (value .dec) valuePart → Bad (template value .dec) s
-      template-blocks h =
-          let n : length valuePart ≡ x .to - x .from = part-length s (x .from) (x .to - x .from) (omega (arith, w .ordered, w .within)) in
-          record {
-            place = 8 * x .from + h .place;
-            reads = template-bad (omega (arith, h .reads .within)) (h .reads .is ∙ ap (λ (m : ℕ). refused badObject (8 * m - h .place)) n);
-          }
+      template-blocks h = bad-inside s x (w .ordered) (w .within) (λ q l d. template-bad l d) h
 
       module _ {v : A} {u : Bits} (d : value .dec (bitsOf valuePart) ≡ got v u) where
         value-read : Reads (dataObject (fixed badObject 8 0x90) value .dec) s 0 (found (tt, v) (8 * x .to))
@@ -93,12 +101,7 @@ module _ {A : Type 0} (value : Block A) {s : List ℕ} where
       whole-bad l d = exact-bad _ badObject (headed-bad (objectHead (fixed badObject 16 0x7F2E)) (template value) badObject (x .to - x .from) (x .from) (counted-is (fixed badObject 16 0x7F2E) (template value) 2 tag _ (x .from) (w .counted)) (omega (arith, w .ordered, w .within)) l d)
 
       pub whole-template : Bad (template value .dec) templatePart → Bad (wholeObject value .dec) s
-      whole-template h =
-          let n : length templatePart ≡ x .to - x .from = part-length s (x .from) (x .to - x .from) (omega (arith, w .ordered, w .within)) in
-          record {
-            place = 8 * x .from + h .place;
-            reads = whole-bad (omega (arith, h .reads .within)) (h .reads .is ∙ ap (λ (m : ℕ). refused badObject (8 * m - h .place)) n);
-          }
+      whole-template h = bad-inside s x (w .ordered) (w .within) (λ q l d. whole-bad l d) h
 
       module _ {v : (Unit {0} × A) × List Other} {u : Bits} (d : template value .dec (bitsOf templatePart) ≡ got v u) where
         template-read : Reads (dataObject (fixed badObject 16 0x7F2E) (template value) .dec) s 0 (found (tt, v) (8 * x .to))

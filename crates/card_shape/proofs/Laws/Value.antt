@@ -4,15 +4,14 @@ use mathlib.Core.Path.{_≡_}
 use mathlib.Core.Logic.{_≢_}
 use Prim.Native.Nat.{ℕ, _+_, _-_, _*_, _^_, _≤_, _<_}
 use native.Mathlib.Omega.{arith}
-use mathlib.Core.Bool.{Bool}
 use mathlib.Core.List.{List, []}
 use lib.ListN.{length, getD}
 use Rattle.bits.specs.ChoiceLaws.{split}
 use Rattle.bits.specs.Bits.{Bits}
 use Rattle.bits.specs.Bytes.{bitsOf}
 use Rattle.bits.specs.BytesLaws.{length-bitsOf}
-use Rattle.bits.specs.Codec.{got, refused, Codec, fieldDec}
-use Rattle.bits.specs.CodecLaws.{field, then}
+use Rattle.bits.specs.Codec.{got, refused, fieldDec}
+use Rattle.bits.specs.CodecLaws.{field}
 use Rattle.bits.specs.Block.{Block}
 use Rattle.bits.specs.SizedLaws.{sized, prefixed}
 use Rattle.bits.specs.Reads.{found, fault, Reads}
@@ -24,7 +23,7 @@ use Rattle.bits.proofs.Laws.Parts.{part, sized-good, sized-bad, sized-past}
 use Rattle.bits.proofs.Laws.Bytewise.{two-reads}
 use Rattle.bits.proofs.Laws.Nested.{exact-bad, exact-good, exact-over}
 use Rattle.outcome.specs.Refusals.{badObject}
-use Rattle.card.specs.Object.{anyBytes, valueParts, valueBlock}
+use Rattle.card.specs.Object.{anyBytes, imageSize, valueParts, valueBlock}
 use Rattle.card_shape.specs.Shape.{Bad, BlocksStand}
 
 -- whatever the bytes are
@@ -35,9 +34,6 @@ any-bytes bytes =
     (xs, d)
 
 -- the size of the image
-abbrev pub imageSize : Codec Bool (ℕ × ℕ)
-imageSize = then (field badObject 16) λ _. field badObject 16
-
 image-full : Full imageSize 32
 image-full = then-full (field badObject 16) _ 16 16 (field-full badObject 16) λ _. field-full badObject 16
 

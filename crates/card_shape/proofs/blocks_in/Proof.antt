@@ -10,8 +10,8 @@ use Rattle.bits.proofs.Laws.Reads.{known}
 use Rattle.bits.proofs.Laws.Parts.{part}
 use Rattle.bits.proofs.Laws.Bytewise.{two-reads}
 use Rattle.outcome.specs.Refusals.{badObject}
-use Rattle.card.specs.Object.{anyBytes}
-use Rattle.card_shape.proofs.Laws.Value.{any-bytes, imageSize, twoIn, image-reads, value-short, skeleton-past, index-cut, index-off}
+use Rattle.card.specs.Object.{anyBytes, imageSize}
+use Rattle.card_shape.proofs.Laws.Value.{any-bytes, twoIn, image-reads, value-short, skeleton-past, index-cut, index-off}
 use borrow.Author.Needs.{needs}
 use Rattle.card_shape.proofs.blocks_in.Statement.{statement}
 use Rattle.card_shape.proofs.blocks_in.Tie as tie

@@ -10,13 +10,13 @@ use Rattle.bits.specs.ChoiceLaws.{pick-case, pick-split}
 use Rattle.bits.specs.Codec.{got}
 use Rattle.outcome.specs.Refusals.{tooLong}
 use Rattle.outcome.specs.Outcome.{Outcome, refused, given}
+use Rattle.outcome.proofs.Laws.{not-given}
 use Rattle.format.specs.Limits.{mostBytes}
 use Rattle.format.specs.Record.{Record, read, size, write}
 use Rattle.format.specs.Places.{viewAt, count}
 use Rattle.format.specs.Named.{Means}
 use Rattle.format.proofs.Laws.Call.{on-view, given-view}
 use Rattle.format.proofs.Laws.Record.{read-is}
-use Rattle.rewrite.proofs.Laws.Record.{not-given}
 use Rattle.orders.specs.Order.{Order, edited, tests, verdict, Pass, Accepted, ordered, order}
 use Rattle.orders.proofs.Laws.Accept.{accepted, verdict-zero}
 use Rattle.orders.proofs.Laws.Refuse.{verdict-long, order-refused, order-given}

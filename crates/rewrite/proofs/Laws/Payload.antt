@@ -15,6 +15,7 @@ use Rattle.bits.specs.Bits.{Bits}
 use Rattle.bits.specs.Bytes.{Byte}
 use Rattle.bits.specs.Codec.{got}
 use Rattle.outcome.specs.Outcome.{Outcome, refused, given}
+use Rattle.outcome.proofs.Laws.{not-given}
 use Rattle.format.specs.Limits.{mostBytes}
 use Rattle.format.specs.View.{View}
 use Rattle.format.specs.Record.{Record, read, write, size, Allowed}
@@ -29,7 +30,7 @@ use Rattle.rewrite.specs.Bytes.{Rewrites}
 use Rattle.rewrite.specs.Format.{Frame, frameOf, PayloadFormat}
 use Rattle.rewrite.specs.Called.{valuesGiven, readOf, readIn, readPayload, valuesSet, setIn, setPayload}
 use Rattle.rewrite.specs.Accepted.{SegmentThere, itsView, itsSegment, newRecord}
-use Rattle.rewrite.proofs.Laws.Record.{not-given, segment-fits, rewritten-means, rewritten-view, as-many, segment-is, rewritten-allowed, rewriting-given, given-rewriting, rewritten-same}
+use Rattle.rewrite.proofs.Laws.Record.{segment-fits, rewritten-means, rewritten-view, as-many, segment-is, rewritten-allowed, rewriting-given, given-rewriting, rewritten-same}
 use Rattle.rewrite.proofs.Laws.Kept.{rewrites}
 
 -- ---- a segment that is there

@@ -9,12 +9,12 @@ use Rattle.bits.specs.ChoiceLaws.{eq-split}
 use Rattle.outcome.specs.Refusals.{tooLong}
 use Rattle.outcome.specs.Outcome.{Outcome, refused, room, numberOf, AnswersAs}
 use Rattle.outcome.specs.declared.Answer.{Answer}
-use Rattle.outcome.proofs.Laws.{own-number}
+use Rattle.outcome.proofs.Laws.{not-given, own-number}
 use Rattle.format.specs.declared.ViewName.{ViewName}
 use Rattle.rewrite.specs.Format.{frameOf, PayloadFormat}
 use Rattle.rewrite.specs.Called.{valuesGiven, readIn, readPayload, valuesSet, setIn, setPayload}
 use Rattle.rewrite.specs.Accepted.{itsView, itsSegment, BrokenReading, BrokenSetting}
-use Rattle.rewrite.proofs.Laws.Record.{not-given, rewriting-refused}
+use Rattle.rewrite.proofs.Laws.Record.{rewriting-refused}
 use Rattle.rewrite.proofs.Laws.Payload.{there-bytes, own-there, reading-is, reading-gives, setting-is, setting-says, reading-other, setting-other}
 
 none-said : {A : Type 0} (o : Option A) → ((a : A) → o ≡ some a → ⊥) → o ≡ none

@@ -14,6 +14,7 @@ use Rattle.bits.specs.ListsLaws.{all-at, all-set, along-at}
 use Rattle.bits.specs.Bytes.{Byte}
 use Rattle.outcome.specs.Refusals.{tooLong}
 use Rattle.outcome.specs.Outcome.{refused, given}
+use Rattle.outcome.proofs.Laws.{not-given}
 use Rattle.format.specs.Limits.{mostBytes}
 use Rattle.format.specs.Segments.{Segment, FitsSegment, segment, segment-length, segments}
 use Rattle.format.specs.View.{View, view, viewHeader}
@@ -48,10 +49,6 @@ module _ (w : Widths) (v : View) (place : ℕ) (payload : List ℕ) (l : place <
       (f .0, (f .1 .0, (omega (arith, z), all-set FitsSegment (v .segments) place g new (f .1 .1 .1))))
 
 -- ---- the record
-
--- what is refused is not given
-pub not-given : {X : Type 0} {e p : ℕ} {xs : List ℕ} → refused e p ≡ given xs → X
-not-given h = let z : _≡_ {A = ℕ} 0 1 = cc in absurd (omega arith)
 
 -- an allowed record's segments fit
 pub all-fit : (i : ℕ) (r : Record) → i < length (r .views) → Allowed r → All FitsSegment (viewAt r i .segments)

@@ -1,6 +1,6 @@
 -- The lists of an index: the numbers of a list in its field's bytes, their differences one by one, and the list's bits put.
-use mathlib.Core.Path.{_≡_, refl, sym, ap, ap₂, _∙_}
-use Prim.Native.Nat.{ℕ, zero, suc, _+_, _-_, _*_, _/_, _≤_, _<_}
+use mathlib.Core.Path.{_≡_, refl, sym, ap, _∙_}
+use Prim.Native.Nat.{ℕ, suc, _+_, _-_, _*_, _/_, _≤_, _<_}
 use native.Mathlib.Omega.{arith}
 use native.Mathlib.Numerals.{add-one}
 use mathlib.Core.List.{List, [], _∷_, _++_}
@@ -11,6 +11,7 @@ use Rattle.bits.specs.CodecLaws.{encAll, field}
 use Rattle.outcome.specs.Refusals.{badIndex}
 use Rattle.put_bytes.specs.HighFirst.{two, joined}
 use Rattle.put_bytes.proofs.Laws.{twos-length}
+use Rattle.put_bytes.proofs.Numbers as Numbers
 use Rattle.format.specs.Differences.{Falls, diffs}
 use Rattle.format.specs.DifferencesLaws.{length-diffs}
 use Rattle.format.specs.Index.{FitsList}
@@ -20,17 +21,6 @@ use Rattle.put_bits.specs.Put.{PutMore}
 use Rattle.put_bits.specs.Put.{Puts}
 use Rattle.write_blocks.specs.Lists.{ListWritten}
 use Rattle.put_bits.proofs.Chain.{puts-one, puts-none, _then_, puts-as, enc-snoc}
-
--- ---- a list's bytes
-
--- number i of the list is at bytes 2i and 2i + 1
-pub twos-at : (ns : List ℕ) (i : ℕ) → i < length ns → getD (joined two ns) (2 * i) 0 * 256 + getD (joined two ns) (2 * i + 1) 0 ≡ getD ns i 0
-twos-at [] i l = absurd (omega arith)
-twos-at (n ∷ ns) zero l = omega arith
-twos-at (n ∷ ns) (suc i) l =
-    let a : 2 * suc i ≡ suc (suc (2 * i)) = omega arith in
-    let b : 2 * suc i + 1 ≡ suc (suc (2 * i + 1)) = omega arith in
-    ap₂ (λ (x y : ℕ). getD (joined two (n ∷ ns)) x 0 * 256 + getD (joined two (n ∷ ns)) y 0) a b ∙ twos-at ns i (omega arith)
 
 -- ---- the loop over the numbers: i of them are put, and before is the one before the next
 
@@ -48,8 +38,11 @@ module _ (w l : ℕ) {s : List ℕ} (ns : List ℕ) (e : s ≡ joined two ns) wh
   pub numbers : length s / 2 ≡ length ns
   numbers = omega (arith, ap length e, twos-length ns)
 
+  -- number i of the list is at bytes 2i and 2i + 1
   pub number-at : {i n : ℕ} → i < length ns → n ≡ getD s (2 * i) 0 * 256 + getD s (2 * i + 1) 0 → n ≡ getD ns i 0
-  number-at {i} k z = z ∙ ap (λ (x : List ℕ). getD x (2 * i) 0 * 256 + getD x (2 * i + 1) 0) e ∙ twos-at ns i k
+  number-at {i} k z =
+      z ∙ ap (λ (x : List ℕ). getD x (2 * i) 0 * 256 + getD x (2 * i + 1) 0) e
+      ∙ sym (Numbers.number-at (joined two ns) i (omega (arith, twos-length ns))) ∙ ap (λ (x : List ℕ). getD x i 0) (Numbers.numbers-written ns)
 
   module _ {old now : List ℕ} {at p before i : ℕ} (g : ListGoing w l ns old at now p before i) where
     -- the place, and the buffer's length
