@@ -2,7 +2,6 @@
 -- whether a list holds bits.
 use Rattle.std.specs.Prelude.{ℕ, zero, suc, ◌+◌, ◌-◌, ◌*◌, ◌/◌, ◌%◌, ◌^◌, Bool, true, false, List, [], ◌∷◌, ◌++◌, length, replicate}
 
-
 abbrev pub Bits : Type 0
 Bits = List Bool
 

@@ -8,7 +8,6 @@ pub mod Codec
 pub mod CodecLaws
 pub mod RefusingLaws
 pub mod Block
-pub mod BlockLaws
 pub mod SizedLaws
 pub mod ExactLaws
 pub mod Bytes

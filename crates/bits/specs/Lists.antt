@@ -1,7 +1,6 @@
 -- What holds of every element of a list, alone (`All`) or by what the elements before it say (`Along`); tests over a list, and sums.
 use Rattle.std.specs.Prelude.{ℕ, ◌+◌, Bool, true, false, ◌&&◌, List, [], ◌∷◌}
 
-
 abbrev pub All : {A : Type 0} → (A → Type 0) → List A → Type 0
 All P [] = Unit {0}
 All P (x ∷ xs) = P x × All P xs

@@ -10,7 +10,6 @@ use Rattle.bits.specs.declared.Taken.TheVariants as tk
 use Rattle.bits.specs.declared.ranged.RangedAt.{RangedAt}
 use Rattle.bits.specs.declared.ranged.RangedAt.TheVariants as rg
 
-
 pub data Found (A : Type 0) : Type 0 where
   found : A → ℕ → Found A
   fault : ℕ → ℕ → Found A

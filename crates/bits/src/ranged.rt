@@ -7,7 +7,7 @@ ghost use Rattle.bits.specs.Reads.{Reads, ranged_at};
 use crate::{Cursor, Taken};
 
 // The byte's value and the cursor behind it; or its own place, where it is refused.
-#[derive(Drop)]
+#[derive(Clone, Copy)]
 pub enum RangedAt {
     At(usize, Cursor),
     Outside(usize),

@@ -7,7 +7,7 @@ use Rattle.bits.specs.BitsLaws.{length_bits}
 use Rattle.bits.specs.Codec.{Codec}
 use Rattle.bits.specs.CodecLaws.{field, then, fixed, Matches}
 use Rattle.bits.specs.Block.{Block}
-use Rattle.bits.specs.BlockLaws.{fill}
+use Rattle.bits.proofs.BlockLaws.{fill}
 use Rattle.bits.specs.SizedLaws.{ahead, recast, headed, prefixed}
 use Rattle.bits.specs.ExactLaws.{exact}
 use Rattle.outcome.specs.Refusals.{bad_object}

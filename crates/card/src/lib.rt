@@ -1,4 +1,6 @@
 // The sizes of a card's object, and what each fixes of a record. The object's format is in specs/.
+#![tactic(auto)]
+
 ghost use Rattle.std.specs.Prelude.{◌≡◌};
 ghost use Rattle.card.specs.Size.{scale_of, same_scale};
 ghost use Rattle.card.specs.Sizes.{known_scale};
@@ -6,7 +8,7 @@ ghost use Rattle.card.specs.Sizes.{known_scale};
 use format::{Scale, Widths};
 
 // What the number of a size stands for.
-#[derive(Drop)]
+#[derive(Clone, Copy)]
 pub enum CardScale {
     Known(Scale),
     Unknown,

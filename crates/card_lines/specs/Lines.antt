@@ -8,7 +8,6 @@ use Rattle.format.specs.declared.Widths.{Widths}
 use Rattle.card_lines.specs.declared.Lined.{Lined}
 use Rattle.card_lines.specs.declared.Lined.TheVariants as l
 
-
 unfoldable pub lines_dec : Widths → Bits → Read Bool ℕ
 lines_dec w s = keeping length ((skeleton w).dec s)
 

@@ -1,5 +1,7 @@
 // The judge of a skeleton block that is lent as a slice of its own, as the one inside a card's object is. It says how many lines the
 // block has, or the number of its refusal and the place, in bits.
+#![tactic(auto)]
+
 ghost use Rattle.std.specs.Prelude.{◌≤◌, length};
 ghost use Rattle.bits.specs.Reads.{Reads};
 ghost use Rattle.card_lines.specs.Lines.{lines_dec, lined};
@@ -10,7 +12,7 @@ use judge_zeros::{Cleared, zeros_at};
 use outcome::Refusal;
 
 // What the judge of the block answers.
-#[derive(Drop)]
+#[derive(Clone, Copy)]
 pub enum Lined {
     Lines(usize),
     Refused(u32, usize),

@@ -15,7 +15,7 @@ use Rattle.bits.specs.BitsLaws.{length_bits}
 use Rattle.bits.specs.Bytes.{Byte, bits_of, bytes_of}
 use Rattle.bits.specs.BytesLaws.{length_bits_of}
 use Rattle.bits.specs.Codec as C
-use Rattle.bits.specs.BlockLaws.{many_from}
+use Rattle.bits.proofs.BlockLaws.{many_from}
 use Rattle.bits.specs.Reads.{found, fault, Reads}
 use Rattle.bits.proofs.Laws.Reads.{keeping_got, keeping_refused}
 use Rattle.bits.proofs.Laws.Parts.{part, part_length, part_bytes}

@@ -18,7 +18,6 @@ use Rattle.card_shape.specs.declared.Value.{Value}
 use Rattle.card_reading.specs.declared.FoundCard.{FoundCard}
 use Rattle.card_reading.specs.declared.FoundCard.TheVariants as f
 
-
 -- ---- what is asked of a size
 
 abbrev pub NarrowWidths : Widths → Type 0

@@ -1,4 +1,6 @@
 // The record of a card's object: the object is judged, then its value is laid down as a view, behind a header of its own.
+#![tactic(auto)]
+
 ghost use Rattle.std.specs.Prelude.{◌+◌, ◌≤◌, ◌<◌, length};
 ghost use Rattle.put_bytes.specs.Laid.{Laid};
 ghost use Rattle.outcome.specs.Outcome.{Answers};
@@ -16,7 +18,7 @@ use outcome::{Answer, Refusal, accept, refuse, refuse_at};
 use put_bytes::{copy, put_three, put_two};
 
 // The value of an object whose shape, lines and index are right; or the number and the place of the refusal: 27, then 8 to 10.
-#[derive(Drop)]
+#[derive(Clone, Copy)]
 pub enum FoundCard {
     At(Value),
     Refused { number: u32, place: u32 },

@@ -1,5 +1,7 @@
 // Runs of start coordinates: a run of 16-bit numbers, two bytes each, to its low bytes, and low bytes back to a run. Each call goes over
 // what it is lent twice: the first time it judges, the second time it writes.
+#![tactic(auto)]
+
 ghost use Rattle.std.specs.Prelude.{◌≡◌, ◌*◌, ◌/◌, ◌≤◌, length, T};
 ghost use Rattle.put_bytes.specs.Laid.{Laid};
 ghost use Rattle.put_bytes.specs.HighFirst.{two, joined, numbers_in};

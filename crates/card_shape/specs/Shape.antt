@@ -21,7 +21,6 @@ use Rattle.card_shape.specs.declared.Value.{Value}
 use Rattle.card_shape.specs.declared.Shape.{Shape}
 use Rattle.card_shape.specs.declared.Shape.TheVariants as s
 
-
 -- the bytes are refused with 27, wherever
 pub record Bad {A : Type 0} (d : Bits → Read Bool A) (bytes : List ℕ) : Type 0 where
   pub place : ℕ

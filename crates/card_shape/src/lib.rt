@@ -1,5 +1,7 @@
 // The shape of a card's object: template 7F2E, object 90 first in it, the two blocks of 90's value, and whatever objects follow. What is
 // found is where the value and its blocks stand; their bytes are not judged here.
+#![tactic(auto)]
+
 ghost use Rattle.std.specs.Prelude.{◌+◌, ◌≤◌, length};
 ghost use Rattle.card_shape.specs.Shape.{LengthFound, ValueFound, OthersFound, BlocksFound, TemplateFound, ShapeFound};
 
@@ -7,7 +9,7 @@ use bits::{two_at, wide};
 use find_parts::view::Part;
 
 // The tags of the two objects that the library knows.
-#[derive(Drop)]
+#[derive(Clone, Copy)]
 pub struct Tag;
 
 impl Tag {
@@ -17,21 +19,21 @@ impl Tag {
 }
 
 // A length and the byte behind it, or one that is cut or not in its shortest form.
-#[derive(Drop)]
+#[derive(Clone, Copy)]
 pub enum LengthAt {
     At { length: usize, next: usize },
     Bad,
 }
 
 // The value behind a length, or one that is cut.
-#[derive(Drop)]
+#[derive(Clone, Copy)]
 pub enum ValueAt {
     At(Part),
     Bad,
 }
 
 // The byte of the index's length in a value, or a value whose blocks do not fill it.
-#[derive(Drop)]
+#[derive(Clone, Copy)]
 pub enum BlocksIn {
     At(usize),
     Bad,
@@ -39,14 +41,14 @@ pub enum BlocksIn {
 
 // The value of object 90 from byte `from` up to byte `to`, with the index's length at byte `index`: the skeleton block stands from byte
 // from + 6 up to there, the index block behind it up to `to`.
-#[derive(Drop)]
+#[derive(Clone, Copy)]
 pub struct Value {
     pub from: usize,
     pub index: usize,
     pub to: usize,
 }
 
-#[derive(Drop)]
+#[derive(Clone, Copy)]
 pub enum Shape {
     At(Value),
     Bad,

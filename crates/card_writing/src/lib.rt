@@ -1,5 +1,7 @@
 // The card's object of a view: the record is judged and the view found, then its bytes from the width up to the end of the index are laid
 // down as the value of object 90.
+#![tactic(auto)]
+
 ghost use Rattle.outcome.specs.Outcome.{Answers};
 ghost use Rattle.card.specs.Card.{card_write};
 ghost use Rattle.card_writing.specs.Writing.{LengthBytes, LengthRoom, LengthLaid, TaggedShort, TaggedBytes, ValueShort, InnerRoom, InnerLaid, ObjectRoom, ObjectLaid, ObjectGiven};

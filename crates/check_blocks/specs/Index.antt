@@ -13,7 +13,6 @@ use Rattle.check_blocks.specs.Run.{RightAre}
 use Rattle.check_blocks.specs.declared.run.Counted.{Counted}
 use Rattle.check_blocks.specs.declared.run.Counted.TheVariants as counted
 
-
 -- the index of a view with `lines` lines
 pub record IndexToCheck (s : List ℕ) (p : ℕ) (fs : List Field) : Type 0 where
   pub stand : FieldsAt s p fs

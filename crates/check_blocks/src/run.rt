@@ -11,14 +11,14 @@ use check_value::list::list_value;
 use format::Widths;
 
 // The byte behind them, and what they take in a record: bits, or for a whole index the bytes of its block; or a value is wrong.
-#[derive(Drop)]
+#[derive(Clone, Copy)]
 pub enum Counted {
     Right { next: usize, size: usize },
     Wrong,
 }
 
 // The byte behind the segments, and the bytes that they take.
-#[derive(Drop)]
+#[derive(Clone, Copy)]
 pub struct Extended {
     pub end: usize,
     pub bytes: usize,

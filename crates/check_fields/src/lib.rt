@@ -1,4 +1,6 @@
 // The fields of a sheet, one behind the other: whether each is whole, and what each starts with.
+#![tactic(auto)]
+
 ghost use Rattle.check_fields.specs.Fields.{Whole};
 
 use bits::two_at;

@@ -22,7 +22,7 @@ use Rattle.bits.proofs.Laws.Parts.{some_left, drop_end}
 use Rattle.outcome.specs.Refusals.{bad_value}
 use Rattle.format.specs.Line.{Line}
 use Rattle.format.specs.declared.Widths.{Widths}
-use Rattle.sheet.specs.Code.{sign_extended, code_ok}
+use Rattle.sheet_codes.specs.Code.{sign_extended, code_ok}
 use Rattle.sheet.specs.Values.{few_bits, end_value, code_value, line_value}
 use Rattle.sheet.proofs.Laws.Lengths.{length_line}
 use Rattle.check_value.specs.Worth.{Wrong, Tested}

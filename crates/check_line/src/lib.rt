@@ -1,6 +1,8 @@
 // The value of a line, 03: two ends of six bytes each, then a byte for each code. Numbers fit the widths of the header.
+#![tactic(auto)]
+
 ghost use Rattle.std.specs.Prelude.{◌≡◌, ◌+◌, ◌-◌, ◌*◌, ◌≤◌, ◌<◌, length};
-ghost use Rattle.sheet.specs.Code.{code_ok};
+ghost use Rattle.sheet_codes.specs.Code.{code_ok};
 ghost use Rattle.sheet.specs.Values.{end_value, line_value};
 ghost use Rattle.check_value.specs.Worth.{Tested};
 ghost use Rattle.check_line.specs.Parts.{Passes, codes_dec};

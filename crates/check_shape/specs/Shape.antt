@@ -14,7 +14,6 @@ use Rattle.check_shape.specs.declared.PassedFields.TheVariants as passed
 use Rattle.check_shape.specs.declared.PartEnd.{PartEnd}
 use Rattle.check_shape.specs.declared.PartEnd.TheVariants as end
 
-
 -- fields stand from byte p on
 pub record Standing (s : List ℕ) (p : ℕ) : Type 0 where
   pub value : List Field

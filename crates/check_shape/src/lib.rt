@@ -1,5 +1,7 @@
 // Whether the fields of a sheet obey its grammar: their tags, their order, their lengths and how many they are. No field is cut, so
 // that code goes from field to field by the lengths; it goes over them once, and looks at no value.
+#![tactic(auto)]
+
 ghost use Rattle.std.specs.Prelude.{◌<◌};
 ghost use Rattle.check_fields.specs.Fields.{Fields};
 ghost use Rattle.check_shape.specs.Shape.{Standing, Starts, Begins, Passes, IndexEnds, ViewEnds, Shape};
@@ -8,7 +10,7 @@ use bits::{two_at, wide};
 use format::ViewHeader;
 
 // Fields that may come several times: their tag, and the lengths that their values may have, from least to most by step.
-#[derive(Drop)]
+#[derive(Clone, Copy)]
 struct Kind {
     tag: usize,
     least: usize,
@@ -40,14 +42,14 @@ impl Kind {
 }
 
 // How many fields were passed, and the byte behind them; or one has a wrong length.
-#[derive(Drop)]
+#[derive(Clone, Copy)]
 enum PassedFields {
     Right { count: usize, next: usize },
     Wrong,
 }
 
 // The byte behind a part of the sheet; or the part is wrong.
-#[derive(Drop)]
+#[derive(Clone, Copy)]
 enum PartEnd {
     At(usize),
     Wrong,

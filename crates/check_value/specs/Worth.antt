@@ -15,7 +15,6 @@ use Rattle.check_value.specs.declared.header.HeadWorth.TheVariants as v
 use Rattle.check_value.specs.declared.list.WidthWorth.{WidthWorth}
 use Rattle.check_value.specs.declared.list.WidthWorth.TheVariants as w
 
-
 -- ---- the value s of a field whose format is b
 
 module _ {A : Type 0} (b : Block A) (s : List ℕ) where

@@ -9,13 +9,13 @@ use format::{Header, ViewHeader};
 use judge_heads::header::{ScaleAt, scale_at};
 use judge_heads::view::{HeadFieldsAt, head_fields};
 
-#[derive(Drop)]
+#[derive(Clone, Copy)]
 pub enum HeaderWorth {
     Right(Header),
     Wrong,
 }
 
-#[derive(Drop)]
+#[derive(Clone, Copy)]
 pub enum HeadWorth {
     Right(ViewHeader),
     Wrong,

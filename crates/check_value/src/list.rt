@@ -8,7 +8,7 @@ use crate::narrow::narrow;
 use bits::Cursor;
 use bits::ranged::{RangedAt, ranged_at};
 
-#[derive(Drop)]
+#[derive(Clone, Copy)]
 pub enum WidthWorth {
     Right(usize),
     Wrong,

@@ -12,7 +12,6 @@ use Rattle.check_fields.specs.Fields.{FieldsAt}
 use Rattle.check_values.specs.declared.Valued.{Valued}
 use Rattle.check_values.specs.declared.Valued.TheVariants as valued
 
-
 pub record ValuesThere (s : List ℕ) : Type 0 where
   pub value : List Field
   pub reads : fields.dec (bits_of s) ≡ got value []

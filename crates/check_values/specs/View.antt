@@ -15,7 +15,6 @@ use Rattle.check_values.specs.declared.view.Sized.{Sized}
 use Rattle.check_values.specs.declared.view.ViewWorth.{ViewWorth}
 use Rattle.check_values.specs.declared.view.ViewWorth.TheVariants as worth
 
-
 pub record ViewToCheck (s : List ℕ) (p : ℕ) (fs : List Field) : Type 0 where
   pub stand : FieldsAt s p fs
   pub right : T (view_right fs)

@@ -1,5 +1,7 @@
 // Whether all values of a sheet are right, and how many bytes its record takes: refusal 22 over the whole sheet. No field is cut and
 // the grammar holds, so that code goes from field to field by their tags and lengths, once.
+#![tactic(auto)]
+
 ghost use Rattle.check_values.specs.Sheet.{ValuesThere, ValuesAre};
 
 use crate::view::{ViewWorth, view_values};
@@ -9,7 +11,7 @@ use format::Header;
 mod view; // a view
 
 // How many views there are, and the bytes of the record; or a value is wrong.
-#[derive(Drop)]
+#[derive(Clone, Copy)]
 pub enum Valued {
     Right { views: usize, bytes: usize },
     Wrong,

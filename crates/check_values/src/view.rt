@@ -10,14 +10,14 @@ use check_value::header::{HeadWorth, head_value};
 use format::Widths;
 
 // The byte behind a view's fields, the position in its header, and the bytes that it takes.
-#[derive(Drop)]
+#[derive(Clone, Copy)]
 pub struct Sized {
     pub end: usize,
     pub position: usize,
     pub bytes: usize,
 }
 
-#[derive(Drop)]
+#[derive(Clone, Copy)]
 pub enum ViewWorth {
     Right(Sized),
     Wrong,

@@ -6,7 +6,7 @@ use crate::view::{Blocks, Part};
 use format::{ViewHeader, Widths};
 
 // The view's blocks, how many lines it has, and the widths of their fields.
-#[derive(Drop)]
+#[derive(Clone, Copy)]
 pub struct Site {
     pub skeleton: Part,
     pub index: Part,

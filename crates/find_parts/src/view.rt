@@ -7,7 +7,7 @@ use bits::Cursor;
 use format::{Header, ViewName};
 
 // A part of the bytes: from its first byte up to the byte behind it.
-#[derive(Drop)]
+#[derive(Clone, Copy)]
 pub struct Part {
     pub from: usize,
     pub to: usize,
@@ -15,7 +15,7 @@ pub struct Part {
 
 // The blocks of a view, each behind its length: the index's length stands behind the skeleton block, the extended length behind the
 // index block.
-#[derive(Drop)]
+#[derive(Clone, Copy)]
 pub struct Blocks {
     pub skeleton: Part,
     pub index: Part,

@@ -14,7 +14,6 @@ use Rattle.find_segment.specs.declared.Spot.{Spot}
 use Rattle.find_segment.specs.declared.FoundSegment.{FoundSegment}
 use Rattle.find_segment.specs.declared.FoundSegment.TheVariants as f
 
-
 -- x is where the segment at that place of view i of the record r stands in its bytes s: behind its view's blocks and the segments
 -- before it
 pub record SpotOf (r : Record) (s : List ℕ) (i place : ℕ) (x : Spot) : Type 0 where

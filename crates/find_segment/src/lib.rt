@@ -1,5 +1,7 @@
 // The segment that a call names, in any bytes: its view is found, then the segments before it are passed. Every call on a segment
 // begins here.
+#![tactic(auto)]
+
 ghost use Rattle.std.specs.Prelude.{◌+◌, ◌≤◌};
 ghost use Rattle.find_segment.specs.Found.{FindsSegment, SpotThere, LinesOf};
 
@@ -12,7 +14,7 @@ use format::{Image, ViewHeader, ViewName, Widths};
 use outcome::Refusal;
 
 // Of its view the size of the image, the widths of lines' fields, the skeleton block and the extended block; its type, and its payload.
-#[derive(Drop)]
+#[derive(Clone, Copy)]
 pub struct Spot {
     pub image: Image,
     pub widths: Widths,
@@ -23,7 +25,7 @@ pub struct Spot {
 }
 
 // Where the segment stands; or the number of the refusal, 1 to 13 or 23, and the bit that it is about.
-#[derive(Drop)]
+#[derive(Clone, Copy)]
 pub enum FoundSegment {
     At(Spot),
     Refused { number: u32, bit: u32 },

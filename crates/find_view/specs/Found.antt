@@ -12,7 +12,6 @@ use Rattle.find_parts.specs.declared.view.Blocks.{Blocks}
 use Rattle.find_view.specs.declared.FoundView.{FoundView}
 use Rattle.find_view.specs.declared.FoundView.TheVariants as f
 
-
 -- the bytes s are a record's whose scale is c, and the blocks of the view that is named stand at x
 pub record Stands (s : List ℕ) (view : ViewName) (c : Scale) (x : Blocks) : Type 0 where
   pub value : Record

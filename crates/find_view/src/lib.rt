@@ -1,5 +1,7 @@
 // The view that a call names, by finger position and view number, in any bytes: the record is judged, then the view is found. Every call
 // on a view begins here.
+#![tactic(auto)]
+
 ghost use Rattle.find_view.specs.Found.{FindsView};
 
 use find_parts::view::{Blocks, blocks_at, view_named};
@@ -8,7 +10,7 @@ use judge::{Verdict, judge};
 use outcome::Refusal;
 
 // The header's scale, and where the view's blocks stand; or the number and the place of the refusal, 1 to 13.
-#[derive(Drop)]
+#[derive(Clone, Copy)]
 pub enum FoundView {
     At(Scale, Blocks),
     Refused { number: u32, place: u32 },

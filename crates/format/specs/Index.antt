@@ -8,9 +8,9 @@ use Rattle.bits.specs.BitsLaws.{length_bits}
 use Rattle.bits.specs.Codec.{Codec}
 use Rattle.bits.specs.CodecLaws.{field, then, via, along, ranged}
 use Rattle.bits.specs.Block.{Block}
-use Rattle.bits.specs.BlockLaws.{ended, maybe}
+use Rattle.bits.proofs.BlockLaws.{ended, maybe}
 use Rattle.outcome.specs.Refusals.{bad_index}
-use Rattle.format.specs.Differences.{diff, tell_difference}
+use Rattle.differences.specs.Differences.{diff, tell_difference}
 pub use Rattle.format.specs.Parts.{FitsList, Index, up, FitsIndex}
 use Rattle.format.specs.Parts.{make_list, differences_of, make_index, parts_of_index}
 use Rattle.format.specs.PartsLaws.{list_matches, index_matches}

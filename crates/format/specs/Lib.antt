@@ -1,6 +1,4 @@
 pub mod Limits
-pub mod Differences
-pub mod DifferencesLaws
 pub mod Parts
 pub mod PartsLaws
 pub mod Line

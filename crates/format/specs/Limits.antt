@@ -1,7 +1,6 @@
 -- The limits of a record.
 use Rattle.std.specs.Prelude.{ℕ}
 
-
 -- "At most 1,024 lines."
 unfoldable pub most_lines : ℕ
 most_lines = 1024

@@ -8,7 +8,7 @@ use Rattle.bits.specs.Codec.{Codec}
 use Rattle.bits.specs.CodecLaws.{field, then, via, counted}
 use Rattle.bits.specs.RefusingLaws.{whole}
 use Rattle.bits.specs.Block.{Block}
-use Rattle.bits.specs.BlockLaws.{many}
+use Rattle.bits.proofs.BlockLaws.{many}
 use Rattle.outcome.specs.Refusals.{bad_line, too_many_lines}
 use Rattle.format.specs.Limits.{most_lines}
 pub use Rattle.format.specs.Parts.{EndFits, Line, FitsEnd, FitsLine}

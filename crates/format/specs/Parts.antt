@@ -8,7 +8,7 @@ use Rattle.bits.specs.Bytes.{Byte}
 use Rattle.bits.specs.Codec.{Codec}
 use Rattle.bits.specs.CodecLaws.{field, then, Ranged, ranged}
 use Rattle.bits.specs.RefusingLaws.{judged}
-use Rattle.format.specs.Differences.{Falls, diffs, undiffs}
+use Rattle.differences.specs.Differences.{Falls, diffs, undiffs}
 use Rattle.format.specs.declared.Widths.{Widths}
 use Rattle.format.specs.declared.End.{End}
 use Rattle.format.specs.declared.ViewHeader.{ViewHeader}

@@ -10,8 +10,8 @@ use Rattle.bits.specs.BitsLaws.{length_bits}
 use Rattle.bits.specs.Bytes.{Byte}
 use Rattle.bits.specs.Codec.{Codec}
 use Rattle.bits.specs.CodecLaws.{Matches, enc_all, field, Ranged}
-use Rattle.format.specs.Differences.{diffs}
-use Rattle.format.specs.DifferencesLaws.{Steps, length_diffs, length_undiffs, undiffs_diffs, falls_steps, steps_falls}
+use Rattle.differences.specs.Differences.{diffs}
+use Rattle.differences.proofs.DifferencesLaws.{Steps, length_diffs, length_undiffs, undiffs_diffs, falls_steps, steps_falls}
 use Rattle.format.specs.Parts.{EndFits, end_numbers, numbers_of_end, make_end, Line, FitsEnd, FitsLine, parts_of_line, make_line, FitsList, differences_of, make_list, Index, up, FitsIndex, parts_of_index, make_index, Segment, FitsSegment, parts_of_segment, make_segment, FitsHead, head_numbers, numbers_of_head, make_head, View, parts_of_view, make_view, FitsScale, scale_numbers, numbers_of_scale, make_scale, FitsHeader, fields_of_header, make_header, RecordFits, parts_of_record, make_record}
 use Rattle.format.specs.declared.Widths.{Widths}
 use Rattle.format.specs.declared.ViewHeader.{ViewHeader}

@@ -7,7 +7,7 @@ use Rattle.bits.specs.Codec.{Codec}
 use Rattle.bits.specs.CodecLaws.{field, then, via, only, times}
 use Rattle.bits.specs.RefusingLaws.{whole, room}
 use Rattle.bits.specs.Block.{Block}
-use Rattle.bits.specs.BlockLaws.{fill}
+use Rattle.bits.proofs.BlockLaws.{fill}
 use Rattle.outcome.specs.Refusals.{bad_segment}
 pub use Rattle.format.specs.Parts.{Segment, FitsSegment}
 use Rattle.format.specs.Parts.{make_segment, parts_of_segment}

@@ -1,7 +1,8 @@
 // The parts of a record that code passes by value. Their formats, and the rules they obey, are in specs/.
+#![tactic(auto)]
 
 // Bits of a coordinate, of a start or end direction and of a direction code.
-#[derive(Drop)]
+#[derive(Clone, Copy)]
 pub struct Widths {
     pub c: usize,
     pub b: usize,
@@ -10,7 +11,7 @@ pub struct Widths {
 
 // Bytes 15 to 21 of a record: points per cm, widths, straight step, 256 times perpendicular over straight step, and half, the
 // directions in a half turn (N).
-#[derive(Drop)]
+#[derive(Clone, Copy)]
 pub struct Scale {
     pub points: usize,
     pub widths: Widths,
@@ -20,7 +21,7 @@ pub struct Scale {
 }
 
 // A record's header, without what the rest of the record says. Certificates and device are one number of 16 bits.
-#[derive(Drop)]
+#[derive(Clone, Copy)]
 pub struct Header {
     pub device: usize,
     pub scale: Scale,
@@ -36,7 +37,7 @@ impl Header {
 }
 
 // A view's header, without the length of its skeleton.
-#[derive(Drop)]
+#[derive(Clone, Copy)]
 pub struct ViewHeader {
     pub number: usize,
     pub position: usize,
@@ -52,21 +53,21 @@ impl ViewHeader {
 }
 
 // How a call names a view: finger position and view number.
-#[derive(Drop)]
+#[derive(Clone, Copy)]
 pub struct ViewName {
     pub finger: u32,
     pub number: u32,
 }
 
 // The image of a finger that a view was made from: its size in points.
-#[derive(Drop)]
+#[derive(Clone, Copy)]
 pub struct Image {
     pub width: usize,
     pub height: usize,
 }
 
 // The types of segments whose payload has a format here.
-#[derive(Drop)]
+#[derive(Clone, Copy)]
 pub struct SegmentType;
 
 impl SegmentType {
@@ -76,7 +77,7 @@ impl SegmentType {
 }
 
 // Where a line starts or ends. Kinds: 0 imaginary end, 1 ridge end, 2 bifurcation, 3 imaginary continuation.
-#[derive(Drop)]
+#[derive(Clone, Copy)]
 pub struct End {
     pub kind: usize,
     pub direction: usize,

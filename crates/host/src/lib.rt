@@ -1,4 +1,6 @@
 // The calls that a host written in C links. Each is a call of the library under its C name; host/fsk.h explains them.
+#![tactic(auto)]
+
 ghost use Rattle.std.specs.Prelude.{◌≡◌, true, false};
 ghost use Rattle.outcome.specs.Outcome.{Answers, AnswersInBytes, AnswersInFours};
 ghost use Rattle.format.specs.Named.{named};

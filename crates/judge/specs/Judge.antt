@@ -8,7 +8,6 @@ use Rattle.format.specs.declared.Header.{Header}
 use Rattle.judge.specs.declared.Verdict.{Verdict}
 use Rattle.judge.specs.declared.Verdict.TheVariants as v
 
-
 -- what is kept of a record
 abbrev pub Summary : Type 0
 Summary = Header × (ℕ × ℕ)

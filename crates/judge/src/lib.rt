@@ -1,4 +1,6 @@
 // The judge of a record: refused, by its number and place; or accepted, with what every call needs of it.
+#![tactic(auto)]
+
 ghost use Rattle.judge.specs.Judge.{Judges};
 
 use format::Header;
@@ -8,7 +10,7 @@ use judge_views::judge_views;
 use outcome::Refusal;
 
 // An accepted record's header, how many views it has, and the bytes of its sheet.
-#[derive(Drop)]
+#[derive(Clone, Copy)]
 pub enum Verdict {
     Accepted {
         header: Header,

@@ -17,7 +17,6 @@ use Rattle.judge_blocks.specs.declared.Reached.TheVariants as r
 use Rattle.judge_blocks.specs.declared.block.WholeBlock.{WholeBlock}
 use Rattle.judge_blocks.specs.declared.block.WholeBlock.TheVariants as k
 
-
 -- ---- answers
 
 -- the judge of the whole block s

@@ -6,7 +6,7 @@ ghost use Rattle.judge_blocks.specs.Answers.{Behind};
 use bits::Cursor;
 
 // The block's first byte and the byte behind its last; or the place of the length or the block, whichever passes the end.
-#[derive(Drop)]
+#[derive(Clone, Copy)]
 pub enum WholeBlock {
     At { from: usize, to: usize },
     Past(usize),

@@ -18,7 +18,6 @@ use Rattle.judge_heads.specs.declared.header.ScaleAt.TheVariants as f
 use Rattle.judge_heads.specs.declared.header.HeaderAt.{HeaderAt}
 use Rattle.judge_heads.specs.declared.header.HeaderAt.TheVariants as g
 
-
 -- ---- answers
 
 -- n is the refusal of a value

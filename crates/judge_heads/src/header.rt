@@ -11,14 +11,14 @@ use format::{Header, Scale, Widths};
 use outcome::Refusal;
 
 // A record's header with how many views there are, or a refusal.
-#[derive(Drop)]
+#[derive(Clone, Copy)]
 pub enum HeaderAt {
     At(Header, usize),
     Refused(u32, usize),
 }
 
 // A scale and the cursor behind it, or the place of the field outside its range.
-#[derive(Drop)]
+#[derive(Clone, Copy)]
 pub enum ScaleAt {
     At(Scale, Cursor),
     Outside(usize),

@@ -9,14 +9,14 @@ use format::ViewHeader;
 use outcome::Refusal;
 
 // A view's header with its skeleton's length, or a refusal.
-#[derive(Drop)]
+#[derive(Clone, Copy)]
 pub enum Headed {
     At(ViewHeader, usize),
     Refused(u32, usize),
 }
 
 // The header's fields and the cursor behind them, or the place of the first that is not right.
-#[derive(Drop)]
+#[derive(Clone, Copy)]
 pub enum HeadFieldsAt {
     At(ViewHeader, Cursor),
     Wrong(usize),

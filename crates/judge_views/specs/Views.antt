@@ -10,7 +10,6 @@ use Rattle.format.specs.declared.Widths.{Widths}
 use Rattle.judge_blocks.specs.declared.Reached.{Reached}
 use Rattle.judge_blocks.specs.declared.Reached.TheVariants as r
 
-
 -- of the views, their bytes in the sheet are kept
 unfoldable pub views_dec : Widths → ℕ → Bits → Read Bool ℕ
 views_dec w n s = keeping (total view_size) ((views w n).dec s)

@@ -1,4 +1,6 @@
 // The nest over views, lines and codes. What refuses leaves it by one label, from whatever depth.
+#![tactic(auto)]
+
 ghost use Rattle.std.specs.Prelude.{◌≡◌, ◌≤◌, length};
 ghost use Rattle.bits.specs.Reads.{Reads};
 ghost use Rattle.judge_blocks.specs.Answers.{reached};
@@ -14,7 +16,7 @@ use judge_zeros::{Cleared, zeros_at};
 use outcome::Refusal;
 
 // What the nest needs of a view's header: its position, and the length of the skeleton block.
-#[derive(Drop)]
+#[derive(Clone, Copy)]
 struct Opened {
     position: usize,
     len: usize,

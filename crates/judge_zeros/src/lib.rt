@@ -1,4 +1,6 @@
 // The zero bits that fill a block up to its end.
+#![tactic(auto)]
+
 ghost use Rattle.std.specs.Prelude.{ℕ, ◌-◌, ◌*◌, ◌^◌, ◌≤◌, ◌<◌, length};
 ghost use Rattle.bits.specs.Block.{zeros_dec};
 ghost use Rattle.bits.specs.Reads.{Reads};
@@ -7,7 +9,7 @@ ghost use Rattle.judge_zeros.specs.Zeros.{cleared};
 use bits::{Cursor, pow2};
 
 // All bits are zero, or the place of the first that is not.
-#[derive(Drop)]
+#[derive(Clone, Copy)]
 pub enum Cleared {
     All,
     One(usize),

@@ -1,9 +1,11 @@
 // The eleven finger names, from one fixed table, by finger position.
+#![tactic(auto)]
+
 ghost use Rattle.std.specs.Prelude.{◌≡◌, ◌<◌, ◌≤◌};
 ghost use Rattle.list_fingers.specs.Fingers.{finger_of};
 
 // A name's bytes, the first len of twelve.
-#[derive(Drop)]
+#[derive(Clone, Copy)]
 pub struct Name {
     pub text: [u8; 12],
     pub len: usize,

@@ -12,7 +12,6 @@ use Rattle.find_parts.specs.Stands.{ViewAt}
 use Rattle.list_numbers.specs.Listing.{Listed, listed}
 use Rattle.list_numbers.specs.declared.Listed as d
 
-
 -- ---- the pairs in the index block s of a view with `lines` lines
 
 abbrev pub entries : Option Index → ℕ

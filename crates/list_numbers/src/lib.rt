@@ -1,5 +1,7 @@
 // The numbers of the listing for one view of an accepted record. The judge has accepted the view, so that its parts are counted by the
 // lengths and counts that it states.
+#![tactic(auto)]
+
 ghost use Rattle.bits.specs.OfBlock.{BlockThere};
 ghost use Rattle.format.specs.Index.{index_block};
 ghost use Rattle.list_numbers.specs.Counts.{PairsCounted, ListedThere, ListedAt};
@@ -11,7 +13,7 @@ use find_parts::view::blocks_at;
 use format::{ViewHeader, Widths};
 
 // What is listed of a view, and the byte behind it. A view without an index has no pairs.
-#[derive(Drop)]
+#[derive(Clone, Copy)]
 pub struct Listed {
     pub position: usize,
     pub number: usize,

@@ -1,100 +1,87 @@
 // A record's listing, printed: `refused N`, or a line with length and views and one for each view.
+#![tactic(auto)]
+
 ghost use Rattle.std.specs.Prelude.{◌≤◌, ◌<◌};
 ghost use Rattle.list_text.specs.Views.{ViewsToList};
 
 use format::{Header, Widths};
 use judge::{Verdict, judge};
-use libc::STDOUT_FILENO;
 use list_fingers::finger;
 use list_numbers::{Listed, listed_at};
+use std::io;
 
-pub fn text(bytes: &[u8]) {
-    io::write_all(STDOUT_FILENO, bytes);
+pub fn text(rt: &impl Print, bytes: &[u8]) -> io::Result<()> {
+    rt.write_all(bytes)
 }
 
-pub fn number(n: usize) {
-    io::print_decimal(STDOUT_FILENO, n as u64);
+pub fn number(rt: &impl Print, n: usize) -> io::Result<()> {
+    print!(rt; "{n}")
 }
 
-pub fn refused(n: u32) {
-    text(b"refused ");
-    number(n as usize);
-    text(b"\n");
+pub fn refused(rt: &impl Print, n: u32) -> io::Result<()> {
+    println!(rt; "refused {n}")
 }
 
 // The line of a record.
-fn record_line(bytes: usize, views: usize) {
-    text(b"record ");
-    number(bytes);
-    text(b" views ");
-    number(views);
-    text(b"\n");
+fn record_line(rt: &impl Print, bytes: usize, views: usize) -> io::Result<()> {
+    println!(rt; "record {bytes} views {views}")
 }
 
 // The first len of a name's twelve bytes.
-fn front(name: &[u8; 12], len: usize)
+fn front(rt: &impl Print, name: &[u8; 12], len: usize) -> io::Result<()>
     requires { len ≤ 12 }
 {
-    let all: &[u8] = name;
-    text(&all[0..len]);
+    text(rt, &name[..len])
 }
 
 // The name of a finger position.
-fn finger_name(position: usize)
+fn finger_name(rt: &impl Print, position: usize) -> io::Result<()>
     requires { position < 11 }
 {
     let name = finger(position);
-    let bytes = name.text;
-    front(&bytes, name.len);
+    front(rt, &name.text, name.len)
 }
 
 // The line of a view.
-fn view_line(v: Listed)
+fn view_line(rt: &impl Print, v: Listed) -> io::Result<()>
     requires { v.position < 11 }
 {
-    text(b"view ");
-    finger_name(v.position);
-    text(b" ");
-    number(v.number);
-    text(b" lines ");
-    number(v.lines);
-    text(b" pairs ");
+    text(rt, b"view ")?;
+    finger_name(rt, v.position)?;
+    print!(rt; " {} lines {} pairs ", v.number, v.lines)?;
     if v.indexed {
-        number(v.pairs);
+        number(rt, v.pairs)?;
     } else {
-        text(b"-");
+        text(rt, b"-")?;
     }
-    text(b" segments ");
-    number(v.segments);
-    text(b"\n");
+    println!(rt; " segments {}", v.segments)
 }
 
 // The lines of the views of an accepted record.
-fn view_lines(bytes: &[u8], w: Widths, count: usize)
+fn view_lines(rt: &impl Print, bytes: &[u8], w: Widths, count: usize) -> io::Result<()>
     requires { ViewsToList w count bytes.now }
 {
     let mut a: usize = Header::BYTES;
-    let mut i: usize = 0;
-    while i < count {
+    for i in 0..count {
         let v = listed_at(bytes, a, w);
         a = v.next;
-        view_line(v);
-        i += 1;
+        view_line(rt, v)?;
     }
+    Ok(())
 }
 
 // The listing of any bytes.
-pub fn listing(bytes: &[u8]) {
+pub fn listing(rt: &impl Print, bytes: &[u8]) -> io::Result<()> {
     match judge(bytes) {
-        Verdict::Refused { number, place: _ } => refused(number),
+        Verdict::Refused { number, place: _ } => refused(rt, number),
         Verdict::Accepted {
             header,
             views,
             size: _,
         } => {
-            record_line(bytes.len(), views);
+            record_line(rt, bytes.len(), views)?;
             let scale = header.scale;
-            view_lines(bytes, scale.widths, views);
+            view_lines(rt, bytes, scale.widths, views)
         }
     }
 }

@@ -1,5 +1,7 @@
 // An order that has passed its own tests, or a list of them, carried out: the new record is measured, held against 32,768 bytes and
 // the lent room, and only then written.
+#![tactic(auto)]
+
 ghost use Rattle.std.specs.Prelude.{◌≡◌};
 ghost use Rattle.order_record.specs.Rebuilt.{Placed};
 ghost use Rattle.order_carry.specs.Carried.{size_number, CarriedOut};

@@ -1,5 +1,7 @@
 // The extended block that a removal leaves, measured or put: segments of pores with those of the lines that stay, all others as they
 // are. The block's segments of pores are known to be right.
+#![tactic(auto)]
+
 ghost use Rattle.order_extended.specs.Segment.{SegmentToKeep, SegmentSized, SegmentPutThere, SegmentPut};
 ghost use Rattle.order_extended.specs.Extended.{ExtendedToKeep, ExtendedSized, ExtendedPutThere, ExtendedPut};
 

@@ -1,5 +1,7 @@
 // The record that now holds after an order: a part of one of two slices, and for a host that takes numbers alone, which of them and
 // how long.
+#![tactic(auto)]
+
 ghost use Rattle.std.specs.Prelude.{◌≡◌};
 ghost use Rattle.orders.specs.Order.{holds};
 ghost use Rattle.order_holds.specs.Held.{held};
@@ -21,7 +23,7 @@ pub fn now_holds<'a>(old: &'a [u8], second: &'a [u8], number: u32, length: usize
 // For a host that takes numbers alone. second: 1 where the second buffer's first bytes hold, 0 where the whole old record does.
 // length: how many bytes that is.
 #[repr(C)]
-#[derive(Drop)]
+#[derive(Clone, Copy)]
 pub struct Held {
     pub second: u32,
     pub length: usize,

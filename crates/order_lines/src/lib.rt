@@ -1,5 +1,7 @@
 // The lines that a removal leaves, from an accepted record's skeleton block: the block with them alone, measured or put. A line's
 // bits are copied as they stand.
+#![tactic(auto)]
+
 ghost use Rattle.std.specs.Prelude.{◌≡◌, ◌+◌, ◌*◌, ◌≤◌, min};
 ghost use Rattle.order_lines.specs.Copy.{CopyThere, Copied};
 ghost use Rattle.order_lines.specs.Lines.{LinesToKeep, LinesSized, LinesPutThere, LinesPut};

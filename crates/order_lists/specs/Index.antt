@@ -7,7 +7,7 @@ use Rattle.bits.specs.Bits.{Bits}
 use Rattle.bits.specs.Bytes.{bits_of, in_bytes}
 use Rattle.bits.specs.Codec.{got}
 use Rattle.put_bytes.specs.Laid.{Laid}
-use Rattle.format.specs.Differences.{Falls}
+use Rattle.differences.specs.Differences.{Falls}
 use Rattle.format.specs.Index.{Index, index_block, up}
 use Rattle.orders.specs.Least.{least_width, index_of}
 use Rattle.orders.specs.Listed.{removal_lines}

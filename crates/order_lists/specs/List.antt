@@ -4,7 +4,7 @@
 use Rattle.std.specs.Prelude.{◌≡◌, ℕ, suc, ◌-◌, ◌≤◌, ◌<◌, Bool, not, ◌||◌, List, [], ◌∷◌, length, T}
 use Rattle.bits.specs.Choice.{pick}
 use Rattle.bits.specs.Bits.{Bits}
-use Rattle.format.specs.Differences.{Falls, diffs}
+use Rattle.differences.specs.Differences.{Falls, diffs}
 use Rattle.format.specs.Index.{FitsList, neighbours}
 use Rattle.put_bits.specs.Put.{Puts, Room}
 use Rattle.orders.specs.Survive.{elem}

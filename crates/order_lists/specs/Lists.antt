@@ -3,7 +3,7 @@ use Rattle.std.specs.Prelude.{◌≡◌, ℕ, ◌≤◌, List, length}
 use Rattle.bits.specs.Lists.{Along, total}
 use Rattle.bits.specs.Bits.{Bits}
 use Rattle.bits.specs.CodecLaws.{enc_along}
-use Rattle.format.specs.Differences.{Falls}
+use Rattle.differences.specs.Differences.{Falls}
 use Rattle.format.specs.Index.{FitsList, neighbours, up}
 use Rattle.put_bits.specs.Put.{Puts, Room}
 use Rattle.orders.specs.Act.{Word}

@@ -7,7 +7,7 @@ use bits::Cursor;
 use put_bits::put_bits;
 
 // The new index block: how many bits its numbers have, and how many bytes it has.
-#[derive(Drop)]
+#[derive(Clone, Copy)]
 pub struct Size {
     pub width: usize,
     pub bytes: usize,

@@ -10,7 +10,7 @@ use put_bits::{put_bits, put_into};
 
 // A list of the old index under the order: all of it, merged with the words about its line (`from`), and the line whose list it is, by
 // its old number (`line`) and by its new one (`own`).
-#[derive(Drop)]
+#[derive(Clone, Copy)]
 pub struct OldList {
     pub from: Merge,
     pub line: usize,
@@ -18,14 +18,14 @@ pub struct OldList {
 }
 
 // What becomes of a line: it stays with its new number, or it is gone.
-#[derive(Drop)]
+#[derive(Clone, Copy)]
 pub enum Fate {
     Stays(usize),
     Gone,
 }
 
 // How many neighbours the new list has, and its largest difference.
-#[derive(Drop)]
+#[derive(Clone, Copy)]
 pub struct Numbers {
     pub count: usize,
     pub most: usize,

@@ -9,7 +9,7 @@ use order_walk::walk::list_at;
 use order_words::{about_line, next_high};
 
 // The lists after the order: how many they are, how many neighbours they have in all, and the largest count or difference.
-#[derive(Drop)]
+#[derive(Clone, Copy)]
 pub struct Totals {
     pub lists: usize,
     pub entries: usize,

@@ -1,5 +1,7 @@
 // Whether two lines of a view are neighbours, as the words of a list say; where they say nothing, by the index block of an accepted
 // record: the list of the higher line is found, list by list, and looked through for the lower one.
+#![tactic(auto)]
+
 ghost use Rattle.order_near.specs.Near.{HasThere, Has, FindThere, FoundAt, NearThere, Near, NearAfterThere, NearAfter};
 
 use bits::Cursor;

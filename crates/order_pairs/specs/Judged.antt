@@ -18,9 +18,8 @@ use Rattle.order_words.specs.After.{word_at, heard, heard_in, view_after, record
 use Rattle.order_view.specs.Named.{Named}
 use Rattle.order_carry.specs.Carried.{held_to}
 use Rattle.order_pairs.specs.Sizes.{Indexed}
-use Rattle.order_pairs.specs.declared.judge.Judged.{Judged}
-use Rattle.order_pairs.specs.declared.judge.Judged.TheVariants as judged
-
+use Rattle.order_pairs.specs.declared.judging.Judged.{Judged}
+use Rattle.order_pairs.specs.declared.judging.Judged.TheVariants as judged
 
 -- ---- the order at place i
 

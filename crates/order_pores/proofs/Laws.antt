@@ -22,10 +22,12 @@ use Rattle.put_bits.proofs.Chain.{◌then◌, putting_none}
 use Rattle.outcome.specs.Refusals.{bad_pores}
 use Rattle.find_parts.proofs.Laws.Standing.{number_there}
 use Rattle.find_parts.proofs.Laws.Blocks.{whole_is}
-use Rattle.pores.specs.BeforeLaws.{row_stops}
-use Rattle.pores.specs.ElementLaws.{stop_zero, stop_zeros}
-use Rattle.pores.specs.Parts.{Pores, FitsPores}
-use Rattle.pores.specs.Payload.{line, front, pores_match, pores_block, pores_in}
+use Rattle.pores_elements.proofs.BeforeLaws.{row_stops}
+use Rattle.pores_elements.proofs.ElementLaws.{stop_zero, stop_zeros}
+use Rattle.pores_parts.specs.Parts.{Pores, FitsPores}
+use Rattle.pores.specs.Payload.{pores_block, pores_in}
+use Rattle.pores_parts.proofs.PartsLaws.{pores_match}
+use Rattle.pores_parts.specs.Lines.{line, front}
 use Rattle.pores.specs.PayloadLaws.{pores_got, pores_fit}
 use Rattle.pores.specs.Keep.{distances_at, keep}
 use Rattle.pores_lines.specs.Found.{LineStands}

@@ -3,7 +3,7 @@
 use Rattle.std.specs.Prelude.{◌≡◌, ℕ, ◌≤◌, List, length}
 use Rattle.std.proofs.Math.Option.{some}
 use Rattle.put_bytes.specs.Laid.{Laid}
-use Rattle.pores.specs.Parts.{Pores}
+use Rattle.pores_parts.specs.Parts.{Pores}
 use Rattle.pores.specs.Payload.{pores_in, payload_of}
 use Rattle.pores.specs.Keep.{keep}
 use Rattle.orders.specs.Survive.{survivors}

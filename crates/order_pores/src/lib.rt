@@ -1,5 +1,7 @@
 // The pores that a removal leaves, from a payload that is known to be right: the payload of the lines that stay, measured or put. A
 // line's elements are copied as they stand, with its zero element.
+#![tactic(auto)]
+
 ghost use Rattle.order_pores.specs.Kept.{PoresToKeep, PoresSized, PoresPutThere, PoresPut};
 
 use bits::Cursor;

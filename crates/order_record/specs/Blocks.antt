@@ -7,7 +7,7 @@ use Rattle.bits.specs.Bytes.{Byte, bits_of, in_bytes}
 use Rattle.bits.specs.Codec.{got}
 use Rattle.put_bytes.specs.Laid.{Laid}
 use Rattle.format.specs.Line.{Line, skeleton}
-use Rattle.format.specs.Differences.{Falls}
+use Rattle.differences.specs.Differences.{Falls}
 use Rattle.format.specs.Index.{Index, up, index_block}
 use Rattle.format.specs.Segments.{Segment, segments}
 use Rattle.format.specs.Record.{Narrow}

@@ -10,7 +10,7 @@ use order_lists::index::{Size, index_size};
 
 // How many bytes the new skeleton block has, how many bits the numbers of the new index have and how many bytes its block, how many
 // bytes the new extended block has, and the new record.
-#[derive(Drop)]
+#[derive(Clone, Copy)]
 pub struct Sizes {
     pub skeleton: usize,
     pub width: usize,

@@ -1,5 +1,7 @@
 // The list of a removal, as bytes: whether it names lines of a view, and what becomes of a line. The list rises, so that a line is
 // looked up by halving.
+#![tactic(auto)]
+
 ghost use Rattle.std.specs.Prelude.{◌≡◌};
 ghost use Rattle.orders.specs.Listed.{removal_lines};
 ghost use Rattle.orders.specs.Order.{lines_ok};
@@ -8,7 +10,7 @@ ghost use Rattle.order_removal.specs.Rank.{Rising, Ranked};
 use bits::two_at;
 
 // How many lines of the list are before a line, and whether the line itself is in it.
-#[derive(Drop)]
+#[derive(Clone, Copy)]
 pub struct Rank {
     pub below: usize,
     pub gone: bool,

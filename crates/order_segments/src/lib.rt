@@ -1,5 +1,7 @@
 // Whether the segments of a view stand in the way of a removal. Those of local quality are carried along as they are, and the pores of
 // the lines that stay; any other type is refused, and then pores that are not those of the view's lines.
+#![tactic(auto)]
+
 ghost use Rattle.bits.specs.OfBlock.{BlockThere};
 ghost use Rattle.format.specs.Segments.{segments};
 ghost use Rattle.order_segments.specs.Kinds.{KindsSeen, PoresThere, PoresSeen};

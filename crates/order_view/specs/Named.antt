@@ -13,7 +13,6 @@ use Rattle.find_parts.specs.declared.site.Site.{Site}
 use Rattle.order_view.specs.declared.NamedView.{NamedView}
 use Rattle.order_view.specs.declared.NamedView.TheVariants as f
 
-
 pub record Named (s : List ℕ) (view : ViewName) (n : ℕ) (x : Site) : Type 0 where
   pub value : Record
   pub reads : read s ≡ got value []

@@ -1,4 +1,6 @@
 // The view that an order names, and the line count that the order was made for, whatever else it orders.
+#![tactic(auto)]
+
 ghost use Rattle.order_view.specs.Named.{ViewNamed};
 
 use find_parts::site::{Site, site_at};
@@ -7,7 +9,7 @@ use format::ViewName;
 use outcome::Refusal;
 
 // Where the view stands that an order names and was made for; or the number and the place of the refusal.
-#[derive(Drop)]
+#[derive(Clone, Copy)]
 pub enum NamedView {
     At(Site),
     Refused { number: u32, place: u32 },

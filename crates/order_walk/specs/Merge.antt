@@ -2,7 +2,7 @@
 use Rattle.std.specs.Prelude.{◌≡◌, ℕ, suc, ◌+◌, ◌≤◌, ◌<◌, false, List, ◌∷◌, length}
 use Rattle.bits.specs.Choice.{pick}
 use Rattle.bits.specs.Bits.{Bits}
-use Rattle.format.specs.Differences.{Falls}
+use Rattle.differences.specs.Differences.{Falls}
 use Rattle.orders.specs.Act.{Word}
 use Rattle.orders.specs.History.{said}
 use Rattle.order_words.specs.After.{heard_in, lines_below, Quiet}

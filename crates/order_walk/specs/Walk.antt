@@ -5,7 +5,7 @@ use Rattle.bits.specs.Bits.{Bits}
 use Rattle.bits.specs.Bytes.{bits_of}
 use Rattle.bits.specs.CodecLaws.{enc_all, enc_along, field}
 use Rattle.outcome.specs.Refusals.{bad_index}
-use Rattle.format.specs.Differences.{Falls, diffs}
+use Rattle.differences.specs.Differences.{Falls, diffs}
 use Rattle.format.specs.Index.{FitsList, neighbours, up}
 use Rattle.order_walk.specs.declared.walk.ListWalk.{ListWalk}
 use Rattle.order_walk.specs.declared.walk.LineStep.{LineStep}

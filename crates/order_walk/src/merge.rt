@@ -7,14 +7,14 @@ use order_words::{low_bound, said_about};
 
 // A list from here on: what is still to come of the list in the block, and one more than the highest line still to come that a word
 // names beside the list's own, or 0.
-#[derive(Drop)]
+#[derive(Clone, Copy)]
 pub struct Merge {
     pub walk: ListWalk,
     pub bound: usize,
 }
 
 // A line that is in the block's list or that a word names, whether it stays, and the list behind it.
-#[derive(Drop)]
+#[derive(Clone, Copy)]
 pub struct Step {
     pub line: usize,
     pub stays: bool,

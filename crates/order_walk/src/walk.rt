@@ -4,7 +4,7 @@ ghost use Rattle.order_walk.specs.Walk.{WalkThere, NextLine, EntryThere, EntryAt
 use bits::Cursor;
 
 // A list from here on: how many bits its numbers have, where its next difference stands and how many are left, and the line before.
-#[derive(Drop)]
+#[derive(Clone, Copy)]
 pub struct ListWalk {
     pub width: usize,
     pub at: usize,
@@ -13,14 +13,14 @@ pub struct ListWalk {
 }
 
 // A line of the list, and the list behind it.
-#[derive(Drop)]
+#[derive(Clone, Copy)]
 pub struct LineStep {
     pub line: usize,
     pub next: ListWalk,
 }
 
 // A list that is found: the walk along it, and where the next list starts.
-#[derive(Drop)]
+#[derive(Clone, Copy)]
 pub struct Entry {
     pub walk: ListWalk,
     pub next: usize,

@@ -10,7 +10,6 @@ use Rattle.order_words.specs.declared.About.{About}
 use Rattle.order_words.specs.declared.Spoken.{Spoken}
 use Rattle.order_words.specs.declared.Spoken.TheVariants as spoken
 
-
 -- ---- a list of one word
 
 pub record OneThere (a b : ℕ) : Type 0 where

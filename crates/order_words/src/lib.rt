@@ -1,5 +1,7 @@
 // The words of a list of pairs, as its bytes stand: "three 16-bit numbers each (0 join or 1 part, two lines)". They are looked through
 // where they stand; no table is made of them.
+#![tactic(auto)]
+
 ghost use Rattle.std.specs.Prelude.{◌≡◌, suc, ◌+◌, ◌*◌, ◌≤◌, length};
 ghost use Rattle.orders.specs.Listed.{words, shape_ok};
 ghost use Rattle.orders.specs.History.{said};
@@ -9,7 +11,7 @@ ghost use Rattle.order_words.specs.Looked.{OneThere, OneWord, paired, Says, Boun
 use bits::two_at;
 
 // A word: its two lines, of which `low` is not above `high`, and whether it joins them or parts them.
-#[derive(Drop)]
+#[derive(Clone, Copy)]
 pub struct Pair {
     pub high: usize,
     pub low: usize,
@@ -17,7 +19,7 @@ pub struct Pair {
 }
 
 // What was last said about two lines, if anything.
-#[derive(Drop)]
+#[derive(Clone, Copy)]
 pub enum Spoken {
     Joins,
     Parts,
@@ -26,7 +28,7 @@ pub enum Spoken {
 
 // What the words say about a line as the higher one: `bound` is one more than the highest line that a word names beside it, or 0; and
 // `next` is the next line that is the higher one of a word.
-#[derive(Drop)]
+#[derive(Clone, Copy)]
 pub struct About {
     pub bound: usize,
     pub next: usize,

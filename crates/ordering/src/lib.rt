@@ -1,6 +1,8 @@
 // Orders on a record: remove lines, join a pair, part a pair, and a list of pairs. The record is judged, the view is found and its line
 // count compared; then come the order's own tests, the size of the new record, and the room that is lent. Only then is anything
 // written. One order about a pair is a list of one.
+#![tactic(auto)]
+
 ghost use Rattle.std.specs.Prelude.{true, false};
 ghost use Rattle.outcome.specs.Outcome.{Answers};
 ghost use Rattle.orders.specs.Order.{order};
@@ -11,7 +13,7 @@ ghost use Rattle.ordering.specs.Orders.{PairsThere, PairsDone};
 use find_parts::site::Site;
 use format::ViewName;
 use order_carry::carry_out;
-use order_pairs::judge::{Judged, judge_list};
+use order_pairs::judging::{Judged, judge_list};
 use order_removal::lines_right;
 use order_segments::{all_carried, pores_right};
 use order_view::{NamedView, named_view};

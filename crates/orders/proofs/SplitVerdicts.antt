@@ -14,7 +14,7 @@ use Rattle.format.specs.Segments.{segment, segments}
 use Rattle.format.specs.View.{view, view_header}
 use Rattle.format.specs.Record.{header, views, record_of, read, size, write}
 use Rattle.format.specs.Call.{on_record, on_view}
-use Rattle.pores.specs.Before.{marked_dec, closed_dec}
+use Rattle.pores_elements.specs.Before.{marked_dec, closed_dec}
 use Rattle.pores.specs.Payload.{pores_block}
 use Rattle.pores.specs.Keep.{keep_segments, all_pores_right}
 use Rattle.orders.specs.Least.{least_width}

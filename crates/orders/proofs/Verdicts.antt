@@ -18,7 +18,7 @@ use Rattle.format.specs.Named.{named}
 use Rattle.format.specs.Call.{on_record, on_view}
 use Rattle.format.specs.declared.ViewName.{ViewName}
 use Rattle.format.specs.Sample.{sample_a, header_a, view_header_a, lines_a, wide, wider}
-use Rattle.pores.specs.Before.{marked_dec, closed_dec}
+use Rattle.pores_elements.specs.Before.{marked_dec, closed_dec}
 use Rattle.pores.specs.Payload.{pores_block}
 use Rattle.pores.specs.Keep.{keep_segments, all_pores_right}
 use Rattle.orders.specs.Least.{least_width}

@@ -12,7 +12,7 @@ use Rattle.format.specs.Places.{view_at, segment_at}
 use Rattle.format.specs.Named.{name_of, place_in}
 use Rattle.format.specs.declared.ViewName.{ViewName}
 use Rattle.find_parts.specs.Finds.{segment_stored}
-use Rattle.pores.specs.Parts.{Pores}
+use Rattle.pores_parts.specs.Parts.{Pores}
 use Rattle.pores.specs.Payload.{pores_in, payload_of}
 use Rattle.pores.specs.Keep.{keep}
 use Rattle.orders.specs.History.{Call, History, fresh, history, Follows}

@@ -1,7 +1,7 @@
 -- "In an edited view that has an index, w becomes the least width (at least 1) that holds every count and difference."
 use Rattle.std.specs.Prelude.{ℕ, zero, suc, ◌^◌, max, List, [], ◌∷◌, length, ltb}
 use Rattle.bits.specs.Choice.{pick}
-use Rattle.format.specs.Differences.{diffs}
+use Rattle.differences.specs.Differences.{diffs}
 use Rattle.format.specs.Index.{Index}
 
 -- the first width from w on, over at most f further ones, that holds m

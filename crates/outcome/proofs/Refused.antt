@@ -41,12 +41,17 @@ module _ (P : ℕ → ℕ → Type 0) {A : Type 0} where
       → P no_room 0 → P 0 0 → Refused P o → AnswersAs form lent o before after a → P a.number a.place
   refused_answer {lent = lent} {o = o} t z r h = rw (h.number, h.place) (refused_shown z (room lent o) (room_refused t lent o r))
 
-  -- a call that says where something stands
-  pub refused_told : (p : ℕ) (o : Outcome A) → P 0 p → Refused P o → P (told p o).number (told p o).place
-  refused_told p (refused e q) z h = h
-  refused_told p (given xs) z h = z
+  -- a call that says where something stands: its number and its place
+  pub refused_shown_at : (p : ℕ) (o : Outcome A) → P 0 p → Refused P o → P (told p o).number (told p o).place
+  refused_shown_at p (refused e q) z h = h
+  refused_shown_at p (given xs) z h = z
 
   -- a call that is lent the number of something
   pub refused_known : {B : Type 0} (e : ℕ) (f : B → Outcome A) → P e 0 → ((x : B) → Refused P (f x)) → (o : Option B) → Refused P (only_known e o f)
   refused_known e f z h none = z
   refused_known e f z h (some x) = h x
+
+-- a call that says where something stands: its number
+pub refused_told : (P : ℕ → Type 0) {A : Type 0} (p : ℕ) (o : Outcome A) → P 0 → Refused (λ e q. P e) o → P (told p o).number
+refused_told P p (refused e q) z h = h
+refused_told P p (given xs) z h = z

@@ -1,7 +1,6 @@
 -- The numbers a call gives, with the words of documents 01 and 02. Every definition that refuses uses the name that stands here.
 use Rattle.std.specs.Prelude.{ℕ}
 
-
 -- 1: under 24 or over 32,768 bytes
 abbrev pub bad_size : ℕ
 bad_size = 1

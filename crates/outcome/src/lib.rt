@@ -1,11 +1,13 @@
 // What a call gives back. The numbers of the refusals, and what an answer means for the lent buffer, are in specs/.
+#![tactic(auto)]
+
 ghost use Rattle.std.specs.Prelude.{◌≡◌};
 
 // number: 0 where accepted, else the refusal's. place: the first bit of what is refused, counted from the record's first; of an order
 // that is refused in a list of them, its place there, counted from 0; of a segment that is found, its payload's first bit; else 0.
 // length: how many elements were written.
 #[repr(C)]
-#[derive(Drop)]
+#[derive(Clone, Copy)]
 pub struct Answer {
     pub number: u32,
     pub place: u32,
@@ -42,7 +44,7 @@ pub fn accept(length: usize) -> Answer
 }
 
 // The numbers of the refusals, by the names that the definitions give them; specs/Refusals.antt has the documents' words for each.
-#[derive(Drop)]
+#[derive(Clone, Copy)]
 pub struct Refusal;
 
 impl Refusal {

@@ -8,8 +8,8 @@ use Rattle.bits.specs.Bytes.{bits_of, bytes_of}
 use Rattle.bits.specs.Codec.{then_dec, via_dec, only_dec}
 use Rattle.bits.specs.Block.{ahead_dec, recast_dec}
 use Rattle.outcome.specs.Refusals.{bad_pores}
-use Rattle.pores.specs.Before.{marked_dec, closed_dec}
-use Rattle.pores.specs.Parts.{Pores}
+use Rattle.pores_elements.specs.Before.{marked_dec, closed_dec}
+use Rattle.pores_parts.specs.Parts.{Pores}
 use Rattle.pores.specs.Payload.{pores_block, pores_in, payload_of}
 use Rattle.pores.specs.Numbers.{numbers, numbers_of, pores_of, pores_from}
 use Rattle.pores.specs.Keep.{keep}

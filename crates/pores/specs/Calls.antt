@@ -9,7 +9,7 @@ use Rattle.format.specs.Segments.{sweat_pores}
 use Rattle.format.specs.declared.ViewName.{ViewName}
 use Rattle.rewrite.specs.Format.{PayloadFormat}
 use Rattle.rewrite.specs.Called.{read_payload, set_payload}
-use Rattle.pores.specs.Parts.{Pores, FitsPores}
+use Rattle.pores_parts.specs.Parts.{Pores, FitsPores}
 use Rattle.pores.specs.Payload.{pores_in, payload_of}
 use Rattle.pores.specs.PayloadLaws.{payload_bytes, payload_read, payload_written}
 use Rattle.pores.specs.Numbers.{numbers_of, pores_from}

@@ -5,7 +5,7 @@ use Rattle.std.proofs.Math.Option.{Option, none, some}
 use Rattle.bits.specs.Choice.{pick, some?}
 use Rattle.bits.specs.Lists.{every}
 use Rattle.format.specs.Segments.{Segment, is_pores}
-use Rattle.pores.specs.Parts.{Pores}
+use Rattle.pores_parts.specs.Parts.{Pores}
 use Rattle.pores.specs.Payload.{pores_in, payload_of}
 
 -- the distances of line i

@@ -1,8 +1,3 @@
-pub mod Before
-pub mod BeforeLaws
-pub mod Element
-pub mod ElementLaws
-pub mod Parts
 pub mod Payload
 pub mod PayloadLaws
 pub mod Numbers

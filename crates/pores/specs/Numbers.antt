@@ -11,7 +11,7 @@ use Rattle.bits.specs.ListsLaws.{all_to}
 use Rattle.bits.specs.Codec.{Read, got, refused, Codec}
 use Rattle.bits.specs.CodecLaws.{not_got, then, Matches, via, only, times, counted}
 use Rattle.outcome.specs.Refusals.{bad_pores}
-use Rattle.pores.specs.Parts.{Pores, FitsPores}
+use Rattle.pores_parts.specs.Parts.{Pores, FitsPores}
 
 -- ---- a number of a list
 

@@ -9,7 +9,7 @@ use Rattle.bits.specs.ListsLaws.{empty_is}
 use Rattle.bits.specs.Bytes.{Byte}
 use Rattle.bits.specs.Codec.{Read, got, refused}
 use Rattle.put_bytes.specs.HighFirst.{four, joined}
-use Rattle.pores.specs.Parts.{Pores, FitsPores}
+use Rattle.pores_parts.specs.Parts.{Pores, FitsPores}
 use Rattle.pores.specs.Numbers.{numbers, used_up, pores_of, numbers_of, fours_in, pores_from}
 
 -- ---- lists

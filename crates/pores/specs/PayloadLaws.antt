@@ -8,7 +8,7 @@ use Rattle.bits.specs.Bytes.{Byte, bits_of, in_bytes}
 use Rattle.bits.specs.BytesLaws.{bits_in, length_bits_of}
 use Rattle.bits.specs.Codec.{got, value_of}
 use Rattle.bits.specs.BlockBytes.{value_some, value_bytes_lem, value_back}
-use Rattle.pores.specs.Parts.{Pores, FitsPores}
+use Rattle.pores_parts.specs.Parts.{Pores, FitsPores}
 use Rattle.pores.specs.Payload.{pores_block, pores_in, payload_of}
 
 -- how many lines there are is not written

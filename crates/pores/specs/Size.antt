@@ -1,8 +1,8 @@
 -- How long a payload is, from the distances alone: so that a size can be held against its limit before a distance is written out.
 use Rattle.std.specs.Prelude.{ℕ, suc, ◌+◌, ◌*◌, ◌/◌, List}
 use Rattle.bits.specs.Lists.{total}
-use Rattle.pores.specs.Element.{elements_of}
-use Rattle.pores.specs.Parts.{Pores}
+use Rattle.pores_elements.specs.Element.{elements_of}
+use Rattle.pores_parts.specs.Parts.{Pores}
 
 -- elements of a distance, of a line, of all lines
 abbrev pub distance_elements : ℕ → ℕ → ℕ

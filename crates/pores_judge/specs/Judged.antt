@@ -1,12 +1,11 @@
 -- What the code that judges a stored payload of sweat pores asks and answers.
 use Rattle.std.specs.Prelude.{◌≡◌, ℕ, ◌≤◌, List, length}
 use Rattle.std.proofs.Math.Option.{none, some}
-use Rattle.pores.specs.Parts.{Pores}
+use Rattle.pores_parts.specs.Parts.{Pores}
 use Rattle.pores.specs.Payload.{pores_in}
 use Rattle.pores.specs.Numbers.{numbers_of}
 use Rattle.pores_judge.specs.declared.JudgedPayload.{JudgedPayload}
 use Rattle.pores_judge.specs.declared.JudgedPayload.TheVariants as j
-
 
 pub record PayloadThere (s : List ℕ) : Type 0 where
   pub short : length s ≤ 65535

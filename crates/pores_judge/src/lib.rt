@@ -1,5 +1,7 @@
 // A stored payload of sweat pores, judged: its first three bytes, then line by line, then what is left. Reading it and thinning it by a
 // removal start here.
+#![tactic(auto)]
+
 ghost use Rattle.pores_judge.specs.Judged.{PayloadThere, PayloadJudged};
 
 use bits::Cursor;
@@ -7,7 +9,7 @@ use bits::ranged::{RangedAt, ranged_at};
 use pores_lines::{LineAt, line_at};
 
 // e: bits of an element; numbers: how many reading the payload gives.
-#[derive(Drop)]
+#[derive(Clone, Copy)]
 pub enum JudgedPayload {
     Right { e: usize, numbers: usize },
     Broken,

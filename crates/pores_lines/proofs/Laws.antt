@@ -18,10 +18,10 @@ use Rattle.bits.specs.Codec.{Read, got, refused, next, value_of, field_dec, via_
 use Rattle.bits.specs.Reads.{found, Reads, keeping}
 use Rattle.bits.proofs.Laws.Reads.{length_rest, field_got}
 use Rattle.outcome.specs.Refusals.{bad_pores}
-use Rattle.pores.specs.Before.{marked_dec, until_dec}
-use Rattle.pores.specs.Element.{ones, most, stop, element}
-use Rattle.pores.specs.ElementLaws.{distance, distance_bits, stop_zeros, or_first, or_second, or_not}
-use Rattle.pores.specs.Payload.{line}
+use Rattle.pores_elements.specs.Before.{marked_dec, until_dec}
+use Rattle.pores_elements.specs.Element.{ones, most, stop, element}
+use Rattle.pores_elements.proofs.ElementLaws.{distance, distance_bits, stop_zeros, or_first, or_second, or_not}
+use Rattle.pores_parts.specs.Lines.{line}
 use Rattle.pores.proofs.Laws.Steps.{until_step, distance_step}
 use Rattle.pores_lines.specs.Found.{LineStands}
 

@@ -3,10 +3,9 @@ use Rattle.std.specs.Prelude.{◌≡◌, ℕ, ◌+◌, ◌*◌, ◌≤◌, List,
 use Rattle.std.proofs.Math.Option.{none}
 use Rattle.bits.specs.Bytes.{bits_of}
 use Rattle.bits.specs.Codec.{got, value_of}
-use Rattle.pores.specs.Payload.{line}
+use Rattle.pores_parts.specs.Lines.{line}
 use Rattle.pores_lines.specs.declared.LineAt.{LineAt}
 use Rattle.pores_lines.specs.declared.LineAt.TheVariants as l
-
 
 -- s: a payload; e: bits of an element, as a payload may have
 pub record ElementsThere (s : List ℕ) (at e : ℕ) : Type 0 where

@@ -1,11 +1,13 @@
 // A line of a payload of pores, gone over element by element: how many distances it has, and where it ends. Whoever judges a payload,
 // reads it or thins it goes from line to line here.
+#![tactic(auto)]
+
 ghost use Rattle.pores_lines.specs.Found.{ElementsThere, LineFound};
 
 use bits::{Cursor, pow2};
 
 // How many distances a line has, and the place behind it.
-#[derive(Drop)]
+#[derive(Clone, Copy)]
 pub enum LineAt {
     At { count: usize, next: usize },
     Broken,

@@ -3,14 +3,13 @@ use Rattle.std.specs.Prelude.{◌≡◌, ℕ, ◌+◌, ◌%◌, ◌≤◌, min, 
 use Rattle.std.proofs.Math.Option.{none, some}
 use Rattle.bits.specs.Lists.{total}
 use Rattle.bits.specs.Codec.{got, value_of, times_dec}
-use Rattle.pores.specs.Parts.{Pores}
+use Rattle.pores_parts.specs.Parts.{Pores}
 use Rattle.pores.specs.Numbers.{line_numbers, fours_in, pores_from}
 use Rattle.pores.specs.Size.{line_elements, element_count}
 use Rattle.pores_numbers.specs.declared.JudgedNumbers.{JudgedNumbers}
 use Rattle.pores_numbers.specs.declared.JudgedNumbers.TheVariants as n
 use Rattle.pores_numbers.specs.declared.JudgedLine.{JudgedLine}
 use Rattle.pores_numbers.specs.declared.JudgedLine.TheVariants as l
-
 
 -- Elements are counted up to so many. Of two bits each they take 65,536 bytes, and no record has more than 32,768.
 abbrev pub most_counted : ℕ

@@ -1,20 +1,22 @@
 // Numbers that a host lends for pores, four bytes each: resolution, e, then per line a count and that many distances. Whether they are
 // right for a view, and how many elements they make. A distance or a count can pass four thousand million, so that elements are counted
 // up to a bound only.
+#![tactic(auto)]
+
 ghost use Rattle.std.specs.Prelude.{◌≡◌};
 ghost use Rattle.pores_numbers.specs.Judged.{counted, LineThere, LineJudged, LinesThere, LinesJudged, NumbersJudged};
 
 use bits::{four_at, pow2};
 
 // The bits of an element, and how many elements there are.
-#[derive(Drop)]
+#[derive(Clone, Copy)]
 pub enum JudgedNumbers {
     Right { e: usize, elements: usize },
     Broken,
 }
 
 // Where the list goes on behind a line, and how many elements there are up to there.
-#[derive(Drop)]
+#[derive(Clone, Copy)]
 enum JudgedLine {
     Right { next: usize, elements: usize },
     Broken,

@@ -4,9 +4,10 @@ use Rattle.std.proofs.Math.Option.{some}
 use Rattle.bits.specs.Codec.{got}
 use Rattle.put_bytes.specs.Laid.{Laid}
 use Rattle.put_bits.specs.Put.{Puts, Room}
-use Rattle.pores.specs.ElementLaws.{FitsDistance, distance}
-use Rattle.pores.specs.Parts.{Pores}
-use Rattle.pores.specs.Payload.{line, payload_of}
+use Rattle.pores_elements.proofs.ElementLaws.{FitsDistance, distance}
+use Rattle.pores_parts.specs.Parts.{Pores}
+use Rattle.pores.specs.Payload.{payload_of}
+use Rattle.pores_parts.specs.Lines.{line}
 use Rattle.pores.specs.Numbers.{line_numbers, fours_in, pores_from}
 use Rattle.pores_payload.specs.declared.Reached.{Reached}
 

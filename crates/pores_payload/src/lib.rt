@@ -1,11 +1,13 @@
 // The payload of pores, put together from the numbers that a host lends for them: the resolution, e, and the lines' elements behind them.
+#![tactic(auto)]
+
 ghost use Rattle.pores_payload.specs.Payload.{DistanceRoom, DistancePut, LineRoom, LinePut, PayloadRoom, PayloadLaid};
 
 use bits::{four_at, pow2};
 use put_bits::put_bits;
 
 // How far lines are put: byte of the numbers, bit of the payload.
-#[derive(Drop)]
+#[derive(Clone, Copy)]
 struct Reached {
     byte: usize,
     bit: usize,

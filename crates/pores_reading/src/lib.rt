@@ -1,5 +1,7 @@
 // Sweat pores read: the resolution, e and the distances of a segment's payload, 32 bits each as bytes. The segment is found, its type
 // and its payload are judged, and then the room that is lent.
+#![tactic(auto)]
+
 ghost use Rattle.outcome.specs.Outcome.{AnswersInFours};
 ghost use Rattle.find_segment.specs.Found.{SpotThere};
 ghost use Rattle.pores.specs.Calls.{pores};

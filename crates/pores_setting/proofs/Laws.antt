@@ -30,7 +30,7 @@ use Rattle.rewrite.specs.Called.{values_set, set_in, set_payload}
 use Rattle.rewrite_put.specs.Front.{new_length, front_of}
 use Rattle.rewrite_put.proofs.Laws.Front.{in_all, tail_fits, all_put}
 use Rattle.rewrite_put.proofs.Laws.Answered as A
-use Rattle.pores.specs.Parts.{Pores}
+use Rattle.pores_parts.specs.Parts.{Pores}
 use Rattle.pores.specs.Payload.{payload_of}
 use Rattle.pores.specs.PayloadLaws.{payload_bytes}
 use Rattle.pores.specs.Numbers.{pores_from}

@@ -7,7 +7,7 @@ use Rattle.outcome.specs.declared.Answer.{Answer}
 use Rattle.format.specs.declared.ViewName.{ViewName}
 use Rattle.find_segment.specs.Found.{SegmentStands}
 use Rattle.find_segment.specs.declared.Spot.{Spot}
-use Rattle.pores.specs.Parts.{Pores}
+use Rattle.pores_parts.specs.Parts.{Pores}
 use Rattle.pores.specs.Payload.{payload_of}
 use Rattle.pores.specs.Numbers.{pores_from}
 use Rattle.pores.specs.Calls.{set_pores}

@@ -1,6 +1,8 @@
 // Pores rewritten: the record with a segment's payload made from numbers, four bytes each. The segment is found, its type and the
 // numbers are judged, then the size of the new record and the room that is lent. Only then is anything written. The payload that is
 // stored is not judged.
+#![tactic(auto)]
+
 ghost use Rattle.std.specs.Prelude.{◌≡◌};
 ghost use Rattle.outcome.specs.Outcome.{Answers};
 ghost use Rattle.find_segment.specs.Found.{SpotThere};

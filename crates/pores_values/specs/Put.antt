@@ -6,9 +6,10 @@ use Rattle.bits.specs.Bytes.{bits_of}
 use Rattle.bits.specs.Codec.{got}
 use Rattle.put_bytes.specs.Laid.{Laid}
 use Rattle.put_bytes.specs.HighFirst.{four, joined}
-use Rattle.pores.specs.Before.{row_dec}
-use Rattle.pores.specs.Parts.{Pores}
-use Rattle.pores.specs.Payload.{line, pores_in}
+use Rattle.pores_elements.specs.Before.{row_dec}
+use Rattle.pores_parts.specs.Parts.{Pores}
+use Rattle.pores.specs.Payload.{pores_in}
+use Rattle.pores_parts.specs.Lines.{line}
 use Rattle.pores.specs.Numbers.{numbers_of}
 use Rattle.pores_lines.specs.Found.{ElementsThere}
 use Rattle.pores_judge.specs.Judged.{RightPayload}

@@ -1,12 +1,14 @@
 // The numbers of a payload of sweat pores that is known to be right, 32 bits each as bytes: the resolution, e, and of each line how many
 // distances it has, and these.
+#![tactic(auto)]
+
 ghost use Rattle.pores_values.specs.Put.{with_count, LineRoom, LineLaid, LinesRoom, LinesLaid, NumbersRoom, NumbersLaid};
 
 use bits::{Cursor, pow2};
 use put_bytes::put_four;
 
 // How many bytes were laid for a line, and the place behind it.
-#[derive(Drop)]
+#[derive(Clone, Copy)]
 pub struct LinePut {
     pub length: usize,
     pub next: usize,

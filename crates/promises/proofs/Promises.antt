@@ -78,7 +78,6 @@ use Rattle.rule.specs.Check.{check_answer}
 use Rattle.promises.specs.Samples.{expected, computed, table}
 use Rattle.promises.proofs.Samples as ComputedSamples
 
-
 -- ---- DEMAND 1: every run of bytes gets a result; bad input is refused by a fixed number; a refusal writes nothing
 -- ("No number is given otherwise": the numbers of each call stand in PromisesCalls, and what their places show)
 

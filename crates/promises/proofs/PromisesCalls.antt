@@ -50,7 +50,6 @@ use Rattle.promises.proofs.Placed as Placing
 use Rattle.promises.proofs.Decides as Decides
 use Rattle.promises.proofs.Unnamed as Unnamed
 
-
 -- ---- "No number is given otherwise": of each call, the numbers that its contract allows besides 0
 
 pub read_numbers_lem : {before after : List ℕ} {a : Answer} (bytes : List ℕ) → Answers (reading bytes) before after a → Gives read_numbers a.number

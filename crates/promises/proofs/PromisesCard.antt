@@ -13,7 +13,7 @@
 --   places/specs/Reach         reach, Agree, AnsweredAlike
 -- `Answer` is the struct of outcome/src, `Widths`, `Scale` and `ViewName` those of format/src, `length`, `take`, `T` and the signs are the
 -- toolchain's. That a refusal writes nothing, and that the contracts allow one answer and one buffer alone, is said of every call on the
--- front page (`refusal-writes-nothing`, `one_answer`).
+-- front page (`refusal_writes_nothing`, `one_answer`).
 use mathlib.Core.Path.{◌≡◌}
 use mathlib.Core.Logic.{◌≢◌}
 use Prim.Native.Nat.{ℕ, ◌+◌, ◌*◌, ◌≤◌}
@@ -46,7 +46,6 @@ use Rattle.card.proofs.Laws.Back as CardBack
 use Rattle.places.specs.Reach.{reach, Agree, AnsweredAlike}
 use Rattle.promises.proofs.Decides as Decides
 use Rattle.promises.proofs.Unnamed as Unnamed
-
 
 -- ---- THE FORMAT: an object and what stands on the card give each other back, at any widths
 

@@ -2,7 +2,7 @@
 -- them singly, each to the record the one before left. If any would be refused that way, 19 and 20 included, the call gives that
 -- number with that order's place in the list, and writes nothing." Promises is the front page: that a refusal writes nothing, that the
 -- contract allows one answer and one buffer alone, and what a sequence leaves in which lists of pairs stand, is said there
--- (`refusal-writes-nothing`, `one_answer`, `any-run`, `any-follow`, `calls-follow`). The contract of the call is
+-- (`refusal_writes_nothing`, `one_answer`, `any_run`, `any_follow`, `calls_follow`). The contract of the call is
 -- `Answers (pairs (pairs_call view count list before) bytes) before after`; before and after are what the second buffer holds. The
 -- names in statements stand in specs/:
 --   bits/specs/Choice          pick, within
@@ -41,7 +41,6 @@ use Rattle.orders.proofs.Laws.PairsNumbers as PairsNumbers
 use Rattle.orders.proofs.Laws.Singly as Singly
 use Rattle.promises.proofs.Decides as Decides
 use Rattle.promises.proofs.Unnamed as Unnamed
-
 
 -- ---- GIVEN SINGLY: the orders of the list, each lent the record that the one before left and the room that the call is lent
 

@@ -8,7 +8,8 @@
 --   format/specs/Places, Named  count, view_at; NoViewNamed, Means
 --   rewrite/specs/Bytes, Format  Rewrites; what a format of payloads is
 --   rewrite/specs/Called, Accepted  the two calls on payloads of a format; AcceptedReading, AcceptedSetting, BrokenReading, BrokenSetting
---   pores/specs/Parts, Payload  Pores, FitsPores; pores_in, payload_of
+--   pores_parts/specs/Parts    Pores, FitsPores
+--   pores/specs/Payload        pores_in, payload_of
 --   pores/specs/Numbers, Calls  numbers_of, pores_from; pores_format, pores, set_pores
 --   pores/specs/Keep           distances_at, keep
 --   orders/specs/Survive, Act, Order  at, survivors; remove; Order, order
@@ -16,7 +17,7 @@
 --   places/specs/Reach         reach, Agree, AnsweredAlike
 -- `Answer` is the struct of outcome/src, `ViewName` that of format/src, `length`, `take`, `get_or`, `T` and the signs are the toolchain's.
 -- That a refusal writes nothing, and that the contracts allow one answer and one buffer alone, is said of every call on the front page
--- (`refusal-writes-nothing`, `one_answer`).
+-- (`refusal_writes_nothing`, `one_answer`).
 use mathlib.Core.Path.{◌≡◌}
 use Prim.Native.Nat.{ℕ, ◌+◌, ◌*◌, ◌/◌, ◌^◌, ◌≤◌, ◌<◌}
 use native.Mathlib.Omega.{arith}
@@ -44,7 +45,7 @@ use Rattle.rewrite.proofs.Laws.Payload as Payload
 use Rattle.rewrite.proofs.Laws.PayloadNumbers as PayloadNumbers
 use Rattle.rewrite.proofs.Laws.PayloadAccept as PayloadAccept
 use Rattle.rewrite.proofs.Laws.PayloadBroken as PayloadBroken
-use Rattle.pores.specs.Parts.{Pores, FitsPores}
+use Rattle.pores_parts.specs.Parts.{Pores, FitsPores}
 use Rattle.pores.specs.Payload.{pores_in, payload_of}
 use Rattle.pores.specs.PayloadLaws as PayloadLaws
 use Rattle.pores.specs.Numbers.{numbers_of, pores_from}
@@ -64,7 +65,6 @@ use Rattle.places.specs.Reach.{reach, Agree, AnsweredAlike}
 use Rattle.promises.proofs.Placed as Placing
 use Rattle.promises.proofs.Decides as Decides
 use Rattle.promises.proofs.Unnamed as Unnamed
-
 
 -- ---- THE FORMAT: a payload and its pores give each other back, in a view of n lines, and so do the host's bytes and pores
 

@@ -7,12 +7,13 @@
 --   format/specs/Places, Named  view_at, image_of; NoViewNamed, Means
 --   rewrite/specs/Bytes, Format  Rewrites; what a format of payloads is
 --   rewrite/specs/Called, Accepted  the two calls on payloads of a format; AcceptedReading, AcceptedSetting, BrokenReading, BrokenSetting
---   quality/specs/Parts, Payload   values_right; quality_block, payload_for
+--   quality_parts/specs/Parts  values_right
+--   quality/specs/Payload      quality_block, payload_for
 --   quality/specs/Quality      quality_format, quality, set_quality
 --   places/specs/Reach         reach, Agree, AnsweredAlike
 -- `Answer` is the struct of outcome/src, `Image` and `ViewName` those of format/src, `length`, `take`, `T` and the signs are the
 -- toolchain's. That a refusal writes nothing, and that the contracts allow one answer and one buffer alone, is said of every call on the
--- front page (`refusal-writes-nothing`, `one_answer`).
+-- front page (`refusal_writes_nothing`, `one_answer`).
 use mathlib.Core.Path.{◌≡◌, sym}
 use Prim.Native.Nat.{ℕ, ◌+◌, ◌*◌, ◌≤◌}
 use native.Mathlib.Omega.{arith}
@@ -41,7 +42,7 @@ use Rattle.rewrite.proofs.Laws.Calls as Calls
 use Rattle.rewrite.proofs.Laws.PayloadNumbers as PayloadNumbers
 use Rattle.rewrite.proofs.Laws.PayloadAccept as PayloadAccept
 use Rattle.rewrite.proofs.Laws.PayloadBroken as PayloadBroken
-use Rattle.quality.specs.Parts.{values_right}
+use Rattle.quality_parts.specs.Parts.{values_right}
 use Rattle.quality.specs.Payload.{quality_block, payload_for}
 use Rattle.quality.specs.PayloadLaws as PayloadLaws
 use Rattle.quality.specs.Quality.{quality_format, quality, set_quality}
@@ -51,7 +52,6 @@ use Rattle.places.specs.Reach.{reach, Agree, AnsweredAlike}
 use Rattle.promises.proofs.Placed as Placing
 use Rattle.promises.proofs.Decides as Decides
 use Rattle.promises.proofs.Unnamed as Unnamed
-
 
 -- ---- THE FORMAT: a payload and its values give each other back
 

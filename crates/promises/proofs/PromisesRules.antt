@@ -11,7 +11,7 @@
 --   rule/specs/Check           check, check_answer
 --   rule/specs/Accepted        AcceptedCheck, BelowRule, NoRule
 -- `Answer` is the struct of outcome/src, `length`, `T` and the signs are the toolchain's. That the contract of the call allows one answer
--- alone is said on the front page (`one-check`). The call is lent nothing to write to.
+-- alone is said on the front page (`one_check`). The call is lent nothing to write to.
 use mathlib.Core.Path.{◌≡◌}
 use mathlib.Core.Logic.{◌≢◌}
 use Prim.Native.Nat.{ℕ, ◌+◌, ◌*◌, ◌≤◌}
@@ -36,7 +36,6 @@ use Rattle.rule.specs.Check.{check, check_answer}
 use Rattle.rule.specs.Accepted.{AcceptedCheck, BelowRule, NoRule}
 use Rattle.rule.proofs.Laws.Accept as Accept
 use Rattle.promises.proofs.Checked as Checked
-
 
 -- ---- RULE AND RULE: what passes a rule passes each that wants no more
 

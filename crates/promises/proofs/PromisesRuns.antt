@@ -7,7 +7,7 @@
 --   card_runs/specs/Runs       run_ok, low_bytes, run_of, from_low_bytes
 --   card_runs/specs/Accepted   SmallSteps, RightRun, AcceptedLow, back_at, AcceptedBack, PassesOver
 -- `Answer` is the struct of outcome/src, `length`, `get_or`, `take`, `T` and the signs are the toolchain's. That a refusal writes nothing, and
--- that the contracts allow one answer and one buffer alone, is said of every call on the front page (`refusal-writes-nothing`,
+-- that the contracts allow one answer and one buffer alone, is said of every call on the front page (`refusal_writes_nothing`,
 -- `one_answer`). The clause's example stands in card_runs/proofs/Verdicts.
 use mathlib.Core.Path.{◌≡◌}
 use Prim.Native.Nat.{ℕ, ◌*◌, ◌/◌, ◌≤◌, ◌<◌}
@@ -28,7 +28,6 @@ use Rattle.card_runs.proofs.Laws.Runs as Runs
 use Rattle.card_runs.proofs.Laws.Plain as Plain
 use Rattle.card_runs.proofs.Laws.Accepted as Accepted
 use Rattle.card_runs.proofs.Laws.Calls as Calls
-
 
 -- ---- BOTH WAYS: a run and its low bytes give each other back
 

@@ -1,7 +1,7 @@
 -- WHAT THE LIBRARY PROMISES OF SPLIT WORK: that what operators make of a record does not depend on how they split it. Two removals are
 -- one; calls on different views may change places; a join and a part undo each other; and what becomes of a view hangs on nothing
 -- outside it but the header's widths. Promises is the front page. The laws are about outcomes, `order` of a removal, a join or a part
--- and `asked` of any call that orders: what is given is the new record's bytes, as they stand in the buffer (`call-gives`), and equal
+-- and `asked` of any call that orders: what is given is the new record's bytes, as they stand in the buffer (`call_gives`), and equal
 -- outcomes are, in the same buffer, equal answers and equal buffers (`one_answer` on the front page). They hold whatever else the
 -- view holds: an index or none, local quality, pores. Each has an example, computed. The names in statements stand in specs/:
 --   bits/specs/Lists, Bytes, Codec   All; Byte; got
@@ -42,7 +42,6 @@ use Rattle.orders.proofs.Laws.Commute as CommuteLaws
 use Rattle.orders.proofs.Laws.Undo as UndoLaws
 use Rattle.orders.proofs.Laws.Alone as AloneLaws
 use Rattle.orders.proofs.SplitVerdicts as Computed
-
 
 -- ---- THE CALLS: an accepted call leaves in its buffer what is asked of it
 -- (`asked` of a single order is its `order`)

@@ -14,7 +14,7 @@ use Rattle.format.specs.Record.{header, views, record_of, read, size, write}
 use Rattle.format.specs.Call.{on_record, on_view}
 use Rattle.sheet.specs.Fields.{tagged, fields}
 use Rattle.sheet.specs.Grammar.{grammar}
-use Rattle.sheet.specs.Code.{sign_extended}
+use Rattle.sheet_codes.specs.Code.{sign_extended}
 use Rattle.sheet.specs.Values.{header_value, view_head_value, line_value, width_value, list_value, segment_value}
 use Rattle.sheet.specs.Sheet.{raw_view, raw_of, sheet_of, view_from, record_from, read_sheet, reading, writing}
 use Rattle.trail.specs.Trail.{trail, trailing}

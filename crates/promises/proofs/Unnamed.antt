@@ -57,7 +57,7 @@ pub segment_answer_unnamed : {a : Answer} (view : ViewName) (place : ℕ) (bytes
 unfolding segment_answer payload
 segment_answer_unnamed view place bytes e =
     rw e (
-      refused_told (λ n q. n ≡ no_view → NoViewNamed view bytes) (first_bit_read view place (read bytes)) (payload view place bytes) (λ z. absurd (omega arith))
+      refused_told (λ n. n ≡ no_view → NoViewNamed view bytes) (first_bit_read view place (read bytes)) (payload view place bytes) (λ z. absurd (omega arith))
           (segment_unnamed view place (payload_in place) bytes (λ i r. tt)),
       λ k. ap (λ (x : Answer). x.number) (told_refused (first_bit_read view place (read bytes)) (unnamed_segment view place (payload_in place) bytes k)),
     )

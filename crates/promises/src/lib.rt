@@ -1,5 +1,7 @@
 // What the library promises. The samples of document 01 are in specs/, the promises and their proofs in proofs/. The functions here
 // make calls one behind the other, as demands 2 and 3 have them, so that it is proved of what runs.
+#![tactic(auto)]
+
 ghost use Rattle.orders.specs.Called.{removal_order};
 ghost use Rattle.promises.specs.Calls.{RecordBack, SheetBack, OnlyOnce};
 

@@ -1,5 +1,7 @@
 // Writers of bits, high bit first, at the start of a lent buffer, one number behind the other. The last byte begun is filled up
 // with zero bits, and what lies behind it stays. Where a number is known only later, zeros keep its bits free.
+#![tactic(auto)]
+
 ghost use Rattle.std.specs.Prelude.{◌≡◌, ◌+◌, ◌-◌, ◌*◌, ◌/◌, ◌%◌, ◌^◌, ◌≤◌, ◌<◌, length, get_or, set};
 ghost use Rattle.put_bits.specs.Put.{CanPut, PutMore, PutInto};
 

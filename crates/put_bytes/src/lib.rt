@@ -1,5 +1,7 @@
 // Bytes laid at the start of a lent buffer; what lies beyond them stays. A caller lends the rest of its own buffer, from where
 // the bytes before ended.
+#![tactic(auto)]
+
 ghost use Rattle.std.specs.Prelude.{◌≤◌, ◌<◌, length};
 ghost use Rattle.put_bytes.specs.Laid.{Laid};
 ghost use Rattle.put_bytes.specs.HighFirst.{two, four, start};

@@ -1,5 +1,7 @@
 // A new record put together from an old one, around a part that is new: the old one's first bytes with another record length, then the
 // new part, then the rest of the old one. Whoever writes a new part lays the first bytes here and copies the rest behind it.
+#![tactic(auto)]
+
 ghost use Rattle.put_record.specs.Head.{HeadRoom, HeadLaid};
 
 use put_bytes::{copy, put_two};

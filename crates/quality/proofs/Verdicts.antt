@@ -20,7 +20,7 @@ use Rattle.format.specs.Call.{on_record, on_view, on_segment}
 use Rattle.format.specs.Sample.{header_a}
 use Rattle.rewrite.specs.Rewrite.{rewritten, rewriting}
 use Rattle.rewrite.specs.Called.{read_payload, set_payload}
-use Rattle.quality.specs.Parts.{cells}
+use Rattle.quality_parts.specs.Parts.{cells}
 use Rattle.quality.specs.Payload.{values, quality_block}
 use Rattle.quality.specs.Quality.{quality, set_quality}
 

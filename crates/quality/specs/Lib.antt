@@ -1,5 +1,3 @@
-pub mod Parts
-pub mod PartsLaws
 pub mod Payload
 pub mod PayloadLaws
 pub mod Quality

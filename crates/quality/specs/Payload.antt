@@ -7,11 +7,11 @@ use Rattle.bits.specs.Bytes.{in_bytes}
 use Rattle.bits.specs.Codec.{Codec}
 use Rattle.bits.specs.CodecLaws.{via}
 use Rattle.bits.specs.Block.{Block}
-use Rattle.bits.specs.BlockLaws.{ended}
+use Rattle.bits.proofs.BlockLaws.{ended}
 use Rattle.outcome.specs.Refusals.{bad_quality}
 use Rattle.format.specs.declared.Image.{Image}
-use Rattle.quality.specs.Parts.{values_right, parts_of_values, make_values, value_parts}
-use Rattle.quality.specs.PartsLaws.{quality_matches}
+use Rattle.quality_parts.specs.Parts.{values_right, parts_of_values, make_values, value_parts}
+use Rattle.quality_parts.proofs.PartsLaws.{quality_matches}
 
 -- the values, without the filling
 unfoldable pub values : Image → Codec Bool (List ℕ)

@@ -9,7 +9,7 @@ use Rattle.bits.specs.Bytes.{Byte, bits_of}
 use Rattle.bits.specs.Codec.{got}
 use Rattle.bits.specs.BlockBytes.{value_there, value_back}
 use Rattle.format.specs.declared.Image.{Image}
-use Rattle.quality.specs.Parts.{values_right}
+use Rattle.quality_parts.specs.Parts.{values_right}
 use Rattle.quality.specs.Payload.{values, quality_block, payload_for, values_lent}
 
 module _ (image : Image) where

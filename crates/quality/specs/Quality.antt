@@ -11,7 +11,7 @@ use Rattle.format.specs.Segments.{local_quality}
 use Rattle.format.specs.declared.ViewName.{ViewName}
 use Rattle.rewrite.specs.Format.{PayloadFormat}
 use Rattle.rewrite.specs.Called.{read_payload, set_payload}
-use Rattle.quality.specs.Parts.{values_right}
+use Rattle.quality_parts.specs.Parts.{values_right}
 use Rattle.quality.specs.Payload.{quality_block, payload_for, values_lent}
 use Rattle.quality.specs.PayloadLaws.{payload_there, payload_back, lent_there, lent_back}
 

@@ -3,11 +3,10 @@
 use Rattle.std.specs.Prelude.{◌≡◌, ℕ, ◌*◌, ◌≤◌, ◌<◌, List, ◌∷◌, take, T}
 use Rattle.bits.specs.Choice.{within}
 use Rattle.format.specs.declared.Image.{Image}
-use Rattle.quality.specs.Parts.{cells, values_right}
+use Rattle.quality_parts.specs.Parts.{cells, values_right}
 use Rattle.quality_cells.specs.declared.Grid.{Grid}
 use Rattle.quality_cells.specs.declared.FoundGrid.{FoundGrid}
 use Rattle.quality_cells.specs.declared.FoundGrid.TheVariants as f
-
 
 -- a view's header has 16 bits for each
 pub record SmallImage (image : Image) : Type 0 where

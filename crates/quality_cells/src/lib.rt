@@ -1,19 +1,21 @@
 // The cells of local quality: how many a view's image has and how many bits each takes, by the first three bytes of a payload or of
 // values. The number of cells can pass four thousand million; nothing is walked here.
+#![tactic(auto)]
+
 ghost use Rattle.std.specs.Prelude.{◌≡◌, ◌+◌, ◌*◌, ◌/◌, ◌≤◌, ◌<◌};
-ghost use Rattle.quality.specs.Parts.{rounded_up};
+ghost use Rattle.quality_parts.specs.Parts.{rounded_up};
 ghost use Rattle.quality_cells.specs.Grid.{SmallImage, GridFound};
 
 use bits::wide;
 use format::Image;
 
-#[derive(Drop)]
+#[derive(Clone, Copy)]
 pub struct Grid {
     pub cells: usize,
     pub bits: usize,
 }
 
-#[derive(Drop)]
+#[derive(Clone, Copy)]
 pub enum FoundGrid {
     At(Grid),
     Broken,

@@ -2,13 +2,12 @@
 use Rattle.std.specs.Prelude.{ℕ, ◌+◌, ◌*◌, ◌/◌, ◌≤◌, not, List, length, T}
 use Rattle.put_bytes.specs.Laid.{Laid}
 use Rattle.format.specs.declared.Image.{Image}
-use Rattle.quality.specs.Parts.{values_right}
+use Rattle.quality_parts.specs.Parts.{values_right}
 use Rattle.quality.specs.Payload.{payload_for}
 use Rattle.quality_cells.specs.Grid.{Started}
 use Rattle.quality_cells.specs.declared.Grid.{Grid}
 use Rattle.quality_payload.specs.declared.JudgedValues.{JudgedValues}
 use Rattle.quality_payload.specs.declared.JudgedValues.TheVariants as j
-
 
 -- the values vs are right, and g is what the first three say
 pub record RightValues (image : Image) (vs : List ℕ) (g : Grid) : Type 0 where

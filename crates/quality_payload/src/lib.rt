@@ -1,4 +1,6 @@
 // Values of local quality, a byte per cell: whether they are right, and the payload that they make.
+#![tactic(auto)]
+
 ghost use Rattle.quality_cells.specs.Grid.{SmallImage};
 ghost use Rattle.quality_payload.specs.Payload.{ValuesJudged, PayloadRoom, PayloadLaid};
 
@@ -7,7 +9,7 @@ use format::Image;
 use put_bits::put_bits;
 use quality_cells::{FoundGrid, Grid, grid_of};
 
-#[derive(Drop)]
+#[derive(Clone, Copy)]
 pub enum JudgedValues {
     Right(Grid),
     Broken,

@@ -1,5 +1,7 @@
 // Local quality read: the values of a segment's payload, a byte per cell. The segment is found, its type and its payload are judged,
 // and then the room that is lent.
+#![tactic(auto)]
+
 ghost use Rattle.outcome.specs.Outcome.{Answers};
 ghost use Rattle.find_segment.specs.Found.{SpotThere};
 ghost use Rattle.quality.specs.Quality.{quality};

@@ -34,7 +34,7 @@ use Rattle.rewrite_put.specs.Front.{new_length, front_of, FrontRoom}
 use Rattle.rewrite_put.proofs.Laws.Front.{in_all, tail_fits, all_put}
 use Rattle.rewrite_put.proofs.Laws.Answered.{found_there}
 use Rattle.rewrite_put.proofs.Laws.Answered as A
-use Rattle.quality.specs.Parts.{values_right}
+use Rattle.quality_parts.specs.Parts.{values_right}
 use Rattle.quality.specs.Payload.{quality_block, payload_for, values_lent}
 use Rattle.quality.specs.PayloadLaws.{lent_there}
 use Rattle.quality.specs.Quality.{quality_format, set_quality}

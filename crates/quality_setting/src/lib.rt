@@ -1,6 +1,8 @@
 // Local quality rewritten: the record with a segment's payload made from values, a byte per cell. The segment is found, its type and
 // the values are judged, then the size of the new record and the room that is lent. Only then is anything written. The payload that is
 // stored is not judged.
+#![tactic(auto)]
+
 ghost use Rattle.outcome.specs.Outcome.{Answers};
 ghost use Rattle.find_segment.specs.Found.{SpotThere};
 ghost use Rattle.quality.specs.Quality.{set_quality};

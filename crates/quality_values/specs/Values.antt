@@ -11,7 +11,6 @@ use Rattle.quality_cells.specs.declared.Grid.{Grid}
 use Rattle.quality_values.specs.declared.JudgedPayload.{JudgedPayload}
 use Rattle.quality_values.specs.declared.JudgedPayload.TheVariants as j
 
-
 -- the payload s has values, and g is what its first three bytes say
 pub record RightPayload (image : Image) (s : List ℕ) (g : Grid) : Type 0 where
   pub values : List ℕ

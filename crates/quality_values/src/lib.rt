@@ -1,5 +1,7 @@
 // A stored payload of local quality: whether it is right, and its values, a byte per cell. The number of cells is held against the
 // payload's length before anything is walked.
+#![tactic(auto)]
+
 ghost use Rattle.quality_values.specs.Values.{PayloadThere, PayloadJudged, ValuesRoom, ValuesLaid};
 
 use bits::Cursor;
@@ -7,7 +9,7 @@ use format::Image;
 use put_bytes::copy;
 use quality_cells::{FoundGrid, Grid, grid_of, payload_size};
 
-#[derive(Drop)]
+#[derive(Clone, Copy)]
 pub enum JudgedPayload {
     Right(Grid),
     Broken,

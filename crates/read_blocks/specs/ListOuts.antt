@@ -5,7 +5,7 @@ use Rattle.bits.specs.Bytes.{bits_of}
 use Rattle.bits.specs.Codec.{Read, got, along_dec}
 use Rattle.bits.specs.Reads.{Reads, found, keeping}
 use Rattle.put_bytes.specs.Laid.{Laid}
-use Rattle.format.specs.Differences.{undiffs, diff, tell_difference}
+use Rattle.differences.specs.Differences.{undiffs, diff, tell_difference}
 
 -- d reads a value from place p of the block s on, and n bytes hold it
 pub record ValueThere {A : Type 0} (d : Bits → Read Bool A) (size : A → ℕ) (s : List ℕ) (p n : ℕ) : Type 0 where

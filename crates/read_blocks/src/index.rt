@@ -14,7 +14,7 @@ use bits::Cursor;
 use put_bytes::{copy, put_three, put_two};
 
 // The cursor behind what was read, and how many bytes were laid.
-#[derive(Drop)]
+#[derive(Clone, Copy)]
 struct Moved {
     next: Cursor,
     bytes: usize,

@@ -7,7 +7,7 @@ ghost use Rattle.bits.specs.Reads.{found, Reads};
 ghost use Rattle.outcome.specs.Refusals.{bad_line};
 ghost use Rattle.put_bytes.specs.Laid.{Laid};
 ghost use Rattle.format.specs.Line.{end, end_bits};
-ghost use Rattle.sheet.specs.Code.{sign_extended};
+ghost use Rattle.sheet_codes.specs.Code.{sign_extended};
 ghost use Rattle.sheet_bytes.specs.Bytes.{end_bytes};
 ghost use Rattle.read_blocks.specs.LineParts.{SmallEnd, PartsThere, PartsOut};
 ghost use Rattle.read_blocks.specs.LineOuts.{LineToRead, LineOut, LinesToRead, LinesOut};
@@ -17,14 +17,14 @@ use format::{End, Widths};
 use put_bytes::put_three;
 
 // An end, and the cursor behind it.
-#[derive(Drop)]
+#[derive(Clone, Copy)]
 struct SureEnd {
     value: End,
     next: Cursor,
 }
 
 // What the 03 field of a line is made of; the codes are still to be read.
-#[derive(Drop)]
+#[derive(Clone, Copy)]
 struct LineParts {
     start: End,
     finish: End,
@@ -33,14 +33,14 @@ struct LineParts {
 }
 
 // The cursor behind a line, and the bytes written for it.
-#[derive(Drop)]
+#[derive(Clone, Copy)]
 pub struct Lined {
     pub next: Cursor,
     pub written: usize,
 }
 
 // How many lines a block has, and the bytes written for them.
-#[derive(Drop)]
+#[derive(Clone, Copy)]
 pub struct Lines {
     pub count: usize,
     pub written: usize,
@@ -95,7 +95,7 @@ fn end_sure(p: Cursor, block: &[u8], w: Widths) -> SureEnd
 fn codes_out(out: &mut [u8], block: &[u8], p: Cursor, k: usize, n: usize) -> usize
     requires { (length block.now ≤ 65535) × (1 ≤ k) × (k ≤ 8) × (p.at + n * k ≤ 8 * length block.now) × (n ≤ length out.old) }
     ensures { (result ≡ n) × ((cs : List ℕ) (q : ℕ) → Reads (times_dec (field bad_line k) n) block.now p.at (found cs q)
-        → Laid (map (signExtended k) cs) out.old out.new result) }
+        → Laid (map (sign_extended k) cs) out.old out.new result) }
 {
     let mut q = p;
     let mut i: usize = 0;

@@ -11,7 +11,7 @@ use read_blocks::line::lines_out;
 use read_blocks::segments::segments_out;
 
 // The byte behind a view, and the bytes written for it.
-#[derive(Drop)]
+#[derive(Clone, Copy)]
 pub struct ViewOut {
     pub next: usize,
     pub written: usize,

@@ -1,4 +1,6 @@
 // A record's sheet: judged first, with the bytes that its sheet takes; then written, where there is room.
+#![tactic(auto)]
+
 ghost use Rattle.outcome.specs.Outcome.{Answers};
 ghost use Rattle.sheet.specs.Sheet.{reading};
 

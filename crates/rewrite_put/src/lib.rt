@@ -1,5 +1,7 @@
 // The record with one payload rewritten, put together from the old one: how long it is, and its bytes up to the payload. Whoever
 // writes the payload lays these first, and copies behind it what follows the old payload.
+#![tactic(auto)]
+
 ghost use Rattle.std.specs.Prelude.{◌≡◌, ◌^◌, ◌≤◌};
 ghost use Rattle.rewrite_put.specs.Front.{new_length, SpotIn, FrontRoom, FrontLaid};
 

@@ -1,10 +1,12 @@
 // The enrolment rules, from one fixed table. What a check by a rule gives is in specs/.
+#![tactic(auto)]
+
 ghost use Rattle.std.specs.Prelude.{◌≡◌};
 ghost use Rattle.rule.specs.Rules.{least_of};
 ghost use Rattle.rule.specs.Row.{known_least};
 
 // A rule's number, and the fewest bits of a start or end direction that it accepts.
-#[derive(Drop)]
+#[derive(Clone, Copy)]
 pub struct Rule {
     pub number: u32,
     pub least: usize,
@@ -24,7 +26,7 @@ const RULES: [Rule; COUNT] = [
 ];
 
 // What the number of a rule stands for: so many bits at least, or no rule.
-#[derive(Drop)]
+#[derive(Clone, Copy)]
 pub enum Wanted {
     Least(usize),
     NoRule,

@@ -1,4 +1,6 @@
 // The check of a record by an enrolment rule: the rule is looked up, then the record judged, then its bits of a direction compared.
+#![tactic(auto)]
+
 ghost use Rattle.std.specs.Prelude.{◌≡◌};
 ghost use Rattle.rule.specs.Check.{check_answer};
 

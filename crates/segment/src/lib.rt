@@ -1,5 +1,7 @@
 // A segment, asked for by its view and its place there: its number, where its payload stands and its length come from one call, the
 // payload's part of the record from another. Both find the segment first, so that any bytes may be asked.
+#![tactic(auto)]
+
 ghost use Rattle.std.specs.Prelude.{◌≡◌};
 ghost use Rattle.segment.specs.Segment.{payload, payload_of, segment_answer};
 

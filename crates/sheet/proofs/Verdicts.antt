@@ -16,7 +16,7 @@ use Rattle.format.specs.View.{view, view_header}
 use Rattle.format.specs.Record.{header, views, record_of, size, write}
 use Rattle.sheet.specs.Fields.{tagged, fields}
 use Rattle.sheet.specs.Grammar.{grammar}
-use Rattle.sheet.specs.Code.{sign_extended}
+use Rattle.sheet_codes.specs.Code.{sign_extended}
 use Rattle.sheet.specs.Values.{header_value, view_head_value, line_value, width_value, list_value, segment_value}
 use Rattle.sheet.specs.Sheet.{view_from, record_from, read_sheet, writing}
 use Rattle.sheet.specs.Sample.{sheet_a}

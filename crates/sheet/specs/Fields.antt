@@ -5,7 +5,7 @@ use Rattle.bits.specs.BitsLaws.{length_bits}
 use Rattle.bits.specs.Codec.{Codec}
 use Rattle.bits.specs.CodecLaws.{field, then, via, counted}
 use Rattle.bits.specs.Block.{Block}
-use Rattle.bits.specs.BlockLaws.{fill}
+use Rattle.bits.proofs.BlockLaws.{fill}
 use Rattle.outcome.specs.Refusals.{bad_sheet}
 use Rattle.format.specs.PartsLaws.{length_bytes}
 pub use Rattle.sheet.specs.Parts.{Field, FitsField}

@@ -1,5 +1,3 @@
-pub mod Code
-pub mod CodeLaws
 pub mod Parts
 pub mod PartsLaws
 pub mod Fields

@@ -8,7 +8,7 @@ use Rattle.format.specs.declared.Widths.{Widths}
 use Rattle.format.specs.declared.Scale.{Scale}
 use Rattle.format.specs.declared.Header.{Header}
 use Rattle.format.specs.declared.End.{End}
-use Rattle.sheet.specs.Code.{CodeValue}
+use Rattle.sheet_codes.specs.Code.{CodeValue}
 
 -- ---- a tagged field
 

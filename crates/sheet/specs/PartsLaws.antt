@@ -10,7 +10,7 @@ use Rattle.bits.specs.CodecLaws.{Matches}
 use Rattle.format.specs.Parts.{FitsScale, FitsHeader}
 use Rattle.format.specs.declared.Widths.{Widths}
 use Rattle.format.specs.declared.End.{End}
-use Rattle.sheet.specs.Code.{CodeValue}
+use Rattle.sheet_codes.specs.Code.{CodeValue}
 use Rattle.sheet.specs.Parts.{FitsField, make_field, parts_of_field, header_of_value, value_of_header, EndValue, LineValue, line_of_value, value_of_line, SegmentValue, segment_of_value, value_of_segment}
 
 -- ---- values

@@ -5,11 +5,11 @@ use Rattle.bits.specs.Lists.{every, all_true}
 use Rattle.bits.specs.Codec.{Codec}
 use Rattle.bits.specs.CodecLaws.{field, then, via, only, ranged}
 use Rattle.bits.specs.Block.{Block}
-use Rattle.bits.specs.BlockLaws.{ended, fill}
+use Rattle.bits.proofs.BlockLaws.{ended, fill}
 use Rattle.bits.specs.SizedLaws.{ahead, pass, recast}
 use Rattle.outcome.specs.Refusals.{bad_value}
 use Rattle.format.specs.Line.{Line, end_of}
-use Rattle.format.specs.Differences.{diffs}
+use Rattle.differences.specs.Differences.{diffs}
 use Rattle.format.specs.Segments.{Segment}
 use Rattle.format.specs.View.{head_fields}
 use Rattle.format.specs.Record.{FitsHeader, scale}
@@ -17,9 +17,9 @@ use Rattle.format.specs.declared.Widths.{Widths}
 use Rattle.format.specs.declared.End.{End}
 use Rattle.format.specs.declared.Header.{Header}
 use Rattle.format.specs.declared.ViewHeader.{ViewHeader}
-pub use Rattle.sheet.specs.Code.{CodeValue}
-use Rattle.sheet.specs.Code.{sign_extended, code_ok}
-use Rattle.sheet.specs.CodeLaws.{code_matches}
+pub use Rattle.sheet_codes.specs.Code.{CodeValue}
+use Rattle.sheet_codes.specs.Code.{sign_extended, code_ok}
+use Rattle.sheet_codes.proofs.CodeLaws.{code_matches}
 pub use Rattle.sheet.specs.Parts.{Below, EndValue, LineValue, SegmentValue}
 use Rattle.sheet.specs.Parts.{header_of_value, value_of_header, line_of_value, value_of_line, segment_of_value, value_of_segment}
 use Rattle.sheet.specs.PartsLaws.{header_value_matches, line_value_matches, segment_value_matches, byte_some, byte_whole, two_some, two_whole, ends_whole}

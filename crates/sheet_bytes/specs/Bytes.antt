@@ -9,7 +9,7 @@ use Rattle.format.specs.View.{View}
 use Rattle.format.specs.Record.{Record}
 use Rattle.format.specs.declared.End.{End}
 use Rattle.format.specs.declared.Header.{Header}
-use Rattle.sheet.specs.Code.{sign_extended}
+use Rattle.sheet_codes.specs.Code.{sign_extended}
 use Rattle.find_parts.specs.Stored.{head_bytes, scale_bytes}
 
 abbrev pub end_bytes : End → List ℕ

@@ -74,7 +74,7 @@ trail_small n k high heading (c ∷ cs) p h =
     let v : val high ≤ 1 = one high in
     all_append (λ x. x < 4 * n) (pick (turns_level k c) [] ((2 * now + val high) ∷ [])) _
     (pick_case (All (λ x. x < 4 * n)) (turns_level k c) [] _ (λ t. tt) (λ t. (omega arith, tt)))
-    (trail_small n k _ now cs p l)
+    (trail_small n k (pick (turns_level k c) (not high) high) now cs p l)
   where
     one : (b : Bool) → val b ≤ 1
     one true = omega arith

@@ -20,13 +20,12 @@ use Rattle.bits.proofs.Laws.Reads.{length_rest}
 use Rattle.outcome.specs.Refusals.{bad_line}
 use Rattle.put_bytes.specs.Laid.{Laid}
 use Rattle.put_bytes.proofs.Laws.{laid_none}
-use Rattle.trail.specs.Trail.{turns_level, turned, follow}
+use Rattle.trail.specs.Trail.{turns_level, turned, new_heading, follow}
 use Rattle.trail.proofs.Laws.{trail_small}
 use Rattle.trail_steps.specs.Walk.{pen_of, drawn_by, element_at, StepDraws, CodesThere, OfCodes, drawn, CanDraw}
 use Rattle.trail_steps.specs.declared.Pen.{Pen}
 use Rattle.trail_steps.specs.declared.Stepped.{Stepped}
 use Rattle.trail_steps.specs.declared.Stepped.TheVariants as s
-
 
 -- ---- one step
 
@@ -124,7 +123,7 @@ drawn_one k code rest e = rw (eqb_false code (2 ^ (k - 1)) e)
 
 pub trail_length : (half k : ℕ) (high : Bool) (heading : ℕ) (codes : List ℕ) → length (follow half k high heading codes) ≡ drawn k codes
 trail_length half k high heading [] = refl
-trail_length half k high heading (code ∷ codes) = rw (length-append, trail_length half k _ _ codes) (ap (λ (x : ℕ). x + drawn k codes) (go (turns_level k code) _))
+trail_length half k high heading (code ∷ codes) = rw (length-append, trail_length half k (pick (turns_level k code) (not high) high) (new_heading half k heading code) codes) (ap (λ (x : ℕ). x + drawn k codes) (go (turns_level k code) _))
   where
     go : (t : Bool) (x : ℕ) → length (pick t [] (x ∷ [])) ≡ pick t 0 1
     go true x = refl

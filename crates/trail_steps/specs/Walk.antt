@@ -12,7 +12,6 @@ use Rattle.trail_steps.specs.declared.Pen.{Pen}
 use Rattle.trail_steps.specs.declared.Stepped.{Stepped}
 use Rattle.trail_steps.specs.declared.Stepped.TheVariants as s
 
-
 -- ---- one step
 
 -- "Each line starts at level 0."

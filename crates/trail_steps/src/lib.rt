@@ -1,5 +1,7 @@
 // The walk along the codes of a line: the first heading, one step, how many elements it draws, and two writers of the trail, as
 // 16-bit numbers and as bytes. They run on a line that is known to be accepted.
+#![tactic(auto)]
+
 ghost use Rattle.std.specs.Prelude.{◌≡◌, ◌-◌, ◌*◌, ◌^◌, ◌≤◌, ◌<◌, false, length};
 ghost use Rattle.put_bytes.specs.Laid.{Laid};
 ghost use Rattle.put_bytes.specs.HighFirst.{two, joined};
@@ -9,7 +11,7 @@ ghost use Rattle.trail_steps.specs.Walk.{start_at, element_at, drawn, CodesThere
 use bits::{Cursor, pow2};
 
 // Where the walk stands: its heading, and whether the level is high.
-#[derive(Drop)]
+#[derive(Clone, Copy)]
 pub struct Pen {
     pub heading: usize,
     pub high: bool,
@@ -28,7 +30,7 @@ impl Pen {
 }
 
 // What a code does: it draws an element, or turns the level.
-#[derive(Drop)]
+#[derive(Clone, Copy)]
 pub enum Stepped {
     Drawn(usize, Pen),
     Turned(Pen),

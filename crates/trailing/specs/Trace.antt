@@ -10,7 +10,6 @@ use Rattle.trailing.specs.declared.CodeWalk.{CodeWalk}
 use Rattle.trailing.specs.declared.FoundLine.{FoundLine}
 use Rattle.trailing.specs.declared.FoundLine.TheVariants as f
 
-
 -- ---- a walk in the block s draws the trail t
 
 pub record Draws (s : List ℕ) (x : CodeWalk) (t : List ℕ) : Type 0 where

@@ -1,5 +1,7 @@
 // The trail of a line of a record. The line is found first, and its elements are counted; where there is room for them, they are
 // drawn, as 16-bit numbers or as bytes.
+#![tactic(auto)]
+
 ghost use Rattle.std.specs.Prelude.{◌≤◌};
 ghost use Rattle.outcome.specs.Outcome.{Answers, AnswersInBytes};
 ghost use Rattle.trail.specs.Trail.{trailing};
@@ -16,7 +18,7 @@ use trail_steps::{count_drawn, first_heading, trail_bytes, trail_numbers};
 
 // The walk along the codes of a line: where they start, how many they are, bits of each, directions in a half turn, the first
 // heading, and how many elements they draw.
-#[derive(Drop)]
+#[derive(Clone, Copy)]
 pub struct CodeWalk {
     pub codes: Cursor,
     pub count: usize,
@@ -27,7 +29,7 @@ pub struct CodeWalk {
 }
 
 // A line that is asked for: the skeleton block that it stands in, and its walk there; or the number and the place of the refusal.
-#[derive(Drop)]
+#[derive(Clone, Copy)]
 pub enum FoundLine {
     At(Part, CodeWalk),
     Refused { number: u32, place: u32 },

@@ -10,7 +10,7 @@ use Rattle.put_bits.specs.Put.{Puts, Room}
 use Rattle.format.specs.Line.{Line, FitsEnd, FitsLine, end, end_bits, line}
 use Rattle.format.specs.declared.End.{End}
 use Rattle.format.specs.declared.Widths.{Widths}
-use Rattle.sheet.specs.Code.{sign_extended}
+use Rattle.sheet_codes.specs.Code.{sign_extended}
 use Rattle.format.specs.Record.{Narrow}
 use Rattle.sheet_bytes.specs.Bytes.{end_bytes}
 use Rattle.write_blocks.specs.Run.{RunAt}

@@ -6,7 +6,7 @@ use format::Widths;
 use put_bits::put_bits;
 
 // The byte of the sheet behind the lines' fields, how many lines there are, and the bytes of their block.
-#[derive(Drop)]
+#[derive(Clone, Copy)]
 pub struct Lines {
     pub next: usize,
     pub count: usize,

@@ -8,7 +8,6 @@ use Rattle.check_values.specs.Sheet.{ValuesThere}
 use Rattle.writing.specs.declared.JudgedSheet.{JudgedSheet}
 use Rattle.writing.specs.declared.JudgedSheet.TheVariants as judged
 
-
 -- n views, z bytes
 pub record SheetRight (s : List ℕ) (n z : ℕ) : Type 0 where
   pub value : Record

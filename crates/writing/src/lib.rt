@@ -1,5 +1,7 @@
 // A sheet's record: the sheet is judged first, with the views and bytes that its record has; then the record is put together, where
 // there is room.
+#![tactic(auto)]
+
 ghost use Rattle.outcome.specs.Outcome.{Answers};
 ghost use Rattle.sheet.specs.Sheet.{writing};
 ghost use Rattle.writing.specs.JudgedSheet.{InOrder, SheetIs};
@@ -12,7 +14,7 @@ use outcome::{Answer, Refusal, accept, refuse};
 use write_views::record::record_out;
 
 // The views and the bytes of the sheet's record; or the number of its refusal.
-#[derive(Drop)]
+#[derive(Clone, Copy)]
 enum JudgedSheet {
     Right { views: usize, bytes: usize },
     Refused(u32),

@@ -14,7 +14,7 @@ use Rattle.bits.specs.Bits.{Bits, number_of_bits}
 use Rattle.bits.specs.Codec.{Read, got, refused, next, Codec, field_dec, along_dec}
 use Rattle.bits.specs.CodecLaws.{field}
 use Rattle.bits.specs.Block.{few, zeros_dec, many_dec, fill_dec}
-use Rattle.bits.specs.BlockLaws.{few_yes, few_no, many_over, fill_more}
+use Rattle.bits.proofs.BlockLaws.{few_yes, few_no, many_over, fill_more}
 use Rattle.bits.specs.Lists.{total}
 use Rattle.bits.specs.Reads.{keeping, summed, tallied}
 use Rattle.bits.proofs.Laws.Reads.{first_field, field_got}

@@ -78,10 +78,12 @@ module _ (Q : ℕ → Type 0) where
     index_part_lem p = ap (prefixed (i p) bad_object).dec (sym (append-nil rest)) ∙ prefixed_bits (i p) bad_object (length y / 8) y [] d (omega arith)
 
     index_ends : (p : A) (o : Read Bool B) → Settled Q o → Settled Q (next (next (next (inside [] o) (λ z r. got (p, z) r)) with_image) ended)
+    index_ends p (got z (mathlib.Core.List.◌∷◌ _ _)) x6 = elim x6 [ ]
     index_ends p (got z []) right = right
     index_ends p (refused e l) (wrong q) = wrong q
 
     lines_end : (o : Read Bool A) → Settled Q o → ((p : A) → Settled Q ((i p).dec y)) → Settled Q (next (next (next (inside rest o) with_lines) with_image) ended)
+    lines_end (got p (mathlib.Core.List.◌∷◌ _ _)) x8 k = elim x8 [ ]
     lines_end (got p []) right k =
         subst (λ (o : Read Bool B). Settled Q (next (next (next o (λ z r. got (p, z) r)) with_image) ended)) (sym (index_part_lem p)) (index_ends p ((i p).dec y) (k p))
     lines_end (refused e l) (wrong q) k = wrong q
@@ -110,6 +112,7 @@ module _ (Q : ℕ → Type 0) where
     with_others v r = next (others.dec r) (λ ys q. got (v, ys) q)
 
     behind_90 : (o : Read Bool A) → Settled Q o → Settled Q (next (keeping as90 (inside inner o)) with_others)
+    behind_90 (got v (mathlib.Core.List.◌∷◌ _ _)) x6 = elim x6 [ ]
     behind_90 (got v []) right = rw (others.there xs f) right
     behind_90 (refused e l) (wrong q) = wrong q
 
@@ -122,6 +125,7 @@ module _ (Q : ℕ → Type 0) where
     as_template v = (tt, v)
 
     object_ends : (o : Read Bool (Held × List Other)) → Settled Q o → Settled Q (next (keeping as_template (inside [] o)) (used_up bad_object))
+    object_ends (got v (mathlib.Core.List.◌∷◌ _ _)) x6 = elim x6 [ ]
     object_ends (got v []) right = right
     object_ends (refused e l) (wrong q) = wrong q
 
@@ -138,6 +142,7 @@ module _ (Q : ℕ → Type 0) where
 module _ (Q : ℕ → Type 0) {A B : Type 0} (s : Block A) (i : A → Block B) (lines : (x : Bits) → length x % 8 ≡ 0 → Settled Q (s.dec x)) (index : (a : A) (y : Bits) → length y % 8 ≡ 0 → Settled Q ((i a).dec y)) where
   recast_settled : {C D : Type 0} (w : Block C) (f : C → D) {z : Bits} (o : Read Bool C) → w.dec z ≡ o → Settled Q o → Settled Q (recast_dec w f z)
   unfolding recast_dec
+  recast_settled {C = C} {D = D} w f {z = z} (got c (mathlib.Core.List.◌∷◌ _ _)) e x7 = elim x7 [ ]
   recast_settled w f (got c []) e right = rw e right
   recast_settled w f (refused n l) e (wrong q) = rw e (wrong q)
 

@@ -21,7 +21,7 @@ use Rattle.bits.proofs.Laws.Reads.{keeping_got}
 use Rattle.bits.proofs.Laws.Loops.{keeping_same, fill_turn, fill_done, numbers_fill}
 use Rattle.bits.proofs.Laws.Parts.{some_left, drop_end}
 use Rattle.outcome.specs.Refusals.{bad_value}
-use Rattle.format.specs.Differences.{diffs}
+use Rattle.differences.specs.Differences.{diffs}
 use Rattle.sheet.specs.Values.{falls_ok, list_ok, list_value}
 use Rattle.check_value.specs.Worth.{Wrong, Right}
 

@@ -11,7 +11,7 @@ use Rattle.bits.specs.Bytes.{bits_of}
 use Rattle.bits.specs.BytesLaws.{length_bits_of}
 use Rattle.bits.specs.Codec.{got, field_dec}
 use Rattle.bits.specs.CodecLaws.{next_got, enc_along}
-use Rattle.bits.specs.BlockLaws.{ended}
+use Rattle.bits.proofs.BlockLaws.{ended}
 use Rattle.bits.specs.Reads.{found, Reads}
 use Rattle.bits.proofs.Laws.Parts.{maybe_more}
 use Rattle.outcome.specs.Refusals.{bad_index}

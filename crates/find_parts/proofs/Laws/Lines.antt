@@ -11,7 +11,7 @@ use Rattle.bits.specs.Bytes.{bits_of}
 use Rattle.bits.specs.Codec.{got}
 use Rattle.bits.specs.CodecLaws.{not_got, next_got}
 use Rattle.bits.specs.Block.{few, zeros_dec, many_dec}
-use Rattle.bits.specs.BlockLaws.{few_no}
+use Rattle.bits.proofs.BlockLaws.{few_no}
 use Rattle.bits.specs.Reads.{found, Reads}
 use Rattle.bits.proofs.Laws.Reads.{length_rest}
 use Rattle.bits.proofs.Laws.Apart.{moved}

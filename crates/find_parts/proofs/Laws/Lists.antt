@@ -12,8 +12,8 @@ use Rattle.bits.specs.BitsLaws.{length_bits}
 use Rattle.bits.specs.Codec.{Codec}
 use Rattle.bits.specs.CodecLaws.{enc_all, enc_along, field}
 use Rattle.outcome.specs.Refusals.{bad_index}
-use Rattle.format.specs.Differences.{diffs, diff, tell_difference}
-use Rattle.format.specs.DifferencesLaws.{length_diffs}
+use Rattle.differences.specs.Differences.{diffs, diff, tell_difference}
+use Rattle.differences.proofs.DifferencesLaws.{length_diffs}
 use Rattle.format.specs.Index.{up, neighbours}
 use Rattle.find_parts.proofs.Laws.Line.{codes_long}
 

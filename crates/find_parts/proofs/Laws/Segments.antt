@@ -14,7 +14,7 @@ use Rattle.bits.specs.Bytes.{Byte, bits_of, in_bytes}
 use Rattle.bits.specs.Codec.{Codec, got, field_dec}
 use Rattle.bits.specs.CodecLaws.{not_got, next_got, field_there}
 use Rattle.bits.specs.Block.{fill_dec}
-use Rattle.bits.specs.BlockLaws.{fill_more}
+use Rattle.bits.proofs.BlockLaws.{fill_more}
 use Rattle.bits.specs.Reads.{Reads, found}
 use Rattle.bits.proofs.Laws.Parts.{bits_drop, some_left, drop_end}
 use Rattle.bits.proofs.Laws.Loops.{fill_done}

@@ -17,15 +17,15 @@ use Rattle.bits.specs.BytesLaws.{length_bits_of}
 use Rattle.bits.specs.Codec.{Read, got, refused, next, field_dec, along_dec}
 use Rattle.bits.specs.CodecLaws.{along, along_back, ranged}
 use Rattle.bits.specs.Block.{few, zeros_dec, ended_dec}
-use Rattle.bits.specs.BlockLaws.{few_yes, few_no, ended}
+use Rattle.bits.proofs.BlockLaws.{few_yes, few_no, ended}
 use Rattle.bits.specs.Lists.{total}
 use Rattle.bits.specs.Reads.{found, fault, Reads, keeping, passing, summed}
 use Rattle.bits.proofs.Laws.Reads.{length_rest, gives, refuses, go_on, stop, made, keeping_got, keeping_refused, below}
 use Rattle.bits.proofs.Laws.Loops.{sum_more, along_turn, along_stop, along_done}
 use Rattle.bits.proofs.Laws.Parts.{drop_end, maybe_more}
 use Rattle.outcome.specs.Refusals.{bad_index}
-use Rattle.format.specs.Differences.{undiffs, diff, tell_difference}
-use Rattle.format.specs.DifferencesLaws.{length_undiffs}
+use Rattle.differences.specs.Differences.{undiffs, diff, tell_difference}
+use Rattle.differences.proofs.DifferencesLaws.{length_undiffs}
 use Rattle.format.specs.Index.{Index, up, neighbours, index, index_block}
 use Rattle.format.specs.SheetSize.{list_size, index_size}
 use Rattle.judge_blocks.specs.Answers.{index_dec}

@@ -29,7 +29,7 @@ seen_more seen ps po l h =
     record {
       eleven = length-set seen po _ ∙ h.eleven;
       is = λ p. eq_split p po
-          (λ e. rw (e, eq-eqb po po refl, le-leb po 10 l) (get_or-set_same seen po _ 0 (omega (arith, h.eleven)) ∙ add-one _ ∙ ap suc (at_position seen ps po l h)))
+          (λ e. rw (e, eq-eqb po po refl, le-leb po 10 l) (get_or-set_same seen po _ 0 (omega (arith, h.eleven)) ∙ add-one _ ∙ ap suc (at_position seen ps po l h) ∙ ap (λ (x : ℕ). suc (occurs x ps)) (sym e)))
           (λ e. rw (ne_eqb p po e) (ap (λ (x : ℕ). pick (leb p 10) x 0) (get_or-set_other seen po p _ 0 e) ∙ h.is p));
     }
 

@@ -16,7 +16,7 @@ use Rattle.bits.specs.Codec.{got, field_dec}
 use Rattle.bits.specs.CodecLaws.{enc_along}
 use Rattle.bits.specs.Reads.{found, Reads}
 use Rattle.outcome.specs.Refusals.{bad_index}
-use Rattle.format.specs.Differences.{diffs, diff, tell_difference}
+use Rattle.differences.specs.Differences.{diffs, diff, tell_difference}
 use Rattle.format.specs.Index.{FitsList, neighbours, Index, up, FitsIndex, index, index_block}
 use Rattle.list_numbers.specs.Counts.{entries}
 use Rattle.find_parts.proofs.Laws.Index.{an_index, index_at, width_is_lem}

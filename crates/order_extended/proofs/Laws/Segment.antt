@@ -18,7 +18,7 @@ use Rattle.put_bytes.proofs.Laws.{lent, back, laid_same, laid_between}
 use Rattle.format.specs.Segments.{Segment, sweat_pores, is_pores}
 use Rattle.find_parts.specs.Finds.{segment_stored}
 use Rattle.find_parts.proofs.Laws.Segments.{two_there}
-use Rattle.pores.specs.Parts.{Pores}
+use Rattle.pores_parts.specs.Parts.{Pores}
 use Rattle.pores.specs.Payload.{pores_in}
 use Rattle.pores.specs.Keep.{pores_right}
 use Rattle.pores.proofs.Laws.Keep.{kept_other, kept_pores}

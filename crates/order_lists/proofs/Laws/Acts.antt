@@ -9,7 +9,7 @@ use mathlib.Core.List.{List, [], ◌∷◌}
 use lib.ListN.{length, get_or}
 use lib.Seq.{ext_get_or}
 use Rattle.bits.specs.Choice.{pick}
-use Rattle.format.specs.Differences.{Falls}
+use Rattle.differences.specs.Differences.{Falls}
 use Rattle.format.specs.View.{View}
 use Rattle.orders.specs.Survive.{elem, survivors, cons?, renumber, RisesFrom}
 use Rattle.orders.specs.Act.{Word, remove, lists, new_lists}

@@ -15,8 +15,8 @@ use Rattle.bits.specs.Reads.{found, Reads}
 use Rattle.outcome.specs.Refusals.{bad_index}
 use Rattle.put_bytes.specs.Laid.{Laid}
 use Rattle.format.specs.Limits.{most_lines}
-use Rattle.format.specs.Differences.{Falls}
-use Rattle.format.specs.DifferencesLaws.{falls_count}
+use Rattle.differences.specs.Differences.{Falls}
+use Rattle.differences.proofs.DifferencesLaws.{falls_count}
 use Rattle.format.specs.Index.{Index, FitsIndex, neighbours, up, index_block}
 use Rattle.find_parts.proofs.Laws.Blocks.{block_long}
 use Rattle.find_parts.proofs.Laws.Lists.{lists_long}

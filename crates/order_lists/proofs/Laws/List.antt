@@ -14,8 +14,8 @@ use Rattle.bits.specs.CodecLaws.{enc_all, field}
 use Rattle.outcome.specs.Refusals.{bad_index}
 use Rattle.put_bits.specs.Put.{PutMore, PutInto}
 use Rattle.put_bits.proofs.Chain.{puts_one, ◌then◌, puts_later, puts_as, Putting, putting_none, putting_more, putting_within, putting_all}
-use Rattle.format.specs.Differences.{Falls, diffs}
-use Rattle.format.specs.DifferencesLaws.{length_diffs}
+use Rattle.differences.specs.Differences.{Falls, diffs}
+use Rattle.differences.proofs.DifferencesLaws.{length_diffs}
 use Rattle.format.specs.Index.{FitsList}
 use Rattle.find_parts.proofs.Laws.Line.{codes_long}
 use Rattle.find_parts.proofs.Laws.Lists.{list_is}

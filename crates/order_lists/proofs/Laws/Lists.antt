@@ -9,8 +9,8 @@ use mathlib.Core.List.{List, ◌∷◌}
 use lib.ListN.{length}
 use Rattle.bits.specs.Lists.{Along, total}
 use Rattle.bits.specs.Bits.{Bits}
-use Rattle.format.specs.Differences.{Falls, diffs}
-use Rattle.format.specs.DifferencesLaws.{falls_count}
+use Rattle.differences.specs.Differences.{Falls, diffs}
+use Rattle.differences.proofs.DifferencesLaws.{falls_count}
 use Rattle.format.specs.Index.{up}
 use Rattle.orders.specs.Survive.{elem}
 use Rattle.orders.specs.Least.{max_of, numbers_from}

@@ -19,8 +19,8 @@ use Rattle.bits.specs.BytesLaws.{length_bits_of}
 use Rattle.bits.specs.Codec.{got}
 use Rattle.bits.specs.CodecLaws.{enc_along}
 use Rattle.bits.proofs.Laws.Parts.{part_bytes}
-use Rattle.format.specs.Differences.{Falls, diffs}
-use Rattle.format.specs.DifferencesLaws.{falls_count}
+use Rattle.differences.specs.Differences.{Falls, diffs}
+use Rattle.differences.proofs.DifferencesLaws.{falls_count}
 use Rattle.format.specs.Index.{Index, neighbours, up}
 use Rattle.format.specs.View.{View}
 use Rattle.format.specs.Record.{Record, read}

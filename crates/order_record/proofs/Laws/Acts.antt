@@ -9,7 +9,7 @@ use mathlib.Core.List.{List, [], ◌∷◌}
 use lib.ListN.{length, length-map}
 use Rattle.bits.specs.Lists.{All, Along}
 use Rattle.bits.specs.ListsLaws.{up_along}
-use Rattle.format.specs.Differences.{Falls}
+use Rattle.differences.specs.Differences.{Falls}
 use Rattle.format.specs.Index.{Index, up}
 use Rattle.format.specs.Segments.{FitsSegment}
 use Rattle.format.specs.View.{View}

@@ -18,7 +18,7 @@ use Rattle.bits.specs.Codec.{got}
 use Rattle.bits.specs.OfBlock.{OfBlock}
 use Rattle.format.specs.Segments.{Segment, segments, local_quality, sweat_pores}
 use Rattle.bits.proofs.Laws.Parts.{part}
-use Rattle.pores.specs.Parts.{Pores}
+use Rattle.pores_parts.specs.Parts.{Pores}
 use Rattle.pores.specs.Payload.{pores_in}
 use Rattle.pores.specs.Keep.{pores_right}
 use Rattle.orders.specs.Order.{carried}

@@ -14,7 +14,7 @@ use Rattle.bits.specs.Codec.{got, field_dec}
 use Rattle.bits.specs.CodecLaws.{enc_all, enc_along, field}
 use Rattle.bits.specs.Reads.{found, Reads}
 use Rattle.outcome.specs.Refusals.{bad_index}
-use Rattle.format.specs.Differences.{diffs}
+use Rattle.differences.specs.Differences.{diffs}
 use Rattle.format.specs.Index.{Index, neighbours, up, index_block}
 use Rattle.find_parts.proofs.Laws.Standing.{stands_behind, stands_within, number_there}
 use Rattle.find_parts.proofs.Laws.Lists.{list_is, list_bits_lem}

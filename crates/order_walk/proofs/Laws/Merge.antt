@@ -7,7 +7,7 @@ use mathlib.Core.List.{List, [], ◌∷◌}
 use Rattle.bits.specs.Choice.{pick}
 use Rattle.bits.specs.ChoiceLaws.{eqb_true, eqb_false}
 use Rattle.bits.specs.Bits.{Bits}
-use Rattle.format.specs.Differences.{Falls}
+use Rattle.differences.specs.Differences.{Falls}
 use Rattle.orders.specs.Survive.{elem}
 use Rattle.orders.specs.Act.{Word}
 use Rattle.orders.specs.History.{said}

@@ -12,7 +12,7 @@ use Rattle.bits.specs.Codec.{field_dec}
 use Rattle.bits.specs.CodecLaws.{enc_all, field}
 use Rattle.bits.specs.Reads.{found, Reads}
 use Rattle.outcome.specs.Refusals.{bad_index}
-use Rattle.format.specs.Differences.{diffs}
+use Rattle.differences.specs.Differences.{diffs}
 use Rattle.find_parts.proofs.Laws.Standing.{stands_behind, stands_within, number_there}
 use Rattle.order_walk.specs.Walk.{WalkAt, LineTo}
 use Rattle.order_walk.specs.declared.walk.ListWalk.{ListWalk}

@@ -7,7 +7,7 @@ use mathlib.Core.Bool.{Bool, false, ◌||◌}
 use mathlib.Core.List.{List, [], ◌∷◌}
 use lib.Dec.{eqb}
 use Rattle.bits.specs.ChoiceLaws.{pick_case, eqb_true, eqb_false, eq_split}
-use Rattle.format.specs.Differences.{Falls}
+use Rattle.differences.specs.Differences.{Falls}
 use Rattle.orders.specs.Act.{Word}
 use Rattle.orders.specs.Survive.{elem}
 use Rattle.orders.specs.History.{said}

@@ -19,7 +19,6 @@ use Rattle.order_words.specs.declared.Pair.{Pair}
 use Rattle.order_words.specs.declared.Spoken.{Spoken}
 use Rattle.order_words.specs.declared.Spoken.TheVariants as spoken
 
-
 -- ---- one word, as code has it, and two lines
 
 module _ (w : Word) {p : Pair} (P : p ≡ paired w) (hs : List Word) {high low : ℕ} (k : low ≤ high) (start : Bool) where

@@ -13,10 +13,10 @@ use lib.Seq.{set-set}
 use Rattle.bits.specs.Lists.{Along}
 use Rattle.bits.specs.ListsLaws.{all_at, all_map, along_at, along_up, up_along, mapped}
 use Rattle.bits.specs.Codec.{Codec}
-use Rattle.bits.specs.BlockLaws.{ManyFits}
+use Rattle.bits.proofs.BlockLaws.{ManyFits}
 use Rattle.format.specs.Limits.{most_lines, most_bytes}
 use Rattle.format.specs.Line.{Line, line, skeleton}
-use Rattle.format.specs.Differences.{Falls}
+use Rattle.differences.specs.Differences.{Falls}
 use Rattle.format.specs.Index.{Index, FitsList, FitsIndex, up, index, index_block}
 use Rattle.format.specs.Segments.{segment, segments}
 use Rattle.format.specs.View.{View, view, view_header}

@@ -9,8 +9,8 @@ use lib.Pow.{pow_mono, pow_pos}
 use Rattle.bits.specs.ChoiceLaws.{pick_case, split}
 use Rattle.bits.specs.Lists.{All, Along}
 use Rattle.format.specs.Limits.{most_lines}
-use Rattle.format.specs.Differences.{Falls, diffs}
-use Rattle.format.specs.DifferencesLaws.{falls_count}
+use Rattle.differences.specs.Differences.{Falls, diffs}
+use Rattle.differences.proofs.DifferencesLaws.{falls_count}
 use Rattle.format.specs.Index.{FitsList, FitsIndex, up}
 use Rattle.orders.specs.Least.{find, max_of, numbers_from, least_width, index_of}
 

@@ -12,7 +12,7 @@ use Rattle.bits.specs.Lists.{All, total}
 use Rattle.bits.specs.ListsLaws.{all_to}
 use Rattle.bits.specs.Bytes.{Byte}
 use Rattle.format.specs.Segments.{Segment, FitsSegment, is_pores}
-use Rattle.pores.specs.Parts.{Pores, FitsPores}
+use Rattle.pores_parts.specs.Parts.{Pores, FitsPores}
 use Rattle.pores.specs.Payload.{pores_in, payload_of}
 use Rattle.pores.specs.PayloadLaws.{payload_bytes, payload_written}
 use Rattle.pores.specs.Size.{line_elements, element_count}

@@ -21,7 +21,7 @@ use Rattle.format.specs.declared.ViewName.{ViewName}
 use Rattle.format.proofs.Laws.Record.{read_there, read_is}
 use Rattle.rewrite.specs.Accepted.{SegmentThere, its_segment}
 use Rattle.rewrite.proofs.Laws.Payload.{read_given, reading_gives}
-use Rattle.pores.specs.Parts.{Pores, FitsPores}
+use Rattle.pores_parts.specs.Parts.{Pores, FitsPores}
 use Rattle.pores.specs.Payload.{pores_in, payload_of}
 use Rattle.pores.specs.PayloadLaws.{payload_read}
 use Rattle.pores.specs.Numbers.{numbers_of}

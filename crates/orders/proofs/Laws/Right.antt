@@ -13,7 +13,7 @@ use lib.Seq.{get_or-set_same, get_or-set_other}
 use mir.Facts.{or_no, eqb_no}
 use Rattle.bits.specs.ChoiceLaws.{pick_case, split, eq_split}
 use Rattle.bits.specs.ListsLaws.{all_at, map_at, mapped}
-use Rattle.format.specs.Differences.{Falls}
+use Rattle.differences.specs.Differences.{Falls}
 use Rattle.format.specs.View.{View}
 use Rattle.format.specs.Places.{count}
 use Rattle.orders.specs.Survive.{elem, at, survivors, renumber, RisesFrom}

@@ -20,7 +20,7 @@ use Rattle.bits.specs.Codec.{got}
 use Rattle.bits.specs.CodecLaws.{enc_along}
 use Rattle.outcome.specs.Outcome.{given}
 use Rattle.format.specs.Limits.{most_bytes}
-use Rattle.format.specs.Differences.{Falls}
+use Rattle.differences.specs.Differences.{Falls}
 use Rattle.format.specs.Index.{Index, index, index_block}
 use Rattle.format.specs.View.{View, view, view_header}
 use Rattle.format.specs.Record.{Record, tell_seen, read, size, write, Allowed}

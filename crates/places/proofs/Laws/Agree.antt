@@ -6,7 +6,6 @@ use mathlib.Core.List.{List, [], ◌∷◌, ◌++◌}
 use lib.ListN.{length, take, drop, length-append, take-append-drop}
 use lib.Seq.{take-nil, take_at, drop_at, take-add, take-append-add, length-take-le}
 
-
 module _ {A : Type 0} where
   -- fronts that are as long are equal, and so is what follows
   pub append_front : (p q u v : List A) → length p ≡ length q → p ++ u ≡ q ++ v → p ≡ q

@@ -16,7 +16,7 @@ use Rattle.bits.specs.Bits.{Bits}
 use Rattle.bits.specs.Codec.{Read, got, refused, next, Codec}
 use Rattle.bits.specs.CodecLaws.{not_got}
 use Rattle.bits.specs.Block.{Block, few, zeros_dec, many_dec, end_dec, ended_dec, maybe_dec, fill_dec, inside, sized_dec}
-use Rattle.bits.specs.BlockLaws.{few_yes, few_no, fill_more}
+use Rattle.bits.proofs.BlockLaws.{few_yes, few_no, fill_more}
 use Rattle.bits.proofs.Laws.Refuses.{Refusal, accepted, by, refusal_map}
 use Rattle.outcome.specs.Refusals.{bad_index}
 use Rattle.places.specs.Reach.{reach, RefusedAlike}

@@ -13,7 +13,7 @@ use Rattle.bits.specs.Choice.{pick, some?}
 use Rattle.bits.specs.Lists.{All}
 use Rattle.bits.specs.ListsLaws.{all_at, all_map, map_at, yes_every, every_yes}
 use Rattle.format.specs.Segments.{Segment, FitsSegment, sweat_pores, is_pores}
-use Rattle.pores.specs.Parts.{Pores, FitsPores}
+use Rattle.pores_parts.specs.Parts.{Pores, FitsPores}
 use Rattle.pores.specs.Payload.{pores_in, payload_of}
 use Rattle.pores.specs.PayloadLaws.{payload_read, payload_written, pores_fit}
 use Rattle.pores.specs.Keep.{distances_at, keep, kept_payload, keep_in, keep_segments, pores_right, all_pores_right}

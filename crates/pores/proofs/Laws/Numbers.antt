@@ -8,7 +8,7 @@ use lib.Dec.{leb}
 use Rattle.bits.specs.Lists.{total}
 use Rattle.bits.specs.CodecLaws.{enc_each, enc_all, only}
 use Rattle.outcome.specs.Refusals.{bad_pores}
-use Rattle.pores.specs.Parts.{Pores}
+use Rattle.pores_parts.specs.Parts.{Pores}
 use Rattle.pores.specs.Numbers.{number, line_numbers, numbers, numbers_of}
 
 distances_are : (ds : List ℕ) → enc_all (only number bad_pores (leb 1)) ds ≡ ds

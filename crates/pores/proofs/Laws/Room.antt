@@ -15,7 +15,7 @@ use Rattle.format.proofs.Laws.Record.{read_is}
 use Rattle.rewrite.proofs.Laws.Payload.{read_given}
 use Rattle.rewrite.proofs.Laws.Bytes.{rewritten_size}
 use Rattle.rewrite.proofs.Laws.Record.{segment_fits}
-use Rattle.pores.specs.Parts.{Pores, FitsPores}
+use Rattle.pores_parts.specs.Parts.{Pores, FitsPores}
 use Rattle.pores.specs.Payload.{payload_of}
 use Rattle.pores.specs.Numbers.{numbers_of}
 use Rattle.pores.specs.Size.{line_elements, element_count}

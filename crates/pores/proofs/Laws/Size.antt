@@ -11,11 +11,12 @@ use Rattle.bits.specs.BitsLaws.{length_bits, filled_long}
 use Rattle.bits.specs.BytesLaws.{length_in}
 use Rattle.bits.specs.CodecLaws.{enc_all}
 use Rattle.bits.specs.ListsLaws.{all_both}
-use Rattle.pores.specs.BeforeLaws.{row_enc}
-use Rattle.pores.specs.Element.{most, elements_of}
-use Rattle.pores.specs.ElementLaws.{FitsDistance, distance, run_length, elements_fit, distance_elements_lem}
-use Rattle.pores.specs.Parts.{Pores, FitsPores}
-use Rattle.pores.specs.Payload.{line, pores_block, payload_of}
+use Rattle.pores_elements.proofs.BeforeLaws.{row_enc}
+use Rattle.pores_elements.specs.Element.{most, elements_of}
+use Rattle.pores_elements.proofs.ElementLaws.{FitsDistance, distance, run_length, elements_fit, distance_elements_lem}
+use Rattle.pores_parts.specs.Parts.{Pores, FitsPores}
+use Rattle.pores.specs.Payload.{pores_block, payload_of}
+use Rattle.pores_parts.specs.Lines.{line}
 use Rattle.pores.specs.Size.{distance_elements, line_elements, element_count, payload_length}
 
 -- ---- lengths

@@ -13,9 +13,9 @@ use Rattle.bits.specs.Bits.{Bits, number_of_bits, bits_of_number}
 use Rattle.bits.specs.BitsLaws.{length_bits}
 use Rattle.bits.specs.Codec.{Read, got, refused, next, Codec, via_dec, only_dec}
 use Rattle.outcome.specs.Refusals.{bad_pores}
-use Rattle.pores.specs.Before.{until_dec}
-use Rattle.pores.specs.Element.{ones, most, element, run_dec, distance_of}
-use Rattle.pores.specs.ElementLaws.{distance}
+use Rattle.pores_elements.specs.Before.{until_dec}
+use Rattle.pores_elements.specs.Element.{ones, most, element, run_dec, distance_of}
+use Rattle.pores_elements.proofs.ElementLaws.{distance}
 
 -- two ways to go on that agree on what is read
 pub next_same : {S A B : Type 0} (o : Read S A) (f g : A → List S → Read S B) → ((a : A) (r : List S) → o ≡ got a r → f a r ≡ g a r) → next o f ≡ next o g

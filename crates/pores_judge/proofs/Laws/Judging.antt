@@ -19,16 +19,17 @@ use Rattle.bits.specs.BytesLaws.{length_bits_of}
 use Rattle.bits.specs.Codec.{Read, got, refused, next, value_of, field_dec}
 use Rattle.bits.specs.CodecLaws.{field, ranged}
 use Rattle.bits.specs.Block.{few, zeros_dec, ahead_dec, recast_dec}
-use Rattle.bits.specs.BlockLaws.{few_yes, few_no, zeros_back}
+use Rattle.bits.proofs.BlockLaws.{few_yes, few_no, zeros_back}
 use Rattle.bits.specs.Reads.{Found, found, fault, placed, Reads, keeping}
 use Rattle.bits.proofs.Laws.Reads.{length_rest, field_at, field_got, go_on, mapped as found_as}
 use Rattle.bits.proofs.Laws.Loops.{keeping_same, keeping_cons, field_zero}
 use Rattle.bits.proofs.Laws.Parts.{drop_end}
 use Rattle.outcome.specs.Refusals.{bad_pores}
-use Rattle.pores.specs.Before.{row_dec, closed_dec}
-use Rattle.pores.specs.ElementLaws.{take_zeros}
-use Rattle.pores.specs.Parts.{Pores, make_pores}
-use Rattle.pores.specs.Payload.{line, lines, front, pores_block, pores_in}
+use Rattle.pores_elements.specs.Before.{row_dec, closed_dec}
+use Rattle.pores_elements.proofs.ElementLaws.{take_zeros}
+use Rattle.pores_parts.specs.Parts.{Pores, make_pores}
+use Rattle.pores.specs.Payload.{pores_block, pores_in}
+use Rattle.pores_parts.specs.Lines.{line, lines, front}
 use Rattle.pores.specs.Numbers.{numbers_of}
 use Rattle.pores_lines.specs.Found.{LineStands}
 use Rattle.pores_judge.specs.Judged.{RightPayload}

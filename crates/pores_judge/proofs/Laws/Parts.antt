@@ -15,9 +15,10 @@ use Rattle.bits.specs.Codec.{got, field_dec, then_dec}
 use Rattle.bits.specs.CodecLaws.{pick_got, next_got, field_back, ranged}
 use Rattle.bits.specs.Block.{few, zeros_dec, ahead_dec, recast_dec}
 use Rattle.outcome.specs.Refusals.{bad_pores}
-use Rattle.pores.specs.Before.{row_dec, closed_dec}
-use Rattle.pores.specs.Parts.{Pores, make_pores}
-use Rattle.pores.specs.Payload.{line, lines, front, pores_block, pores_in}
+use Rattle.pores_elements.specs.Before.{row_dec, closed_dec}
+use Rattle.pores_parts.specs.Parts.{Pores, make_pores}
+use Rattle.pores.specs.Payload.{pores_block, pores_in}
+use Rattle.pores_parts.specs.Lines.{line, lines, front}
 use Rattle.pores.specs.PayloadLaws.{pores_got}
 
 pub record PayloadParts (n : ℕ) (s : List ℕ) (p : Pores) : Type 0 where

@@ -12,7 +12,7 @@ use mir.Facts.{yes_ltb, no_ltb, yes_eqb, no_eqb}
 use Rattle.bits.specs.Choice.{within}
 use Rattle.bits.specs.ChoiceLaws.{split, T_true, T_false, pick_yes, pick_no, within_yes, within_not_low, within_not_high}
 use Rattle.bits.specs.Codec.{Read, got, refused, next, then_dec, times_dec, via_dec, only_dec}
-use Rattle.pores.specs.Parts.{Pores}
+use Rattle.pores_parts.specs.Parts.{Pores}
 use Rattle.pores.specs.Numbers.{line_numbers, make_of_numbers, numbers, used_up, pores_of, fours_in, pores_from}
 use Rattle.pores_numbers.specs.Judged.{LinesJudged, NumbersBroken, NumbersJudged}
 use Rattle.pores_numbers.specs.declared.JudgedNumbers.{JudgedNumbers}

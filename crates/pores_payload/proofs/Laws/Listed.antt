@@ -9,7 +9,7 @@ use lib.Dec.{eqb, leb→le}
 use Rattle.bits.specs.ChoiceLaws.{pick_split, split}
 use Rattle.bits.specs.Codec.{got, times_dec, via_dec, then_dec, Codec}
 use Rattle.bits.specs.CodecLaws.{not_got, next_got, enc_all, times}
-use Rattle.pores.specs.Parts.{Pores, FitsPores}
+use Rattle.pores_parts.specs.Parts.{Pores, FitsPores}
 use Rattle.pores.specs.Numbers.{line_numbers, numbers_match, numbers, numbers_of, fours_in, pores_from}
 use Rattle.pores.specs.NumbersLaws.{numbers_written}
 use Rattle.pores_numbers.proofs.Laws.Fours.{four_at, fours_from}

@@ -16,8 +16,9 @@ use Rattle.put_bits.specs.Put.{CanPut, PutMore, Puts, Room}
 use Rattle.put_bits.proofs.Laws.{put_none, put_laid}
 use Rattle.put_bits.proofs.Bytes.{filled_behind}
 use Rattle.put_bits.proofs.Chain.{puts_one, ◌then◌, Putting, putting_none, putting_more, putting_room, putting_all}
-use Rattle.pores.specs.Parts.{Pores}
-use Rattle.pores.specs.Payload.{line, pores_block, payload_of}
+use Rattle.pores_parts.specs.Parts.{Pores}
+use Rattle.pores.specs.Payload.{pores_block, payload_of}
+use Rattle.pores_parts.specs.Lines.{line}
 use Rattle.pores.specs.Numbers.{line_numbers, fours_in}
 use Rattle.pores_numbers.proofs.Laws.Fours.{four_at}
 use Rattle.pores_payload.specs.declared.Reached.{Reached}

@@ -12,9 +12,9 @@ use Rattle.bits.specs.Codec.{got, times_dec}
 use Rattle.bits.specs.CodecLaws.{enc_all}
 use Rattle.put_bits.specs.Put.{CanPut, PutMore, Room}
 use Rattle.put_bits.proofs.Chain.{puts_one, puts_as, ◌then◌, Putting, putting_none, putting_more, putting_room, putting_all}
-use Rattle.pores.specs.Element.{ones, most, run_enc}
-use Rattle.pores.specs.ElementLaws.{pow_four, elements_fit, distance}
-use Rattle.pores.specs.Payload.{line}
+use Rattle.pores_elements.specs.Element.{ones, most, run_enc}
+use Rattle.pores_elements.proofs.ElementLaws.{pow_four, elements_fit, distance}
+use Rattle.pores_parts.specs.Lines.{line}
 use Rattle.pores.specs.Numbers.{line_numbers, fours_in}
 use Rattle.pores_numbers.proofs.Laws.Fours.{four_at}
 use Rattle.pores_numbers.proofs.Laws.Judging.{distance_number}

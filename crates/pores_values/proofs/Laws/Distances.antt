@@ -19,11 +19,11 @@ use Rattle.outcome.specs.Refusals.{bad_pores}
 use Rattle.put_bytes.specs.Laid.{Laid}
 use Rattle.put_bytes.specs.HighFirst.{four, joined}
 use Rattle.put_bytes.proofs.Laws.{lent, back, laid_none, laid_next, laid_same, joined_snoc}
-use Rattle.pores.specs.Before.{marked_dec}
-use Rattle.pores.specs.Element.{ones, most}
-use Rattle.pores.specs.ElementLaws.{pow_four}
+use Rattle.pores_elements.specs.Before.{marked_dec}
+use Rattle.pores_elements.specs.Element.{ones, most}
+use Rattle.pores_elements.proofs.ElementLaws.{pow_four}
 use Rattle.pores.specs.NumbersLaws.{fours_long}
-use Rattle.pores.specs.Payload.{line}
+use Rattle.pores_parts.specs.Lines.{line}
 use Rattle.pores_lines.proofs.Laws.{to_stop, distance_first, longer, stops_here, short_stops, zero_stops, short_first, zero_first, distance_next, ones_first, other_first}
 use Rattle.pores_values.specs.Put.{LineRoom, LineLaid}
 

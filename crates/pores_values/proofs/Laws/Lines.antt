@@ -15,11 +15,11 @@ use Rattle.outcome.specs.Refusals.{bad_pores}
 use Rattle.put_bytes.specs.Laid.{Laid}
 use Rattle.put_bytes.specs.HighFirst.{four, joined}
 use Rattle.put_bytes.proofs.Laws.{lent, back, laid_none, laid_next, laid_same, joined_append, joined_snoc}
-use Rattle.pores.specs.Before.{row_dec}
-use Rattle.pores.specs.Parts.{Pores}
+use Rattle.pores_elements.specs.Before.{row_dec}
+use Rattle.pores_parts.specs.Parts.{Pores}
 use Rattle.pores.specs.NumbersLaws.{fours_long}
 use Rattle.pores.specs.Numbers.{numbers_of}
-use Rattle.pores.specs.Payload.{line}
+use Rattle.pores_parts.specs.Lines.{line}
 use Rattle.pores.proofs.Laws.Numbers.{numbers_are}
 use Rattle.pores_judge.proofs.Laws.Parts.{PayloadParts, payload_parts}
 use Rattle.pores_values.specs.Put.{with_count, LineRoom, LineLaid, LinesRoom, LinesLaid, NumbersRoom, NumbersLaid}

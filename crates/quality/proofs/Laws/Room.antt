@@ -20,8 +20,8 @@ use Rattle.format.proofs.Laws.Record.{read_is}
 use Rattle.rewrite.specs.Accepted.{its_view}
 use Rattle.rewrite.proofs.Laws.Bytes.{rewritten_size}
 use Rattle.rewrite.proofs.Laws.Payload.{read_given}
-use Rattle.quality.specs.Parts.{values_right}
-use Rattle.quality.specs.PartsLaws.{tests}
+use Rattle.quality_parts.specs.Parts.{values_right}
+use Rattle.quality_parts.proofs.PartsLaws.{tests}
 use Rattle.quality.specs.Payload.{values, quality_block, payload_for}
 use Rattle.quality.specs.Quality.{quality_format, quality}
 
@@ -32,6 +32,9 @@ cells_long e b (v ∷ vs) l = omega (arith, cells_long e b vs l, length-append (
 
 pub payload_room : (image : Image) (vs : List ℕ) → T (values_right image vs) → length vs ≤ 8 * length (payload_for image vs)
 unfolding quality_block values
+payload_room image [] t = elim t [ ]
+payload_room image (width ∷ []) t = elim t [ ]
+payload_room image (width ∷ (height ∷ [])) t = elim t [ ]
 payload_room image (width ∷ height ∷ bits ∷ vs) t =
     let (_, (_, (b, _))) = all_true_lem (tests image width height bits vs) t in
     let n = cells_long bad_quality bits vs (within_low 1 8 bits b) in

@@ -10,8 +10,8 @@ use lib.Dec.{T}
 use Rattle.bits.specs.ChoiceLaws.{within_low, within_high, within_yes}
 use Rattle.bits.specs.ListsLaws.{all_true_lem}
 use Rattle.format.specs.declared.Image.{Image}
-use Rattle.quality.specs.Parts.{rounded_up, cells, values_right}
-use Rattle.quality.specs.PartsLaws.{tests}
+use Rattle.quality_parts.specs.Parts.{rounded_up, cells, values_right}
+use Rattle.quality_parts.proofs.PartsLaws.{tests}
 use Rattle.quality_cells.specs.declared.Grid.{Grid}
 use Rattle.quality_cells.specs.Grid.{Started, NoStart}
 
@@ -36,6 +36,9 @@ pub record Ranges (s : List ℕ) : Type 0 where
   pub narrow : get_or s 2 0 ≤ 8
 
 start_ranges : (image : Image) (vs s : List ℕ) → T (values_right image vs) → take 3 vs ≡ take 3 s → Ranges s
+start_ranges image [] s t e = elim t [ ]
+start_ranges image (w ∷ []) s t e = elim t [ ]
+start_ranges image (w ∷ (h ∷ [])) s t e = elim t [ ]
 start_ranges image (w ∷ h ∷ b ∷ vs) (x ∷ y ∷ z ∷ s) t e =
     let (tw, (th, (tb, _))) = all_true_lem (tests image w h b vs) t in
     let ew : w ≡ x = cc in

@@ -15,8 +15,8 @@ use Rattle.bits.specs.Bits.{Bits, bits_of_number, filled}
 use Rattle.bits.specs.BitsLaws.{length_bits}
 use Rattle.bits.specs.CodecLaws.{field, enc_all}
 use Rattle.format.specs.declared.Image.{Image}
-use Rattle.quality.specs.Parts.{cells, values_right}
-use Rattle.quality.specs.PartsLaws.{tests}
+use Rattle.quality_parts.specs.Parts.{cells, values_right}
+use Rattle.quality_parts.proofs.PartsLaws.{tests}
 use Rattle.quality.specs.Payload.{values, quality_block}
 use Rattle.quality_cells.specs.declared.Grid.{Grid}
 use Rattle.quality_cells.specs.Grid.{Started}

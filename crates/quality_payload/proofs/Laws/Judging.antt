@@ -11,7 +11,7 @@ use lib.Dec.{T, ltb, not_T}
 use mir.Facts.{yes_ltb, no_ltb}
 use Rattle.bits.specs.ChoiceLaws.{T_true, T_false}
 use Rattle.format.specs.declared.Image.{Image}
-use Rattle.quality.specs.Parts.{values_right}
+use Rattle.quality_parts.specs.Parts.{values_right}
 use Rattle.quality_cells.specs.declared.Grid.{Grid}
 use Rattle.quality_cells.specs.Grid.{Started, NoStart}
 use Rattle.quality_cells.proofs.Laws.Written.{all_small, right_cells, cells_right}

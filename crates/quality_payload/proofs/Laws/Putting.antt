@@ -13,7 +13,7 @@ use Rattle.format.specs.declared.Image.{Image}
 use Rattle.put_bits.specs.Put.{PutMore, Puts, Room, CanPut}
 use Rattle.put_bits.proofs.Laws.{put_none, put_laid}
 use Rattle.put_bits.proofs.Chain.{puts_one, ◌then◌, Putting, putting_more, putting_room, putting_all}
-use Rattle.quality.specs.PartsLaws.{small_values}
+use Rattle.quality_parts.proofs.PartsLaws.{small_values}
 use Rattle.quality_cells.specs.declared.Grid.{Grid}
 use Rattle.quality_cells.proofs.Laws.Written.{cell_bits, cells_long, payload_bits, payload_is, right_cells}
 use Rattle.quality_payload.specs.Payload.{RightValues, PayloadLaid}

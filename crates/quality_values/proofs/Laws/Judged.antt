@@ -18,8 +18,8 @@ use Rattle.bits.specs.Reads.{found, Reads}
 use Rattle.bits.proofs.Laws.Reads.{length_rest}
 use Rattle.format.specs.declared.Image.{Image}
 use Rattle.put_bits.proofs.Bytes.{number_zeros}
-use Rattle.quality.specs.Parts.{values_right}
-use Rattle.quality.specs.PartsLaws.{values_small}
+use Rattle.quality_parts.specs.Parts.{values_right}
+use Rattle.quality_parts.proofs.PartsLaws.{values_small}
 use Rattle.quality.specs.Payload.{values, quality_block}
 use Rattle.quality_cells.specs.declared.Grid.{Grid}
 use Rattle.quality_cells.specs.Grid.{Started, NoStart}

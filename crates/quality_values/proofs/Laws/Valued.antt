@@ -16,8 +16,8 @@ use Rattle.bits.specs.Bytes.{Byte, bits_of}
 use Rattle.bits.specs.BytesLaws.{length_bits_of}
 use Rattle.bits.specs.Codec.{got}
 use Rattle.format.specs.declared.Image.{Image}
-use Rattle.quality.specs.Parts.{values_right}
-use Rattle.quality.specs.PartsLaws.{tests, small_values}
+use Rattle.quality_parts.specs.Parts.{values_right}
+use Rattle.quality_parts.proofs.PartsLaws.{tests, small_values}
 use Rattle.quality.specs.Payload.{values, quality_block}
 use Rattle.quality_cells.specs.declared.Grid.{Grid}
 use Rattle.quality_cells.specs.Grid.{Started}
@@ -49,6 +49,9 @@ too_short image w h b vs s l e =
 -- bytes that were written from values start as these do
 pub same_start : (image : Image) (vs s : List ℕ) → All Byte s → T (values_right image vs) → bits_of s ≡ (quality_block image).enc vs → take 3 vs ≡ take 3 s
 unfolding bits_of
+same_start image [] s a t e = elim t [ ]
+same_start image (w ∷ []) s a t e = elim t [ ]
+same_start image (w ∷ (h ∷ [])) s a t e = elim t [ ]
 same_start image (w ∷ h ∷ b ∷ vs) (x ∷ y ∷ z ∷ s) a t e =
     let (tw, (th, (tb, _))) = all_true_lem (tests image w h b vs) t in
     let k = e ∙ written image w h b vs ∙ whole b (w ∷ h ∷ b ∷ vs) in

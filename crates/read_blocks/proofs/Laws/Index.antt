@@ -19,13 +19,13 @@ use Rattle.bits.specs.BytesLaws.{length_bits_of}
 use Rattle.bits.specs.Codec.{Read, got, Codec, field_dec, then_dec, along_dec, via_dec, only_dec}
 use Rattle.bits.specs.CodecLaws.{pick_got, next_got, field, field_there, along, along_back, ranged}
 use Rattle.bits.specs.Block.{few, ended_dec, zeros_dec}
-use Rattle.bits.specs.BlockLaws.{ended}
+use Rattle.bits.proofs.BlockLaws.{ended}
 use Rattle.bits.specs.Reads.{Reads, found, keeping}
 use Rattle.bits.proofs.Laws.Reads.{length_rest, known, go_on, made, keeping_got, unkept}
 use Rattle.bits.proofs.Laws.Parts.{maybe_more}
 use Rattle.outcome.specs.Refusals.{bad_index}
-use Rattle.format.specs.Differences.{undiffs, diff, tell_difference}
-use Rattle.format.specs.DifferencesLaws.{length_undiffs, falls_count}
+use Rattle.differences.specs.Differences.{undiffs, diff, tell_difference}
+use Rattle.differences.proofs.DifferencesLaws.{length_undiffs, falls_count}
 use Rattle.format.specs.Index.{Index, neighbours, up, index, index_block}
 use Rattle.read_blocks.specs.ListOuts.{numbers_dec}
 use Rattle.find_parts.proofs.Laws.Front.{front}

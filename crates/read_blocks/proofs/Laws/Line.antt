@@ -22,7 +22,7 @@ use Rattle.format.specs.Line.{Line, end, end_bits, line}
 use Rattle.format.specs.SheetSize.{line_size}
 use Rattle.format.specs.declared.End.{End}
 use Rattle.format.specs.declared.Widths.{Widths}
-use Rattle.sheet.specs.Code.{sign_extended}
+use Rattle.sheet_codes.specs.Code.{sign_extended}
 use Rattle.put_bytes.specs.HighFirst.{start}
 use Rattle.sheet_bytes.specs.Bytes.{end_bytes, line_bytes}
 use Rattle.read_blocks.specs.LineParts.{SmallEnd, PartsThere, PartsOut}

@@ -15,7 +15,7 @@ use Rattle.outcome.specs.Placed.{Placed}
 use Rattle.outcome.specs.Outcome.{Outcome, refused, given, told}
 use Rattle.outcome.specs.declared.Answer.{Answer}
 use Rattle.outcome.proofs.Laws.{not_given, given_is, own_known, told_zero, told_own}
-use Rattle.outcome.proofs.Refused.{Refused, refused_told, refused_known}
+use Rattle.outcome.proofs.Refused.{Refused, refused_shown_at, refused_known}
 use Rattle.outcome.proofs.Numbers.{RefusedBy, among_first, told_number, never_zero}
 use Rattle.outcome.proofs.Placed.{no_place}
 use Rattle.format.specs.Record.{Record, read}
@@ -85,7 +85,7 @@ module _ {a : Answer} (rule : ℕ) (bytes : List ℕ) (h : a ≡ check_answer ru
 
   pub check_place : Placed (8 * length bytes) a.number a.place
   unfolding check_answer
-  check_place = rw h (refused_told (Placed (8 * length bytes)) 0 (check rule bytes) tt (check_placed rule bytes))
+  check_place = rw h (refused_shown_at (Placed (8 * length bytes)) 0 (check rule bytes) tt (check_placed rule bytes))
 
   -- nothing is written, whatever the answer
   pub check_length : a.length ≡ 0

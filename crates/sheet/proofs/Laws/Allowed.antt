@@ -19,7 +19,7 @@ use Rattle.bits.specs.CodecLaws.{enc_all, enc_along}
 use Rattle.bits.specs.BlockBytes.{value_bytes_lem}
 use Rattle.format.specs.Limits.{most_lines, most_bytes}
 use Rattle.format.specs.Line.{FitsLine, line, skeleton}
-use Rattle.format.specs.DifferencesLaws.{falls_count}
+use Rattle.differences.proofs.DifferencesLaws.{falls_count}
 use Rattle.format.specs.Index.{Index, FitsList, index, index_block, up}
 use Rattle.format.specs.Segments.{Segment, FitsSegment, segment, segment_length, segments}
 use Rattle.format.specs.View.{View, view, view_header, occurs}

@@ -17,12 +17,12 @@ use Rattle.bits.specs.ListsLaws.{all_true_lem, true_all, every_yes, yes_every, a
 use Rattle.bits.specs.Bytes.{Byte, in_bytes}
 use Rattle.format.specs.Limits.{most_lines}
 use Rattle.format.specs.Line.{Line, FitsEnd, FitsLine}
-use Rattle.format.specs.Differences.{Falls, diffs}
+use Rattle.differences.specs.Differences.{Falls, diffs}
 use Rattle.format.specs.Index.{Index, FitsList, index, index_block, up}
 use Rattle.format.specs.Record.{Narrow}
 use Rattle.format.specs.declared.Widths.{Widths}
 use Rattle.format.specs.declared.End.{End}
-use Rattle.sheet.specs.Code.{sign_extended}
+use Rattle.sheet_codes.specs.Code.{sign_extended}
 use Rattle.sheet.specs.Grammar.{index_shape}
 use Rattle.sheet.specs.Values.{Below, EndValue, CodeValue, line_value, width_value, falls_ok, list_value}
 use Rattle.sheet.specs.Sheet.{alike, each_enc, raw_index}

@@ -13,7 +13,7 @@ use Rattle.format.specs.Segments.{Segment}
 use Rattle.format.specs.View.{View}
 use Rattle.format.specs.Record.{Record}
 use Rattle.format.specs.SheetSize.{line_size, list_size, index_size, segment_size, view_size, sheet_size}
-use Rattle.sheet.specs.Code.{sign_extended}
+use Rattle.sheet_codes.specs.Code.{sign_extended}
 use Rattle.put_bytes.proofs.Laws.{twos_length}
 use Rattle.put_bytes.specs.HighFirst.{joined}
 use Rattle.sheet_bytes.specs.Bytes.{line_bytes, list_bytes, index_bytes, segment_bytes, view_bytes, record_bytes}

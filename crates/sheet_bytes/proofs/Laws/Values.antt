@@ -12,7 +12,7 @@ use Rattle.format.specs.declared.Widths.{Widths}
 use Rattle.format.specs.declared.End.{End}
 use Rattle.format.specs.declared.Header.{Header}
 use Rattle.format.specs.declared.ViewHeader.{ViewHeader}
-use Rattle.sheet.specs.Code.{sign_extended}
+use Rattle.sheet_codes.specs.Code.{sign_extended}
 use Rattle.sheet.specs.Values.{header_value, view_head_value, end_value, EndValue, code_value, line_value, width_value, list_value, segment_value}
 use Rattle.put_bytes.specs.HighFirst.{two, joined}
 use Rattle.find_parts.specs.Stored.{head_bytes}

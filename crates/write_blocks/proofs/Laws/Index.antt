@@ -12,8 +12,8 @@ use Rattle.outcome.specs.Refusals.{bad_index}
 use Rattle.put_bytes.specs.HighFirst.{two, joined}
 use Rattle.put_bytes.proofs.Laws.{twos_length}
 use Rattle.put_bytes.proofs.Numbers as Numbers
-use Rattle.format.specs.Differences.{Falls, diffs}
-use Rattle.format.specs.DifferencesLaws.{length_diffs}
+use Rattle.differences.specs.Differences.{Falls, diffs}
+use Rattle.differences.proofs.DifferencesLaws.{length_diffs}
 use Rattle.format.specs.Index.{FitsList}
 use Rattle.find_parts.proofs.Laws.Line.{codes_long}
 use Rattle.find_parts.proofs.Laws.Lists.{list_is}

@@ -12,7 +12,7 @@ use Rattle.bits.specs.CodecLaws.{enc_along}
 use Rattle.put_bytes.specs.Laid.{Laid}
 use Rattle.put_bytes.specs.HighFirst.{two, joined}
 use Rattle.put_bytes.proofs.Laws.{laid_none, twos_length}
-use Rattle.format.specs.DifferencesLaws.{falls_count}
+use Rattle.differences.proofs.DifferencesLaws.{falls_count}
 use Rattle.format.specs.Index.{Index, FitsList, FitsIndex, neighbours, up, index, index_block}
 use Rattle.find_parts.proofs.Laws.Index.{none_enc, index_enc, index_long}
 use Rattle.put_bits.specs.Put.{PutMore}

@@ -15,7 +15,7 @@ use Rattle.put_bits.specs.Put.{Put, PutMore}
 use Rattle.put_bits.proofs.Laws.{put_none, put_laid}
 use Rattle.format.specs.Line.{Line, FitsLine, end, end_bits, line, line_long_lem}
 use Rattle.format.specs.declared.Widths.{Widths}
-use Rattle.sheet.specs.Code.{sign_extended}
+use Rattle.sheet_codes.specs.Code.{sign_extended}
 use Rattle.find_parts.proofs.Laws.Line.{end_long, codes_long, line_bits_lem}
 use Rattle.find_parts.proofs.Laws.Lists.{all_long}
 use Rattle.sheet_bytes.specs.Bytes.{end_bytes}

@@ -10,8 +10,8 @@ use Rattle.bits.specs.Lists.{All}
 use Rattle.bits.specs.ListsLaws.{all_at, map_at}
 use Rattle.bits.specs.CodecLaws.{enc_all, field}
 use Rattle.outcome.specs.Refusals.{bad_line}
-use Rattle.sheet.specs.Code.{sign_extended}
-use Rattle.sheet.specs.CodeLaws.{extended_low}
+use Rattle.sheet_codes.specs.Code.{sign_extended}
+use Rattle.sheet_codes.proofs.CodeLaws.{extended_low}
 use Rattle.find_parts.proofs.Laws.Line.{codes_long}
 use Rattle.put_bits.specs.Put.{PutMore, Puts}
 use Rattle.put_bits.proofs.Chain.{puts_one, puts_none, ◌then◌, puts_as, enc_snoc}

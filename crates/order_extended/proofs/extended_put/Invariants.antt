@@ -1,0 +1,12 @@
+-- Segment by segment. The invariant: those before are laid, the others are still to come.
+use Prim.Native.Nat.{◌-◌}
+use lib.ListN.{length}
+use Rattle.order_segments.proofs.Laws.Over.{OverAll}
+use Rattle.order_extended.proofs.Laws.Extended.{Putting}
+use Rattle.order_extended.proofs.extended_put.Given as goal
+
+abbrev pub invariant-loop-next : goal.invariant-loop-next
+invariant-loop-next l = OverAll (Putting l.lines l.removal l.initial.out l.out l.at) l.block l.next
+
+abbrev pub decreases-loop-next : goal.decreases-loop-next
+decreases-loop-next l = length l.block - l.next

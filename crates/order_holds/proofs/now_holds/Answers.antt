@@ -1,0 +1,22 @@
+-- The tests pick the case of the definition.
+use native.Mathlib.Omega.{arith}
+use mathlib.Core.Path.{sym}
+use lib.Seq.{length-take-le}
+use Rattle.order_holds.proofs.Laws.{refused_holds, new_holds, old_holds}
+use Rattle.order_holds.proofs.now_holds.Goals as goal
+
+pub returns-then-number-ne0 : goal.returns-then-number-ne0
+returns-then-number-ne0 c =
+    sym (refused_holds c.args.old.now c.args.second.now c.args.number c.args.length c.if-number-ne0.true)
+
+pub slice_bounds-result-end : goal.slice_bounds-result-end
+slice_bounds-result-end c =
+    sym (length-take-le c.args.length c.args.second.now c.if-length-second.true)
+
+pub returns-then-length-second : goal.returns-then-length-second
+returns-then-length-second c =
+    sym (new_holds c.args.old.now c.args.second.now c.args.number c.args.length c.if-number-ne0.false c.if-length-second.true)
+
+pub returns-else-length-second : goal.returns-else-length-second
+returns-else-length-second c =
+    sym (old_holds c.args.old.now c.args.second.now c.args.number c.args.length c.if-number-ne0.false (omega (arith, c.if-length-second.false)))

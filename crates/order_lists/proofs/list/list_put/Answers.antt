@@ -1,0 +1,123 @@
+-- Bits kept free, then line by line, then the count into them. The invariant holds of whatever lines the list has: the differences of
+-- those that stay are put, and counted.
+use native.Mathlib.Omega.{arith}
+use mathlib.Core.Path.{◌≡◌, refl, subst}
+use Prim.Native.Nat.{ℕ, ◌-◌}
+use mathlib.Core.Bool.{not}
+use mathlib.Core.List.{List}
+use lib.Dec.{T}
+use lib.Pow.{pow_pos}
+use Rattle.find_parts.proofs.Laws.Lists.{list_bits_lem}
+use Rattle.orders.specs.Listed.{removal_lines}
+use Rattle.order_removal.specs.Rank.{below}
+use Rattle.order_lists.specs.List.{gone, Fares, become}
+use Rattle.order_lists.specs.declared.list.Fate.{Fate}
+use Rattle.order_lists.proofs.Laws.List.{PuttingList, putting_first, putting_gone, put_fits, put_room, putting_stays, all_counted, put_all}
+use borrow.Author.Rules.{rules}
+use Rattle.order_lists.proofs.list.list_put.Goals as goal
+use Rattle.order_lists.proofs.list.list_put.Lts as lts
+use Rattle.order_lists.proofs.list.list_put.Reads as reads
+use Rattle.order_lists.proofs.list.list_put.Tie as tie
+
+abbrev At-Start : Type 0
+At-Start = lts.Start tie.the-claims reads.Pre reads.Post goal.the-invariant-loop-k goal.the-decreases-loop-k
+
+abbrev At-At-loop-k : Type 0
+At-At-loop-k = lts.At-loop tie.the-claims reads.Pre reads.Post goal.the-invariant-loop-k goal.the-decreases-loop-k
+
+abbrev At-After-fate_of : Type 0
+At-After-fate_of = lts.After-fate_of tie.the-claims reads.Pre reads.Post goal.the-invariant-loop-k goal.the-decreases-loop-k
+
+abbrev At-In-Stays : Type 0
+At-In-Stays = lts.Past-After-known_told tie.the-claims reads.Pre reads.Post goal.the-invariant-loop-k goal.the-decreases-loop-k
+
+abbrev new : (c : At-Start) → List ℕ
+new c = become c.args.list c.args.words.now c.args.removal.now c.requires.there.value
+
+going : (c : At-At-loop-k) → PuttingList c.args.block.now c.args.list c.args.words.now c.args.removal.now (new c.before.before.before.before.before.before.before.before.before.before) c.args.width c.loop-k.k c.requires.there.behind c.loop-k.before c.loop-k.count c.put_bits-p.new.out c.put_bits-p.result c.loop-k.out c.loop-k.p
+going c = let p = c.requires in c.loop-k.invariant.3 p.there.value p.there.behind p.there.at p.fits
+
+fares : (c : At-After-fate_of) (r : Fate) → c.fate_of.result ≡ r → Fares (removal_lines c.args.removal.now) c.step_on-step.result.stays c.step_on-step.result.line r
+fares c r e = subst (λ (x : Fate). Fares (removal_lines c.args.removal.now) c.step_on-step.result.stays c.step_on-step.result.line x) e c.fate_of.ensures
+
+stays : (c : At-In-Stays) → T (not (gone (removal_lines c.args.removal.now) c.step_on-step.result.stays c.step_on-step.result.line)) × (c.in-Stays.line ≡ c.step_on-step.result.line - below (removal_lines c.args.removal.now) c.step_on-step.result.line)
+stays c = fares c.before _ c.in-Stays.is
+
+pub put_bits-p-requires : goal.put_bits-p-requires
+put_bits-p-requires c =
+    let p = c.requires in
+    let b = list_bits_lem c.args.width c.args.list.own (new c.before.before.before.before.before.before) in
+    record { below = pow_pos c.args.width; narrow = p.narrow; room = omega (arith, b, p.room.room); near = omega (arith, b, p.room.near) }
+
+pub loop-k-init : goal.loop-k-init
+loop-k-init c =
+    (c.requires.there.narrow, omega (arith, c.requires.there.few, c.requires.there.lines, c.requires.there.at.within), refl, putting_first)
+
+pub overflow_add-k : goal.overflow_add-k
+overflow_add-k c =
+    omega (arith, c.loop-k.invariant.1)
+
+pub step_on-step-requires : goal.step_on-step-requires
+step_on-step-requires c =
+    let p = c.requires.there in
+    let m = going c.before.before.before in
+    record { narrow = c.loop-k.invariant.0; short = p.short; more = omega (arith, c.loop-k-test.true); before = m.top; value = m.ms; behind = p.behind; at = m.at }
+
+pub fate_of-requires : goal.fate_of-requires
+fate_of-requires c =
+    c.requires.there.rising
+
+pub loop-k-smaller-in_default : goal.loop-k-smaller-in_default
+loop-k-smaller-in_default c =
+    c.step_on-step.ensures.less
+
+pub loop-k-preserved-in_default : goal.loop-k-preserved-in_default
+loop-k-preserved-in_default c =
+    (omega (arith, c.loop-k.invariant.0, c.step_on-step.ensures.width), omega (arith, c.loop-k.invariant.1, c.step_on-step.ensures.less), c.loop-k.invariant.2, putting_gone c.step_on-step.ensures c.loop-k.invariant.3 (fares c.before.before _ c.in_default.is))
+
+pub overflow_sub-before : goal.overflow_sub-before
+overflow_sub-before c =
+    omega (arith, (put_fits c.step_on-step.ensures c.in-Stays.line (stays c.before.before).1 (stays c.before.before).0 (going c.before.before.before.before.before.before.before.before)).0)
+
+pub put_bits-p-requires-in-loop-k : goal.put_bits-p-requires-in-loop-k
+put_bits-p-requires-in-loop-k c =
+    let p = c.requires in
+    let m = going c.before.before.before.before.before.before.before.before in
+    let b = list_bits_lem c.args.width c.args.list.own (new c.before.before.before.before.before.before.before.before.before.before.before.before.before.before.before.before.before.before) in
+    let r = put_room c.step_on-step.ensures c.in-Stays.line (stays c.before.before).1 (stays c.before.before).0 m in
+    let first = c.put_bits-p.ensures in
+    record {
+      below = (put_fits c.step_on-step.ensures c.in-Stays.line (stays c.before.before).1 (stays c.before.before).0 m).1;
+      narrow = p.narrow;
+      room = omega (arith, r, b, first.place, first.same, c.loop-k.invariant.2, p.room.room);
+      near = omega (arith, r, b, first.place, p.room.near);
+    }
+
+pub overflow_add-count : goal.overflow_add-count
+overflow_add-count c =
+    omega (arith, c.loop-k.invariant.1, c.step_on-step.ensures.less)
+
+pub loop-k-smaller : goal.loop-k-smaller
+loop-k-smaller c =
+    c.step_on-step.ensures.less
+
+pub loop-k-preserved : goal.loop-k-preserved
+loop-k-preserved c =
+    (omega (arith, c.loop-k.invariant.0, c.step_on-step.ensures.width), omega (arith, c.loop-k.invariant.1, c.step_on-step.ensures.less), search rules, putting_stays c.step_on-step.ensures c.loop-k.invariant.3 c.in-Stays.line (stays c.before.before.before.before.before).1 (stays c.before.before.before.before.before).0 c.put_bits-p-in-loop-k.ensures)
+
+pub put_into-requires : goal.put_into-requires
+put_into-requires c =
+    let p = c.requires in
+    let b = list_bits_lem c.args.width c.args.list.own (new c.before.before.before.before.before.before.before.before.before.before.before.before.before.before) in
+    let e = all_counted (omega (arith, c.loop-k-test.false)) (going c.before.before.before.before) in
+    let first = c.put_bits-p.ensures in
+    let n = c.loop-k.invariant.2 in
+    record { below = rw e p.fits.count; narrow = p.narrow; room = omega (arith, b, first.same, n, p.room.room); near = omega (arith, b, p.room.near) }
+
+pub shape_of-out : goal.shape_of-out
+shape_of-out c =
+    omega (arith, c.put_into.ensures.same, c.loop-k.invariant.2, c.put_bits-p.ensures.same)
+
+pub returns : goal.returns
+returns c =
+    put_all (omega (arith, c.loop-k-test.false)) c.put_bits-p.ensures c.loop-k.invariant.3 c.put_into.ensures

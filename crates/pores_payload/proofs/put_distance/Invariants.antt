@@ -1,0 +1,13 @@
+-- All ones as often as they pass, then the last element. The invariant: of the distance's bits, those from here on are still to come.
+use mathlib.Core.Path.{◌≡◌}
+use Prim.Native.Nat.{◌-◌}
+use lib.ListN.{length}
+use Rattle.pores_elements.specs.Element.{most}
+use Rattle.pores_payload.proofs.Laws.Putting.{Ones}
+use Rattle.pores_payload.proofs.put_distance.Given as goal
+
+abbrev pub invariant-loop-left : goal.invariant-loop-left
+invariant-loop-left l = (length l.out ≡ length l.initial.out) × Ones l.e l.distance l.most l.left l.initial.left l.initial.out l.initial.next l.out l.next
+
+abbrev pub decreases-loop-left : goal.decreases-loop-left
+decreases-loop-left l = l.left

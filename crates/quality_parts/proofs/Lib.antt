@@ -1,0 +1,2 @@
+pub mod PartsLaws
+pub mod Verdicts

@@ -1,0 +1,48 @@
+-- What is found, and then its elements, as bytes.
+use native.Mathlib.Omega.{arith}
+use mathlib.Core.Path.{subst}
+use Rattle.put_bytes.specs.HighFirst.{two, joined}
+use Rattle.put_bytes.proofs.Laws.{twos_length}
+use Rattle.outcome.proofs.Laws.{answer_refused}
+use Rattle.trail.specs.Trail.{trailing}
+use Rattle.trailing.specs.Trace.{LineFound, DrawsPart}
+use Rattle.trailing.specs.declared.FoundLine.{FoundLine}
+use Rattle.trailing.proofs.Laws.{can_draw, full, given_out}
+use Rattle.trailing.proofs.trail_as_bytes.Goals as goal
+use Rattle.trailing.proofs.trail_as_bytes.Lts as lts
+use Rattle.trailing.proofs.trail_as_bytes.Reads as reads
+use Rattle.trailing.proofs.trail_as_bytes.Tie as tie
+
+abbrev At-In-At : Type 0
+At-In-At = lts.Past-After-known_told2 tie.the-claims reads.Pre reads.Post
+
+draws : (c : At-In-At) → DrawsPart c.args.bytes.now (trailing c.args.view c.args.line c.args.bytes.now) c.in-At.skeleton.from c.in-At.skeleton.to c.in-At.w
+draws c = subst (λ (r : FoundLine). LineFound c.args.bytes.now (trailing c.args.view c.args.line c.args.bytes.now) r) c.in-At.is c.find.ensures
+
+pub slice_bounds-trail_bytes-count : goal.slice_bounds-trail_bytes-count
+slice_bounds-trail_bytes-count c =
+    let d = draws c.before.before.before.before in omega (arith, d.order, d.within)
+
+pub slice_bounds-trail_bytes-start : goal.slice_bounds-trail_bytes-start
+slice_bounds-trail_bytes-start c =
+    let d = draws c.before.before.before.before in omega (arith, d.order, d.within)
+
+pub slice_bounds-trail_bytes-end : goal.slice_bounds-trail_bytes-end
+slice_bounds-trail_bytes-end c =
+    let d = draws c.before.before.before.before in omega (arith, d.order, d.within)
+
+pub trail_bytes-length-requires : goal.trail_bytes-length-requires
+trail_bytes-length-requires c =
+    can_draw (joined two) 2 (λ n m e. omega arith) twos_length (draws c.before.before.before.before.before.before) c.args.out.now (omega (arith, c.if-out-w.false))
+
+pub returns-in-Refused : goal.returns-in-Refused
+returns-in-Refused c =
+    rw c.refuse_at.ensures (answer_refused (joined two) _ c.args.out.now (subst (λ (r : FoundLine). LineFound c.args.bytes.now (trailing c.args.view c.args.line c.args.bytes.now) r) c.in-Refused.is c.find.ensures))
+
+pub returns-then-out-w : goal.returns-then-out-w
+returns-then-out-w c =
+    rw c.refuse.ensures (full (joined two) 2 (λ n m e. omega arith) twos_length (draws c.before.before.before.before) c.args.out.now c.if-out-w.true)
+
+pub returns-else-out-w : goal.returns-else-out-w
+returns-else-out-w c =
+    rw c.accept.ensures (given_out (joined two) 2 (λ n m e. omega arith) twos_length (draws c.before.before.before.before.before.before.before.before.before.before) c.args.out.now c.if-out-w.false (omega arith) c.trail_bytes-length.ensures)
