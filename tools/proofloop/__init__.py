@@ -1,6 +1,5 @@
-"""The parts of tools/proof, the loop in which a function's proof is made.
+"""The parts of tools/proof, the loop in which a crate's proofs are made.
 
-tree knows the repository and runs rt; said reads what rt prints; places reads the places of a function's code; skeleton
-and answers put a proof file together, and agree compares them; names and tidy clean up. Only tree runs a program, so that
-tools/test.py can test the rest on texts.
+tree knows the repository and runs rt; said reads what rt prints; times reads what a check left behind; alike reads laws. Only tree
+runs a program, so that tools/test.py can test the rest on texts.
 """

@@ -1,6 +1,6 @@
-"""What rt prints about a crate, taken apart into blocks and told in fewer words. rt says all it knows, thousands of
-characters for each fact that is not proved; a maintainer in the loop wants the errors, the goals of the holes and the
-functions that are left.
+"""What `rt check` prints about a crate, taken apart into blocks and told in fewer words. rt says all it knows, thousands of
+characters for each fact that is not proved; a maintainer in the loop wants the errors, the open goals and the functions that are
+left.
 """
 import re
 from dataclasses import dataclass
@@ -8,13 +8,15 @@ from dataclasses import dataclass
 LINE, WHOLE, FIRST = 900, 14000, 300  # how many characters are shown: of a line, of all, of an error's first line
 
 KINDS = [
-    ("note", r"note:|\S+: note:"),
+    ("wanted", r"note: `\S+` of \S+ (must prove|may be false):"),
+    ("note", r"note:|warning:|\S+: note:|hides "),
     ("file", r"help: write \S+ with these lines"),
     ("help", r"help:"),
-    ("verdict", r"(fn|struct|enum) \S+: "),
+    ("verdict", r"(fn|struct|enum|impl|trait) \S+: "),
     ("goal", r"\S+: goal \?"),
     ("holed", r".* is not admitted: has-holes"),
-    ("account", r"logic[ =]|library |crate |generated=|holes=|rt: \S+ (proved|ran)|rt: ok|\s*$"),
+    ("account", r"logic[ =]|(library|statements|crate|checked|axioms|wrote) |(holes|started|only|tests)=|so far:|by-macro:|\s*$"),
+    ("account", r"rt: (chose |rt |waiting |\S+: (begins with|another copy))"),
 ]
 
 
@@ -50,7 +52,7 @@ def of_kind(text, *kinds):
 
 
 def proved(verdict):
-    return re.search(r": (proved|no holes)$", verdict.first) is not None
+    return re.search(r": (proved|no holes)\b[^;]*$", verdict.first) is not None
 
 
 def of_another(verdict):
@@ -64,19 +66,18 @@ def unproved(text):
 
 
 def holes(text):
-    """The holes with a goal, as FILE.NAME; FILE below proofs/ or specs/, and a function's folder for its proof."""
-    found = []
-    for block in of_kind(text, "goal"):
-        file = block.first.partition(":")[0]
-        file = re.sub(r"^crates/[^/]+/[^/]+/|(/Proof)?\.antt$", "", file)
-        found.append(f"{file}.{declared(block)}")
-    return found
+    """The open goals, as FILE.NAME; FILE below proofs/ or specs/, and a function's folder for its proof."""
+    found = {}
+    for block in of_kind(text, "goal", "wanted"):
+        file = re.search(r"(?:proofs|specs)/(\S+?)(?:/(?:Answers|Invariants|Proof))?\.antt", block.first)
+        found[f"{file.group(1) if file else ''}.{declared(block)}"] = True
+    return list(found)
 
 
 def declared(block):
     """The name of the declaration that a goal or an error is about."""
-    found = re.search(r"goal \?\S* in `([^`]+)`|error: `([^`]+)`:", block.first)
-    return (found.group(1) or found.group(2)) if found else None
+    found = re.search(r"goal \?\S* in `([^`]+)`|error: `([^`]+)`:|^note: `([^`]+)` of", block.first)
+    return next(filter(None, found.groups())) if found else None
 
 
 # ---- told in fewer words
@@ -97,15 +98,15 @@ def told(text, where):
             shown.append(f"no file yet: {block.first.split()[2]}")
         elif block.kind == "account":
             shown += [line for line in block.lines if line.startswith("holes=")]
-        elif block.kind in ("goal", "error") or (block.kind == "verdict" and not of_another(block)):
+        elif block.kind in ("goal", "wanted", "error") or (block.kind == "verdict" and not of_another(block)):
             shown += [line[:LINE] for line in block.lines if line.strip()]
     return cut(shown, where)
 
 
 def errors(text, where):
-    """The errors, each cut, and the names of the holes."""
+    """The errors, each cut, and the names of the open goals."""
     shown = [block.text.rstrip()[:LINE] for block in of_kind(text, "error")]
-    return below(cut(shown, where), f"holes: {' '.join(holes(text)) or 'none'}")
+    return below(cut(shown, where), f"goals: {' '.join(holes(text)) or 'none'}")
 
 
 def short(text, where):
@@ -120,15 +121,6 @@ def below(text, line):
 
 
 def goal(text, name):
-    """The goals of a declaration's holes, whole, and its errors; None if there are none."""
-    found = [block.text.rstrip() for block in of_kind(text, "goal", "error") if declared(block) == name]
+    """The goals of a declaration, whole, and its errors; None if there are none."""
+    found = [block.text.rstrip() for block in of_kind(text, "goal", "wanted", "error") if declared(block) == name]
     return "\n".join(found) or None
-
-
-def files(text):
-    """The proof files that rt wants written, with their lines."""
-    found = {}
-    for block in of_kind(text, "file"):
-        lines = [line[4:].rstrip() for line in block.lines[1:]]
-        found[block.first.split()[2]] = "\n".join(lines).strip("\n") + "\n"
-    return found

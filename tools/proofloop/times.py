@@ -1,5 +1,6 @@
-"""How long each module of a check took. antt writes a module's file as soon as it has checked it, one after another, so
-that the time between two files is the later one's.
+"""How long each module of a check took. antt writes a module's file as soon as it has checked it, with one job one after another, so
+that the time between two files is the later one's. (Of a crate with much to check, copies of antt check a part each, and their files
+come between: run it again where a time cannot be.)
 """
 
 
