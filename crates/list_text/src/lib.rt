@@ -10,6 +10,8 @@ use list_fingers::finger;
 use list_numbers::{Listed, listed_at};
 use std::io;
 
+pub mod input; // what a program reads
+
 pub fn text(rt: &impl Print, bytes: &[u8]) -> io::Result<()> {
     rt.write_all(bytes)
 }

@@ -2,13 +2,12 @@
 #![tactic(auto)]
 
 use format::Header;
+use list_text::input::read_full;
 use list_text::listing;
 use std::io;
-use std::io::Read;
 
 fn main(rt: HostRuntime) -> io::Result<()> {
-    let mut bytes = Vec::new(rt.alloc());
-    let mut input = rt.reader().take(Header::MOST_BYTES as u64 + 1);
-    input.read_to_end(&mut bytes)?;
-    listing(&rt, &bytes)
+    let mut buffer = [0u8; Header::MOST_BYTES + 1];
+    let n = read_full(&mut rt.reader(), &mut buffer)?;
+    listing(&rt, &buffer[..n])
 }

@@ -9,13 +9,13 @@ use card_reading::card_read;
 use card_writing::card_write;
 use format::{Header, ViewName};
 use judge::{Verdict, judge};
+use list_text::input::read_full;
 use list_text::{listing, number, refused, text};
 use outcome::Refusal;
 use pores_reading::pores;
 use quality_reading::quality;
 use reading::read;
 use segment::{payload, segment};
-use std::io::Read;
 use std::rt::Files;
 use std::{env, fs, io};
 use trailing::trail;
@@ -229,20 +229,20 @@ fn is_card(path: &str) -> bool {
 }
 
 // One byte more than a record may have is read, so that a longer one is refused.
-fn of_file<R: Print + Eprint + Files + Alloc>(rt: &R, path: &str) -> io::Result<()> {
-    let file = match fs::open(rt, path) {
+fn of_file<R: Print + Eprint + Files>(rt: &R, path: &str) -> io::Result<()> {
+    let mut file = match fs::open(rt, path) {
         Ok(file) => file,
         Err(e) => return eprintln!(rt; "{path}: {e}"),
     };
-    let mut bytes = Vec::new(rt.alloc());
-    let mut input = file.take(Header::MOST_BYTES as u64 + 1);
-    input.read_to_end(&mut bytes)?;
+    let mut buffer = [0u8; Header::MOST_BYTES + 1];
+    let n = read_full(&mut file, &mut buffer)?;
     println!(rt; "{path}")?;
+    let bytes = &buffer[..n];
     if is_card(path) {
-        of_object(rt, 0, &bytes)?;
-        of_object(rt, 1, &bytes)
+        of_object(rt, 0, bytes)?;
+        of_object(rt, 1, bytes)
     } else {
-        of_record(rt, &bytes)
+        of_record(rt, bytes)
     }
 }
 
