@@ -20,7 +20,7 @@
  * the caller is what a call cannot see, that each pointer is valid for its length and that the output overlaps no input. A call keeps
  * no pointer, allocates nothing, and never reads or writes outside the slices it is lent.
  *
- * Measured on the records of the library's benchmark, no call takes more than 1,548 bytes of stack (fsk_pairs), reading 904, writing
+ * Measured on the records of the library's benchmark, no call takes more than 1,560 bytes of stack (fsk_pairs), reading 856, writing
  * 352. The return address is counted, and so is what a function keeps in the 128 bytes below its stack pointer, which x86-64 leaves to
  * it: whatever else runs on the same stack has to leave them alone too.
  *

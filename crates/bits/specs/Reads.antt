@@ -1,14 +1,11 @@
 -- What reading means for code that moves a place over a block of bytes: the value found and the place behind it, or a refusal and
 -- its place. Places are bits from the block's start.
-use Rattle.std.specs.Prelude.{◌≡◌, ℕ, ◌+◌, ◌-◌, ◌*◌, ◌≤◌, Bool, List, length, drop}
+use Rattle.std.specs.Prelude.{◌≡◌, ℕ, ◌+◌, ◌-◌, ◌*◌, ◌≤◌, Bool, List, Result, Ok, Err, length, drop}
 use Rattle.bits.specs.Lists.{total}
 use Rattle.bits.specs.Bits.{Bits}
 use Rattle.bits.specs.Bytes.{bits_of}
 use Rattle.bits.specs.Codec.{Read, got, refused}
-use Rattle.bits.specs.declared.Taken.{Taken}
-use Rattle.bits.specs.declared.Taken.TheVariants as tk
-use Rattle.bits.specs.declared.ranged.RangedAt.{RangedAt}
-use Rattle.bits.specs.declared.ranged.RangedAt.TheVariants as rg
+use Rattle.bits.specs.declared.Sure.{Sure}
 
 pub data Found (A : Type 0) : Type 0 where
   found : A → ℕ → Found A
@@ -28,15 +25,10 @@ pub record Reads {A : Type 0} (d : Bits → Read Bool A) (s : List ℕ) (p : ℕ
   pub is : d (drop p (bits_of s)) ≡ placed s r
   pub within : place_found r ≤ 8 * length s
 
--- what a field read finds; e is the refusal where it passes the end
-abbrev pub taken : ℕ → Taken → Found ℕ
-taken e (tk.Bits n c) = found n c.at
-taken e (tk.Short p) = fault e p
-
--- the same of a byte; e is the refusal of one outside its range, too
-abbrev pub ranged_at : ℕ → RangedAt → Found ℕ
-ranged_at e (rg.At x c) = found x c.at
-ranged_at e (rg.Outside p) = fault e p
+-- what a field read finds; e is the refusal where it passes the end, and of a byte that has a range where it is outside that, too
+abbrev pub taken : ℕ → Result Sure ℕ → Found ℕ
+taken e (Ok f) = found f.value f.next.at
+taken e (Err p) = fault e p
 
 -- ---- what is kept of a value
 

@@ -2,30 +2,21 @@
 // outside its range is, at the byte's own place.
 ghost use Rattle.std.specs.Prelude.{ℕ, ◌*◌, ◌≤◌, length};
 ghost use Rattle.bits.specs.CodecLaws.{ranged};
-ghost use Rattle.bits.specs.Reads.{Reads, ranged_at};
+ghost use Rattle.bits.specs.Reads.{Reads, taken};
 
-use crate::{Cursor, Taken};
+use crate::{Cursor, Sure};
 
-// The byte's value and the cursor behind it; or its own place, where it is refused.
-#[derive(Clone, Copy)]
-pub enum RangedAt {
-    At(usize, Cursor),
-    Outside(usize),
-}
-
-// The byte at the cursor, which may be low to high.
-pub fn ranged_at(p: Cursor, bytes: &[u8], low: usize, high: usize) -> RangedAt
+// The byte at the cursor, which may be low to high, and the cursor behind it; or its own place, where it is refused.
+pub fn ranged_at(p: Cursor, bytes: &[u8], low: usize, high: usize) -> Result<Sure, usize>
     requires { (length bytes.now ≤ 65535) × (p.at ≤ 8 * length bytes.now) }
-    ensures { (e : ℕ) → Reads (ranged e 8 low high).dec bytes.now p.at (ranged_at e result) }
+    ensures { (e : ℕ) → Reads (ranged e 8 low high).dec bytes.now p.at (taken e result) }
 {
-    let Taken::Bits(x, next) = p.field(bytes, 8) else {
-        return RangedAt::Outside(p.at);
-    };
-    if x < low {
-        return RangedAt::Outside(p.at);
+    let byte = p.field(bytes, 8)?;
+    if byte.value < low {
+        return Err(p.at);
     }
-    if high < x {
-        return RangedAt::Outside(p.at);
+    if high < byte.value {
+        return Err(p.at);
     }
-    RangedAt::At(x, next)
+    Ok(byte)
 }

@@ -1,5 +1,5 @@
 // The judge of a skeleton block that is lent as a slice of its own, as the one inside a card's object is. It says how many lines the
-// block has, or the number of its refusal and the place, in bits.
+// block has, or why and where it refuses; a place is in bits.
 #![tactic(auto)]
 
 ghost use Rattle.std.specs.Prelude.{◌≤◌, length};
@@ -8,19 +8,13 @@ ghost use Rattle.card_lines.specs.Lines.{lines_dec, lined};
 
 use bits::Cursor;
 use format::{ViewHeader, Widths};
-use judge_zeros::{Cleared, zeros_at};
-use outcome::Refusal;
-
-// What the judge of the block answers.
-#[derive(Clone, Copy)]
-pub enum Lined {
-    Lines(usize),
-    Refused(u32, usize),
-}
+use judge_zeros::zeros_at;
+use outcome::{Fault, Refusal};
 
 // The block's lines, then zero bits. Ends and codes are right whatever their bits are, so a line is passed by two comparisons with the
-// bits left: of its start with the count of codes, and of the codes with its end.
-pub fn judge_lines(block: &[u8], w: Widths) -> Lined
+// bits left: of its start with the count of codes, and of the codes with its end. Document 01 asks for one nest over views, lines and
+// codes, so `judge_views` has this loop inside its own.
+pub fn judge_lines(block: &[u8], w: Widths) -> Result<usize, Fault>
     requires { (length block.now ≤ 65535) × (w.b ≤ 8) × (w.c ≤ 16) × (w.k ≤ 8) }
     ensures { Reads (lines_dec w) block.now 0 (lined block.now result) }
 {
@@ -32,10 +26,10 @@ pub fn judge_lines(block: &[u8], w: Widths) -> Lined
     while 8 <= end - p.at {
         let left = end - p.at;
         if n == ViewHeader::MOST_LINES {
-            return Lined::Refused(Refusal::TOO_MANY_LINES, p.at);
+            return Err(Refusal::TooManyLines.at(p.at));
         }
         if left < least {
-            return Lined::Refused(Refusal::BAD_LINE, p.at);
+            return Err(Refusal::BadLine.at(p.at));
         }
         let place = p.at;
         let codes = Cursor {
@@ -45,13 +39,11 @@ pub fn judge_lines(block: &[u8], w: Widths) -> Lined
         p = codes.next;
         let rest = codes.value * w.k + end_bits;
         if end - p.at < rest {
-            return Lined::Refused(Refusal::BAD_LINE, place);
+            return Err(Refusal::BadLine.at(place));
         }
         p = Cursor { at: p.at + rest };
-        n = n + 1;
+        n += 1;
     }
-    match zeros_at(p, block) {
-        Cleared::One(q) => Lined::Refused(Refusal::BAD_LINE, q),
-        Cleared::All => Lined::Lines(n),
-    }
+    zeros_at(p, block).map_err(|place| Refusal::BadLine.at(place))?;
+    Ok(n)
 }

@@ -1,5 +1,5 @@
 -- What the code that reads a card's object asks and answers: the judge, and the writer of the record.
-use Rattle.std.specs.Prelude.{◌≡◌, ℕ, ◌+◌, ◌-◌, ◌*◌, ◌≤◌, ◌<◌, List, [], ◌∷◌, ◌++◌, length, take, drop, leb}
+use Rattle.std.specs.Prelude.{◌≡◌, ℕ, ◌+◌, ◌-◌, ◌*◌, ◌≤◌, ◌<◌, Result, Ok, Err, List, [], ◌∷◌, ◌++◌, length, take, drop, leb}
 use Rattle.bits.specs.Choice.{pick}
 use Rattle.bits.specs.Bytes.{bits_of}
 use Rattle.bits.specs.Codec.{got}
@@ -7,7 +7,9 @@ use Rattle.bits.specs.Codec as C
 use Rattle.put_bytes.specs.HighFirst.{two}
 use Rattle.outcome.specs.Refusals.{too_long}
 use Rattle.outcome.specs.Outcome.{Outcome, refused, given, Answers}
+use Rattle.outcome.specs.Why.{number}
 use Rattle.outcome.specs.declared.Answer.{Answer}
+use Rattle.outcome.specs.declared.refusal.Refused.{Refused}
 use Rattle.format.specs.Limits.{most_bytes}
 use Rattle.format.specs.declared.Widths.{Widths}
 use Rattle.format.specs.declared.Scale.{Scale}
@@ -15,8 +17,6 @@ use Rattle.find_parts.specs.Stored.{scale_bytes}
 use Rattle.card.specs.Card.{Content, card}
 use Rattle.card.specs.Stored.{value_out}
 use Rattle.card_shape.specs.declared.Value.{Value}
-use Rattle.card_reading.specs.declared.FoundCard.{FoundCard}
-use Rattle.card_reading.specs.declared.FoundCard.TheVariants as f
 
 -- ---- what is asked of a size
 
@@ -42,9 +42,9 @@ pub record Carded (w : Widths) (object : List ℕ) (x : Value) : Type 0 where
   pub within : x.to ≤ length object
   pub bytes : take (x.to - x.from) (drop x.from object) ≡ value_out w value
 
-abbrev pub CardFound : Widths → List ℕ → FoundCard → Type 0
-CardFound w object (f.At x) = Carded w object x
-CardFound w object (f.Refused e p) = ((card w).dec (bits_of object) ≡ C.refused e (8 * length object - p)) × (p ≤ 8 * length object)
+abbrev pub CardFound : Widths → List ℕ → Result Value Refused → Type 0
+CardFound w object (Ok x) = Carded w object x
+CardFound w object (Err r) = ((card w).dec (bits_of object) ≡ C.refused (number r.why) (8 * length object - r.place)) × (r.place ≤ 8 * length object)
 
 -- ---- the record of one view, which has this value
 

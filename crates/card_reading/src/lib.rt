@@ -4,55 +4,47 @@
 ghost use Rattle.std.specs.Prelude.{◌+◌, ◌≤◌, ◌<◌, length};
 ghost use Rattle.put_bytes.specs.Laid.{Laid};
 ghost use Rattle.outcome.specs.Outcome.{Answers};
+ghost use Rattle.outcome.specs.Why.{answer_of};
 ghost use Rattle.find_parts.specs.Stored.{scale_bytes};
 ghost use Rattle.card.specs.Card.{card_read};
 ghost use Rattle.card_reading.specs.Reading.{NarrowWidths, SmallScale, CardFound, head_for, record_for, RecordRoom, RecordGiven};
 
-use card::{CardScale, scale_of};
-use card_lines::{Lined, judge_lines};
-use card_shape::{Shape, Value, shape_of};
+use card::scale_of;
+use card_lines::judge_lines;
+use card_shape::{Value, shape_of};
 use format::{Header, Scale, Widths};
-use judge_blocks::Judged;
 use judge_blocks::index::judge_index;
-use outcome::{Answer, Refusal, accept, refuse, refuse_at};
+use outcome::{Answer, Refusal, Refused};
 use put_bytes::{copy, put_three, put_two};
 
-// The value of an object whose shape, lines and index are right; or the number and the place of the refusal: 27, then 8 to 10.
-#[derive(Clone, Copy)]
-pub enum FoundCard {
-    At(Value),
-    Refused { number: u32, place: u32 },
-}
-
-fn judge_card(object: &[u8], w: Widths) -> FoundCard
+// The value of an object whose shape, lines and index are right: 27, then 8 to 10.
+fn judge_card(object: &[u8], w: Widths) -> Result<Value, Refused>
     requires { NarrowWidths w }
     ensures { CardFound w object.now result }
 {
-    let Shape::At(value) = shape_of(object) else {
-        return FoundCard::Refused {
-            number: Refusal::BAD_OBJECT,
-            place: 0,
-        };
+    let Some(value) = shape_of(object) else {
+        return Err(Refusal::BadObject.into());
     };
     let from = value.from + 6;
     let to = value.index;
-    match judge_lines(&object[from..to], w) {
-        Lined::Refused(number, p) => FoundCard::Refused {
-            number,
-            place: (8 * from + p) as u32,
-        },
-        Lined::Lines(lines) => {
-            let first = to + 2;
-            let end = value.to;
-            match judge_index(&object[first..end], lines) {
-                Judged::Refused(number, p) => FoundCard::Refused {
-                    number,
-                    place: (8 * first + p) as u32,
-                },
-                Judged::Fine(_) => FoundCard::At(value),
-            }
+    let lines = match judge_lines(&object[from..to], w) {
+        Ok(lines) => lines,
+        Err(fault) => {
+            return Err(Refused {
+                why: fault.why,
+                place: (8 * from + fault.place) as u32,
+            });
         }
+    };
+    let first = to + 2;
+    let end = value.to;
+    if let Err(p) = judge_index(&object[first..end], lines) {
+        return Err(Refused {
+            why: Refusal::BadIndex,
+            place: (8 * first + p) as u32,
+        });
     }
+    Ok(value)
 }
 
 // Bytes 15 to 21 of a record, two at a time behind the first.
@@ -92,33 +84,31 @@ fn record_put(out: &mut [u8], value: &[u8], s: Scale) -> usize
 }
 
 // The same, where it is short enough and there is room: 19, 20.
-fn record_given(out: &mut [u8], value: &[u8], s: Scale) -> Answer
+fn record_given(out: &mut [u8], value: &[u8], s: Scale) -> Result<usize, Refused>
     requires { SmallScale s }
-    ensures { RecordGiven value.now s out.old out.new result }
+    ensures { RecordGiven value.now s out.old out.new (answer_of result) }
 {
     if Header::MOST_BYTES - 30 < value.len() {
-        return refuse(Refusal::TOO_LONG);
+        return Err(Refusal::TooLong.into());
     }
     if out.len() < 30 + value.len() {
-        return refuse(Refusal::NO_ROOM);
+        return Err(Refusal::NoRoom.into());
     }
-    let length = record_put(out, value, s);
-    accept(length)
+    Ok(record_put(out, value, s))
 }
 
 // The record of any bytes and any size: 27, 8 to 10, 19, 20.
+fn read_card(size: u32, object: &[u8], out: &mut [u8]) -> Result<usize, Refused>
+    ensures { Answers (card_read size object.now) out.old out.new (answer_of result) }
+{
+    let scale = scale_of(size).ok_or(Refusal::BadObject)?;
+    let value = judge_card(object, scale.widths)?;
+    record_given(out, &object[value.from..value.to], scale)
+}
+
+// The same, as a call answers.
 pub fn card_read(size: u32, object: &[u8], out: &mut [u8]) -> Answer
     ensures { Answers (card_read size object.now) out.old out.new result }
 {
-    let CardScale::Known(scale) = scale_of(size) else {
-        return refuse(Refusal::BAD_OBJECT);
-    };
-    match judge_card(object, scale.widths) {
-        FoundCard::Refused { number, place } => refuse_at(number, place),
-        FoundCard::At(value) => {
-            let from = value.from;
-            let to = value.to;
-            record_given(out, &object[from..to], scale)
-        }
-    }
+    Answer::of(read_card(size, object, out))
 }

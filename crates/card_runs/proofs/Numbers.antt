@@ -8,7 +8,7 @@ use Rattle.outcome.specs.Refusals.{bad_run}
 use Rattle.outcome.specs.Numbers.{Gives, run_numbers}
 use Rattle.outcome.specs.Outcome.{Outcome, refused, AnswersAs}
 use Rattle.outcome.specs.declared.Answer.{Answer}
-use Rattle.outcome.proofs.Refused.{Refused, refused_map, refused_answer}
+use Rattle.outcome.proofs.Refusing.{Refused, refused_map, refused_answer}
 use Rattle.outcome.proofs.Numbers.{RefusedBy, answer_number, never_zero}
 use Rattle.card_runs.specs.Runs.{lent_ok, low_bytes, restored_ok, from_low_bytes}
 

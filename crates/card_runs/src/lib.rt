@@ -6,24 +6,23 @@ ghost use Rattle.std.specs.Prelude.{◌≡◌, ◌*◌, ◌/◌, ◌≤◌, leng
 ghost use Rattle.put_bytes.specs.Laid.{Laid};
 ghost use Rattle.put_bytes.specs.HighFirst.{two, joined, numbers_in};
 ghost use Rattle.outcome.specs.Outcome.{Answers, AnswersInBytes};
+ghost use Rattle.outcome.specs.Why.{answer_of};
 ghost use Rattle.card_runs.specs.Runs.{lent_ok, low_of, low_bytes, added_at, run_of, restored_ok, from_low_bytes};
 
 use bits::{two_at, wide};
-use outcome::{Answer, Refusal, accept, refuse};
+use outcome::{Answer, Refusal, Refused};
 use put_bytes::put_two;
 
 // Whether the bytes are whole numbers that start at most at 255, never fall, and rise by at most 255 in a step.
 fn run_right(run: &[u8]) -> bool
     ensures { result ≡ lent_ok run.now }
 {
-    let size = run.len();
-    if size % 2 != 0 {
+    if run.len() % 2 != 0 {
         return false;
     }
     let mut last: usize = 0;
-    let mut a: usize = 0;
-    while a < size {
-        let number = two_at(run, a);
+    for pair in run.chunks_exact(2) {
+        let number = two_at(pair, 0);
         if number < last {
             return false;
         }
@@ -31,7 +30,6 @@ fn run_right(run: &[u8]) -> bool
             return false;
         }
         last = number;
-        a += 2;
     }
     true
 }
@@ -42,25 +40,30 @@ fn put_low(out: &mut [u8], run: &[u8]) -> usize
     ensures { Laid (low_of (numbers_in run.now)) out.old out.new result }
 {
     let count = run.len() / 2;
-    let mut i: usize = 0;
-    while i < count {
+    for i in 0..count {
         out[i] = run[2 * i + 1];
-        i += 1;
     }
-    i
+    count
+}
+
+// A run to its low bytes, or why not.
+fn lowered(run: &[u8], out: &mut [u8]) -> Result<usize, Refused>
+    ensures { Answers (low_bytes run.now) out.old out.new (answer_of result) }
+{
+    if !run_right(run) {
+        return Err(Refusal::BadRun.into());
+    }
+    if out.len() < run.len() / 2 {
+        return Err(Refusal::NoRoom.into());
+    }
+    Ok(put_low(out, run))
 }
 
 // A run to its low bytes.
 pub fn low_bytes(run: &[u8], out: &mut [u8]) -> Answer
     ensures { Answers (low_bytes run.now) out.old out.new result }
 {
-    if !run_right(run) {
-        return refuse(Refusal::BAD_RUN);
-    }
-    if out.len() < run.len() / 2 {
-        return refuse(Refusal::NO_ROOM);
-    }
-    accept(put_low(out, run))
+    Answer::of(lowered(run, out))
 }
 
 // What is added at the low byte x: 256 more where it is below the byte before.
@@ -80,15 +83,13 @@ fn bytes_right(bytes: &[u8]) -> bool
 {
     let mut added: usize = 0;
     let mut before: usize = 0;
-    let mut i: usize = 0;
-    while i < bytes.len() {
-        let x = wide(bytes[i]);
+    for byte in bytes {
+        let x = wide(*byte);
         added = added_at(added, before, x);
         if 65535 < added + x {
             return false;
         }
         before = x;
-        i += 1;
     }
     true
 }
@@ -101,26 +102,31 @@ fn put_run(out: &mut [u8], bytes: &[u8]) -> usize
     let mut added: usize = 0;
     let mut before: usize = 0;
     let mut at: usize = 0;
-    let mut i: usize = 0;
-    while i < bytes.len() {
-        let x = wide(bytes[i]);
+    for byte in bytes {
+        let x = wide(*byte);
         added = added_at(added, before, x);
         at += put_two(&mut out[at..], added + x);
         before = x;
-        i += 1;
     }
-    i
+    bytes.len()
+}
+
+// Low bytes back to their run, or why not.
+fn restored(bytes: &[u8], out: &mut [u8]) -> Result<usize, Refused>
+    ensures { AnswersInBytes (from_low_bytes bytes.now) out.old out.new (answer_of result) }
+{
+    if !bytes_right(bytes) {
+        return Err(Refusal::BadRun.into());
+    }
+    if out.len() / 2 < bytes.len() {
+        return Err(Refusal::NoRoom.into());
+    }
+    Ok(put_run(out, bytes))
 }
 
 // Low bytes back to their run.
 pub fn from_low_bytes(bytes: &[u8], out: &mut [u8]) -> Answer
     ensures { AnswersInBytes (from_low_bytes bytes.now) out.old out.new result }
 {
-    if !bytes_right(bytes) {
-        return refuse(Refusal::BAD_RUN);
-    }
-    if out.len() / 2 < bytes.len() {
-        return refuse(Refusal::NO_ROOM);
-    }
-    accept(put_run(out, bytes))
+    Answer::of(restored(bytes, out))
 }

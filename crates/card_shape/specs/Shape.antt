@@ -1,6 +1,6 @@
 -- What the code that goes over a card's object answers: where its parts stand, or that what it is asked for is refused with 27. A part stands
 -- where it does whatever its blocks hold, so that nothing is said of these here.
-use Rattle.std.specs.Prelude.{◌≡◌, ℕ, ◌+◌, ◌-◌, ◌*◌, ◌≤◌, ◌<◌, Bool, true, false, List, [], length, take, drop}
+use Rattle.std.specs.Prelude.{◌≡◌, ℕ, ◌+◌, ◌-◌, ◌*◌, ◌≤◌, ◌<◌, Bool, true, false, Option, Some, None, List, [], length, take, drop}
 use Rattle.bits.specs.Bits.{Bits}
 use Rattle.bits.specs.Bytes.{bits_of}
 use Rattle.bits.specs.Codec.{Read, got, field_dec}
@@ -10,16 +10,9 @@ use Rattle.outcome.specs.Refusals.{bad_object}
 use Rattle.card.specs.Length.{object_length}
 use Rattle.card.specs.Object.{Other, others, any_bytes, value_block, template}
 use Rattle.card.specs.Card.{shape}
-use Rattle.find_parts.specs.declared.view.Part.{Part}
+use Rattle.format.specs.declared.Part.{Part}
 use Rattle.card_shape.specs.declared.LengthAt.{LengthAt}
-use Rattle.card_shape.specs.declared.LengthAt.TheVariants as l
-use Rattle.card_shape.specs.declared.ValueAt.{ValueAt}
-use Rattle.card_shape.specs.declared.ValueAt.TheVariants as v
-use Rattle.card_shape.specs.declared.BlocksIn.{BlocksIn}
-use Rattle.card_shape.specs.declared.BlocksIn.TheVariants as b
 use Rattle.card_shape.specs.declared.Value.{Value}
-use Rattle.card_shape.specs.declared.Shape.{Shape}
-use Rattle.card_shape.specs.declared.Shape.TheVariants as s
 
 -- the bytes are refused with 27, wherever
 pub record Bad {A : Type 0} (d : Bits → Read Bool A) (bytes : List ℕ) : Type 0 where
@@ -28,11 +21,11 @@ pub record Bad {A : Type 0} (d : Bits → Read Bool A) (bytes : List ℕ) : Type
 
 -- ---- a length at byte a
 
-abbrev pub length_at : ℕ → LengthAt → Found ℕ
-length_at a (l.At n q) = found n (8 * q)
-length_at a l.Bad = fault bad_object (8 * a)
+abbrev pub length_at : ℕ → Option LengthAt → Found ℕ
+length_at a (Some x) = found x.length (8 * x.next)
+length_at a None = fault bad_object (8 * a)
 
-abbrev pub LengthFound : List ℕ → ℕ → LengthAt → Type 0
+abbrev pub LengthFound : List ℕ → ℕ → Option LengthAt → Type 0
 LengthFound bytes a r = Reads object_length.dec bytes (8 * a) (length_at a r)
 
 -- ---- a value behind its length, which is at byte a
@@ -48,9 +41,9 @@ pub data CutValue (bytes : List ℕ) (a : ℕ) : Type 0 where
   length_bad : Reads object_length.dec bytes (8 * a) (fault bad_object (8 * a)) → CutValue bytes a
   value_past : (n q : ℕ) → Reads object_length.dec bytes (8 * a) (found n (8 * q)) → length bytes - q < n → CutValue bytes a
 
-abbrev pub ValueFound : List ℕ → ℕ → ValueAt → Type 0
-ValueFound bytes a (v.At x) = WholeValue bytes a x
-ValueFound bytes a v.Bad = CutValue bytes a
+abbrev pub ValueFound : List ℕ → ℕ → Option Part → Type 0
+ValueFound bytes a (Some x) = WholeValue bytes a x
+ValueFound bytes a None = CutValue bytes a
 
 -- ---- the objects behind 90
 
@@ -70,9 +63,9 @@ pub record BlocksStand (bytes : List ℕ) (i : ℕ) : Type 0 where
   pub low : 6 ≤ i
   pub within : i + 2 ≤ length bytes
 
-abbrev pub BlocksFound : List ℕ → BlocksIn → Type 0
-BlocksFound bytes (b.At i) = BlocksStand bytes i
-BlocksFound bytes b.Bad = Bad (value_block any_bytes (λ _. any_bytes)).dec bytes
+abbrev pub BlocksFound : List ℕ → Option ℕ → Type 0
+BlocksFound bytes (Some i) = BlocksStand bytes i
+BlocksFound bytes None = Bad (value_block any_bytes (λ _. any_bytes)).dec bytes
 
 -- ---- the template
 
@@ -84,9 +77,9 @@ pub record TemplateStands (bytes : List ℕ) (x : Value) : Type 0 where
   pub behind : List Other
   pub others : others.dec (bits_of (drop x.to bytes)) ≡ got behind []
 
-abbrev pub TemplateFound : List ℕ → Shape → Type 0
-TemplateFound bytes (s.At x) = TemplateStands bytes x
-TemplateFound bytes s.Bad = Bad (template (value_block any_bytes (λ _. any_bytes))).dec bytes
+abbrev pub TemplateFound : List ℕ → Option Value → Type 0
+TemplateFound bytes (Some x) = TemplateStands bytes x
+TemplateFound bytes None = Bad (template (value_block any_bytes (λ _. any_bytes))).dec bytes
 
 -- ---- the object: x is its value, and its template starts at byte a
 
@@ -101,6 +94,6 @@ pub record ShapeStands (bytes : List ℕ) (x : Value) : Type 0 where
   pub index : x.index ≡ a + y.index
   pub to : x.to ≡ a + y.to
 
-abbrev pub ShapeFound : List ℕ → Shape → Type 0
-ShapeFound bytes (s.At x) = ShapeStands bytes x
-ShapeFound bytes s.Bad = Bad shape.dec bytes
+abbrev pub ShapeFound : List ℕ → Option Value → Type 0
+ShapeFound bytes (Some x) = ShapeStands bytes x
+ShapeFound bytes None = Bad shape.dec bytes

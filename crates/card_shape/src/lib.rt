@@ -6,9 +6,9 @@ ghost use Rattle.std.specs.Prelude.{◌+◌, ◌≤◌, length};
 ghost use Rattle.card_shape.specs.Shape.{LengthFound, ValueFound, OthersFound, BlocksFound, TemplateFound, ShapeFound};
 
 use bits::{two_at, wide};
-use find_parts::view::Part;
+use format::Part;
 
-// The tags of the two objects that the library knows.
+// The tags of the two objects that the library knows: numbers, since what is compared with them is whatever bytes stand there.
 #[derive(Clone, Copy)]
 pub struct Tag;
 
@@ -18,25 +18,11 @@ impl Tag {
     pub const SKELETON: usize = 0x90;
 }
 
-// A length and the byte behind it, or one that is cut or not in its shortest form.
+// A length, and the byte behind it.
 #[derive(Clone, Copy)]
-pub enum LengthAt {
-    At { length: usize, next: usize },
-    Bad,
-}
-
-// The value behind a length, or one that is cut.
-#[derive(Clone, Copy)]
-pub enum ValueAt {
-    At(Part),
-    Bad,
-}
-
-// The byte of the index's length in a value, or a value whose blocks do not fill it.
-#[derive(Clone, Copy)]
-pub enum BlocksIn {
-    At(usize),
-    Bad,
+pub struct LengthAt {
+    pub length: usize,
+    pub next: usize,
 }
 
 // The value of object 90 from byte `from` up to byte `to`, with the index's length at byte `index`: the skeleton block stands from byte
@@ -48,70 +34,62 @@ pub struct Value {
     pub to: usize,
 }
 
-#[derive(Clone, Copy)]
-pub enum Shape {
-    At(Value),
-    Bad,
-}
-
-// The length at byte a.
-fn length_at(bytes: &[u8], a: usize) -> LengthAt
+// The length at byte a; none where it is cut or not in its shortest form.
+fn length_at(bytes: &[u8], a: usize) -> Option<LengthAt>
     requires { a ≤ length bytes.now }
     ensures { LengthFound bytes.now a result }
 {
     let left = bytes.len() - a;
     if left < 1 {
-        return LengthAt::Bad;
+        return None;
     }
     let first = wide(bytes[a]);
     let b = a + 1;
     if first < 128 {
-        return LengthAt::At {
+        return Some(LengthAt {
             length: first,
             next: b,
-        };
+        });
     }
     if first == 0x81 {
         if left < 2 {
-            return LengthAt::Bad;
+            return None;
         }
         let one = wide(bytes[b]);
         if one < 128 {
-            return LengthAt::Bad;
+            return None;
         }
-        return LengthAt::At {
+        return Some(LengthAt {
             length: one,
             next: b + 1,
-        };
+        });
     }
     if first != 0x82 {
-        return LengthAt::Bad;
+        return None;
     }
     if left < 3 {
-        return LengthAt::Bad;
+        return None;
     }
     let two = two_at(bytes, b);
     if two < 256 {
-        return LengthAt::Bad;
+        return None;
     }
-    LengthAt::At {
+    Some(LengthAt {
         length: two,
         next: b + 2,
-    }
+    })
 }
 
-// The value behind the length at byte a.
-fn value_at(bytes: &[u8], a: usize) -> ValueAt
+// The value behind the length at byte a; none where it is cut.
+fn value_at(bytes: &[u8], a: usize) -> Option<Part>
     requires { a ≤ length bytes.now }
     ensures { ValueFound bytes.now a result }
 {
-    let LengthAt::At { length, next } = length_at(bytes, a) else {
-        return ValueAt::Bad;
-    };
+    let LengthAt { length, next } = length_at(bytes, a)?;
     if bytes.len() - next < length {
-        return ValueAt::Bad;
+        return None;
     }
-    ValueAt::At(Part {
+    Some(Part {
         from: next,
         to: next + length,
     })
@@ -122,8 +100,9 @@ fn others_right(bytes: &[u8]) -> bool
     ensures { OthersFound bytes.now result }
 {
     let mut a: usize = 0;
+    // Each turn goes on by the length that an object states.
     while a < bytes.len() {
-        let ValueAt::At(value) = value_at(bytes, a + 1) else {
+        let Some(value) = value_at(bytes, a + 1) else {
             return false;
         };
         a = value.to;
@@ -131,78 +110,66 @@ fn others_right(bytes: &[u8]) -> bool
     true
 }
 
-// The blocks of a value: the byte of the index's length, where both fill the value.
-fn blocks_in(value: &[u8]) -> BlocksIn
+// The blocks of a value, by the byte of the index's length; none where they do not fill the value.
+fn blocks_in(value: &[u8]) -> Option<usize>
     ensures { BlocksFound value.now result }
 {
     if value.len() < 6 {
-        return BlocksIn::Bad;
+        return None;
     }
     let skeleton = two_at(value, 4);
     if value.len() - 6 < skeleton {
-        return BlocksIn::Bad;
+        return None;
     }
     let i = 6 + skeleton;
     if value.len() - i < 2 {
-        return BlocksIn::Bad;
+        return None;
     }
     let index = two_at(value, i);
     if value.len() - (i + 2) != index {
-        return BlocksIn::Bad;
+        return None;
     }
-    BlocksIn::At(i)
+    Some(i)
 }
 
 // The template's bytes: object 90, its value's blocks, and the objects behind it.
-fn template_at(bytes: &[u8]) -> Shape
+fn template_at(bytes: &[u8]) -> Option<Value>
     ensures { TemplateFound bytes.now result }
 {
     if bytes.len() < 1 {
-        return Shape::Bad;
+        return None;
     }
     if wide(bytes[0]) != Tag::SKELETON {
-        return Shape::Bad;
+        return None;
     }
-    let ValueAt::At(value) = value_at(bytes, 1) else {
-        return Shape::Bad;
-    };
-    let from = value.from;
-    let to = value.to;
-    let BlocksIn::At(i) = blocks_in(&bytes[from..to]) else {
-        return Shape::Bad;
-    };
-    if others_right(&bytes[to..]) {
-        return Shape::At(Value {
-            from,
-            index: from + i,
-            to,
-        });
+    let Part { from, to } = value_at(bytes, 1)?;
+    let i = blocks_in(&bytes[from..to])?;
+    if !others_right(&bytes[to..]) {
+        return None;
     }
-    Shape::Bad
+    Some(Value {
+        from,
+        index: from + i,
+        to,
+    })
 }
 
 // The object: its template, and nothing behind it.
-pub fn shape_of(object: &[u8]) -> Shape
+pub fn shape_of(object: &[u8]) -> Option<Value>
     ensures { ShapeFound object.now result }
 {
     if object.len() < 2 {
-        return Shape::Bad;
+        return None;
     }
     if two_at(object, 0) != Tag::TEMPLATE {
-        return Shape::Bad;
+        return None;
     }
-    let ValueAt::At(template) = value_at(object, 2) else {
-        return Shape::Bad;
-    };
-    let a = template.from;
-    let b = template.to;
-    let Shape::At(value) = template_at(&object[a..b]) else {
-        return Shape::Bad;
-    };
+    let Part { from: a, to: b } = value_at(object, 2)?;
+    let value = template_at(&object[a..b])?;
     if b < object.len() {
-        return Shape::Bad;
+        return None;
     }
-    Shape::At(Value {
+    Some(Value {
         from: a + value.from,
         index: a + value.index,
         to: a + value.to,

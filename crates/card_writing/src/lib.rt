@@ -3,14 +3,15 @@
 #![tactic(auto)]
 
 ghost use Rattle.outcome.specs.Outcome.{Answers};
+ghost use Rattle.outcome.specs.Why.{answer_of};
 ghost use Rattle.card.specs.Card.{card_write};
 ghost use Rattle.card_writing.specs.Writing.{LengthBytes, LengthRoom, LengthLaid, TaggedShort, TaggedBytes, ValueShort, InnerRoom, InnerLaid, ObjectRoom, ObjectLaid, ObjectGiven};
 
-use card::{CardScale, same_scale, scale_of};
+use card::scale_of;
 use card_shape::Tag;
-use find_view::{FoundView, find_view};
+use find_view::find_view;
 use format::ViewName;
-use outcome::{Answer, Refusal, accept, refuse, refuse_at};
+use outcome::{Answer, Refusal, Refused};
 use put_bytes::{copy, put_three, put_two};
 
 // How many bytes a length takes in its shortest form.
@@ -73,35 +74,34 @@ fn object_put(out: &mut [u8], value: &[u8]) -> usize
 }
 
 // The same, where there is room: 20.
-fn object_given(out: &mut [u8], value: &[u8]) -> Answer
+fn object_given(out: &mut [u8], value: &[u8]) -> Result<usize, Refused>
     requires { ValueShort value.now }
-    ensures { ObjectGiven value.now out.old out.new result }
+    ensures { ObjectGiven value.now out.old out.new (answer_of result) }
 {
     let inner = tagged_bytes(1, value.len());
     if out.len() < tagged_bytes(2, inner) {
-        return refuse(Refusal::NO_ROOM);
+        return Err(Refusal::NoRoom.into());
     }
-    let length = object_put(out, value);
-    accept(length)
+    Ok(object_put(out, value))
 }
 
 // The object of a view of any bytes, at any size: 27, 1 to 13, 28, 20.
+fn write_card(size: u32, bytes: &[u8], view: ViewName, out: &mut [u8]) -> Result<usize, Refused>
+    ensures { Answers (card_write size view bytes.now) out.old out.new (answer_of result) }
+{
+    let wanted = scale_of(size).ok_or(Refusal::BadObject)?;
+    let found = find_view(bytes, view)?;
+    if found.scale != wanted {
+        return Err(Refusal::OtherScale.into());
+    }
+    let from = found.blocks.skeleton.from - 6;
+    let to = found.blocks.index.to;
+    object_given(out, &bytes[from..to])
+}
+
+// The same, as a call answers.
 pub fn card_write(size: u32, bytes: &[u8], view: ViewName, out: &mut [u8]) -> Answer
     ensures { Answers (card_write size view bytes.now) out.old out.new result }
 {
-    let CardScale::Known(wanted) = scale_of(size) else {
-        return refuse(Refusal::BAD_OBJECT);
-    };
-    match find_view(bytes, view) {
-        FoundView::Refused { number, place } => refuse_at(number, place),
-        FoundView::At(scale, blocks) => {
-            if same_scale(scale, wanted) {
-                let from = blocks.skeleton.from - 6;
-                let to = blocks.index.to;
-                object_given(out, &bytes[from..to])
-            } else {
-                refuse(Refusal::OTHER_SCALE)
-            }
-        }
-    }
+    Answer::of(write_card(size, bytes, view, out))
 }

@@ -1,6 +1,6 @@
 -- What the code that goes over lines, lists or segments asks and answers. It asks that fields stand from its byte on, of lengths that
 -- the grammar allows; and whatever fields these are, its answer is what reading their values gives, and what they take in a record.
-use Rattle.std.specs.Prelude.{◌≡◌, ℕ, ◌+◌, ◌*◌, ◌%◌, ◌≤◌, Bool, List, [], length, T, leb, eqb}
+use Rattle.std.specs.Prelude.{◌≡◌, ℕ, ◌+◌, ◌*◌, ◌%◌, ◌≤◌, Bool, Option, Some, None, List, [], length, T, leb, eqb}
 use Rattle.bits.specs.Choice.{within}
 use Rattle.bits.specs.Lists.{every, total}
 use Rattle.bits.specs.Codec.{got, refused}
@@ -16,13 +16,11 @@ use Rattle.sheet.specs.Values.{line_value, list_value, segment_value}
 use Rattle.sheet.specs.Sheet.{each_dec, alike}
 use Rattle.check_fields.specs.Fields.{FieldsAt}
 use Rattle.check_blocks.specs.declared.run.Counted.{Counted}
-use Rattle.check_blocks.specs.declared.run.Counted.TheVariants as counted
-use Rattle.check_blocks.specs.declared.run.Extended.{Extended}
 
 -- ---- what is asked
 
 -- there are such fields
-pub record Some (P : List Field → Type 0) : Type 0 where
+pub record SomeFields (P : List Field → Type 0) : Type 0 where
   pub value : List Field
   pub holds : P value
 
@@ -83,16 +81,16 @@ pub record RightAre (most p e z : ℕ) (P : List Field → Type 0) (Q : List Fie
   pub is : (fs : List Field) → P fs → Q fs
 
 -- a line has at most 2,132 bits
-abbrev pub LinesAre : Widths → List ℕ → ℕ → Counted → Type 0
-LinesAre w s p (counted.Right e z) = RightAre (1024 * 2132) p e z (LineFields s p) (λ fs. RunRight 3 (λ _. line_value w) alike tt fs (line_bits w) s e z)
-LinesAre w s p counted.Wrong = (fs : List Field) → LineFields s p fs → RunWrong 3 (λ _. line_value w) alike tt fs
+abbrev pub LinesAre : Widths → List ℕ → ℕ → Option Counted → Type 0
+LinesAre w s p (Some r) = RightAre (1024 * 2132) p r.next r.size (LineFields s p) (λ fs. RunRight 3 (λ _. line_value w) alike tt fs (line_bits w) s r.next r.size)
+LinesAre w s p None = (fs : List Field) → LineFields s p fs → RunWrong 3 (λ _. line_value w) alike tt fs
 
 -- a list has at most 16 + 16 * 32,767 bits
-abbrev pub ListsAre : ℕ → List ℕ → ℕ → Counted → Type 0
-ListsAre w s p (counted.Right e z) = RightAre (1024 * 524288) p e z (ListFields s p) (λ fs. RunRight 5 (list_value w) up 0 fs (list_bits w) s e z)
-ListsAre w s p counted.Wrong = (fs : List Field) → ListFields s p fs → RunWrong 5 (list_value w) up 0 fs
+abbrev pub ListsAre : ℕ → List ℕ → ℕ → Option Counted → Type 0
+ListsAre w s p (Some r) = RightAre (1024 * 524288) p r.next r.size (ListFields s p) (λ fs. RunRight 5 (list_value w) up 0 fs (list_bits w) s r.next r.size)
+ListsAre w s p None = (fs : List Field) → ListFields s p fs → RunWrong 5 (list_value w) up 0 fs
 
 -- segments take fewer bytes than their fields
-pub record SegmentsAre (s : List ℕ) (p : ℕ) (r : Extended) : Type 0 where
-  pub small : p + r.bytes ≤ r.end
-  pub is : (fs : List Field) → Segments s p fs → RunRight 6 (λ _. segment_value) alike tt fs segment_takes s r.end r.bytes
+pub record SegmentsAre (s : List ℕ) (p : ℕ) (r : Counted) : Type 0 where
+  pub small : p + r.size ≤ r.next
+  pub is : (fs : List Field) → Segments s p fs → RunRight 6 (λ _. segment_value) alike tt fs segment_takes s r.next r.size

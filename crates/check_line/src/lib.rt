@@ -7,7 +7,7 @@ ghost use Rattle.sheet.specs.Values.{end_value, line_value};
 ghost use Rattle.check_value.specs.Worth.{Tested};
 ghost use Rattle.check_line.specs.Parts.{Passes, codes_dec};
 
-use bits::{Cursor, pow2};
+use bits::{Cursor, pow2, wide};
 use check_value::narrow::narrow;
 use format::Widths;
 
@@ -20,16 +20,10 @@ fn end_right(p: Cursor, value: &[u8], w: Widths) -> bool
     let direction = kind.next.sure(value, 8);
     let x = direction.next.sure(value, 16);
     let y = x.next.sure(value, 16);
-    if !narrow(kind.value, 2) {
-        return false;
-    }
-    if !narrow(direction.value, w.b) {
-        return false;
-    }
-    if !narrow(x.value, w.c) {
-        return false;
-    }
-    narrow(y.value, w.c)
+    narrow(kind.value, 2)
+        && narrow(direction.value, w.b)
+        && narrow(x.value, w.c)
+        && narrow(y.value, w.c)
 }
 
 // Whether the byte x is the sign extension of its lowest k bits.
@@ -40,9 +34,10 @@ fn code_right(x: usize, k: usize) -> bool
     let all = pow2(k);
     let low = x % all;
     if low < pow2(k - 1) {
-        return low == x;
+        low == x
+    } else {
+        low + (256 - all) == x
     }
-    low + (256 - all) == x
 }
 
 // The codes behind the two ends, of k bits each.
@@ -50,15 +45,7 @@ fn codes_right(value: &[u8], k: usize) -> bool
     requires { (12 ≤ length value.now) × (length value.now ≤ 267) × (1 ≤ k) × (k ≤ 8) }
     ensures { Passes (codes_dec k) value.now 96 (8 * length value.now) result }
 {
-    let mut i: usize = 12;
-    while i < value.len() {
-        let code = Cursor { at: 8 * i }.sure(value, 8);
-        if !code_right(code.value, k) {
-            return false;
-        }
-        i += 1;
-    }
-    true
+    value[12..].iter().all(|code| code_right(wide(*code), k))
 }
 
 // The value of a 03, at the widths of the header.
@@ -66,11 +53,7 @@ pub fn line_value(value: &[u8], w: Widths) -> bool
     requires { (12 ≤ length value.now) × (length value.now ≤ 267) × (w.c ≤ 16) × (w.b ≤ 8) × (1 ≤ w.k) × (w.k ≤ 8) }
     ensures { Tested (line_value w) value.now (λ l. length l.codes ≡ length value.now - 12) result }
 {
-    if !end_right(Cursor::start(), value, w) {
-        return false;
-    }
-    if !end_right(Cursor { at: 48 }, value, w) {
-        return false;
-    }
-    codes_right(value, w.k)
+    end_right(Cursor::start(), value, w)
+        && end_right(Cursor { at: 48 }, value, w)
+        && codes_right(value, w.k)
 }

@@ -1,6 +1,6 @@
 -- What the code that goes over a sheet's fields asks and answers: it asks that fields stand from its byte on, and whatever fields
 -- these are, its answer is what the grammar says of them.
-use Rattle.std.specs.Prelude.{◌≡◌, ℕ, ◌%◌, Bool, false, not, ◌&&◌, List, [], ◌∷◌, length, T, eqb}
+use Rattle.std.specs.Prelude.{◌≡◌, ℕ, ◌%◌, Bool, false, not, ◌&&◌, Option, Some, None, List, [], ◌∷◌, length, T, eqb}
 use Rattle.bits.specs.Choice.{within}
 use Rattle.bits.specs.Lists.{every}
 use Rattle.bits.specs.Bytes.{bits_of}
@@ -9,10 +9,7 @@ use Rattle.sheet.specs.Fields.{Field, fields}
 use Rattle.sheet.specs.Grammar.{front, rest, index_in, index_rest, view_in, index_shape, view_shape, grammar}
 use Rattle.check_fields.specs.Fields.{FieldsAt}
 use Rattle.check_shape.specs.declared.Kind.{Kind}
-use Rattle.check_shape.specs.declared.PassedFields.{PassedFields}
-use Rattle.check_shape.specs.declared.PassedFields.TheVariants as passed
-use Rattle.check_shape.specs.declared.PartEnd.{PartEnd}
-use Rattle.check_shape.specs.declared.PartEnd.TheVariants as end
+use Rattle.check_shape.specs.declared.Passed.{Passed}
 
 -- fields stand from byte p on
 pub record Standing (s : List ℕ) (p : ℕ) : Type 0 where
@@ -48,9 +45,9 @@ pub record PassedAt (k : Kind) (s : List ℕ) (fs : List Field) (n next : ℕ) :
   pub behind : FieldsAt s next (rest k.tag fs)
   pub right : T (all_sized k fs)
 
-abbrev pub Passes : Kind → List ℕ → ℕ → PassedFields → Type 0
-Passes k s p (passed.Right n next) = (fs : List Field) → FieldsAt s p fs → PassedAt k s fs n next
-Passes k s p passed.Wrong = (fs : List Field) → FieldsAt s p fs → T (not (all_sized k fs))
+abbrev pub Passes : Kind → List ℕ → ℕ → Option Passed → Type 0
+Passes k s p (Some q) = (fs : List Field) → FieldsAt s p fs → PassedAt k s fs q.count q.next
+Passes k s p None = (fs : List Field) → FieldsAt s p fs → T (not (all_sized k fs))
 
 -- ---- the index of a view with `lines` lines
 
@@ -58,9 +55,9 @@ pub record IndexFieldsAt (lines : ℕ) (s : List ℕ) (fs : List Field) (e : ℕ
   pub behind : FieldsAt s e (index_rest fs)
   pub right : T (index_shape lines (index_in fs))
 
-abbrev pub IndexEnds : ℕ → List ℕ → ℕ → PartEnd → Type 0
-IndexEnds lines s p (end.At e) = (fs : List Field) → FieldsAt s p fs → IndexFieldsAt lines s fs e
-IndexEnds lines s p end.Wrong = (fs : List Field) → FieldsAt s p fs → T (not (index_shape lines (index_in fs)))
+abbrev pub IndexEnds : ℕ → List ℕ → ℕ → Option ℕ → Type 0
+IndexEnds lines s p (Some e) = (fs : List Field) → FieldsAt s p fs → IndexFieldsAt lines s fs e
+IndexEnds lines s p None = (fs : List Field) → FieldsAt s p fs → T (not (index_shape lines (index_in fs)))
 
 -- ---- a view, from its 02 on
 
@@ -77,9 +74,9 @@ pub record ViewFieldsAt (s : List ℕ) (fs : List Field) (e : ℕ) : Type 0 wher
   pub behind : FieldsAt s e (view_rest fs)
   pub right : T (view_right fs)
 
-abbrev pub ViewEnds : List ℕ → ℕ → PartEnd → Type 0
-ViewEnds s p (end.At e) = (fs : List Field) → FieldsAt s p fs → ViewFieldsAt s fs e
-ViewEnds s p end.Wrong = (fs : List Field) → FieldsAt s p fs → T (not (view_right fs))
+abbrev pub ViewEnds : List ℕ → ℕ → Option ℕ → Type 0
+ViewEnds s p (Some e) = (fs : List Field) → FieldsAt s p fs → ViewFieldsAt s fs e
+ViewEnds s p None = (fs : List Field) → FieldsAt s p fs → T (not (view_right fs))
 
 -- ---- the sheet
 

@@ -2,9 +2,9 @@
 // that code goes from field to field by the lengths; it goes over them once, and looks at no value.
 #![tactic(auto)]
 
-ghost use Rattle.std.specs.Prelude.{◌<◌};
+ghost use Rattle.std.specs.Prelude.{◌≡◌, ◌<◌};
 ghost use Rattle.check_fields.specs.Fields.{Fields};
-ghost use Rattle.check_shape.specs.Shape.{Standing, Starts, Begins, Passes, IndexEnds, ViewEnds, Shape};
+ghost use Rattle.check_shape.specs.Shape.{Standing, Starts, Begins, right_size, Passes, IndexEnds, ViewEnds, Shape};
 
 use bits::{two_at, wide};
 use format::ViewHeader;
@@ -39,20 +39,21 @@ impl Kind {
         most: 65535,
         step: 1,
     };
+
+    // Whether the value of such a field may have `size` bytes.
+    fn allows(self, size: usize) -> bool
+        requires { 0 < self.step }
+        ensures { result ≡ right_size self size }
+    {
+        self.least <= size && size <= self.most && size % self.step == 0
+    }
 }
 
-// How many fields were passed, and the byte behind them; or one has a wrong length.
+// How many fields were passed, and the byte behind them.
 #[derive(Clone, Copy)]
-enum PassedFields {
-    Right { count: usize, next: usize },
-    Wrong,
-}
-
-// The byte behind a part of the sheet; or the part is wrong.
-#[derive(Clone, Copy)]
-enum PartEnd {
-    At(usize),
-    Wrong,
+struct Passed {
+    count: usize,
+    next: usize,
 }
 
 // Whether a field with this tag starts at byte p.
@@ -60,11 +61,7 @@ pub fn starts(sheet: &[u8], p: usize, tag: usize) -> bool
     requires { Standing sheet.now p }
     ensures { Starts tag sheet.now p result }
 {
-    if p < sheet.len() {
-        wide(sheet[p]) == tag
-    } else {
-        false
-    }
+    p < sheet.len() && wide(sheet[p]) == tag
 }
 
 // Whether a field with this tag, whose value has `size` bytes, starts at byte p.
@@ -72,15 +69,11 @@ fn begins(sheet: &[u8], p: usize, tag: usize, size: usize) -> bool
     requires { Standing sheet.now p }
     ensures { Begins tag size sheet.now p result }
 {
-    if starts(sheet, p, tag) {
-        two_at(sheet, p + 1) == size
-    } else {
-        false
-    }
+    starts(sheet, p, tag) && two_at(sheet, p + 1) == size
 }
 
-// The fields of this kind from byte p on, as long as they come.
-fn pass(sheet: &[u8], p: usize, kind: Kind) -> PassedFields
+// The fields of this kind from byte p on, as long as they come; none where one has a wrong length.
+fn pass(sheet: &[u8], p: usize, kind: Kind) -> Option<Passed>
     requires { Standing sheet.now p × (0 < kind.step) }
     ensures { Passes kind sheet.now p result }
 {
@@ -88,74 +81,48 @@ fn pass(sheet: &[u8], p: usize, kind: Kind) -> PassedFields
     let mut count: usize = 0;
     while starts(sheet, next, kind.tag) {
         let size = two_at(sheet, next + 1);
-        if size < kind.least {
-            return PassedFields::Wrong;
-        }
-        if kind.most < size {
-            return PassedFields::Wrong;
-        }
-        if size % kind.step != 0 {
-            return PassedFields::Wrong;
+        if !kind.allows(size) {
+            return None;
         }
         next += 3 + size;
         count += 1;
     }
-    PassedFields::Right { count, next }
+    Some(Passed { count, next })
 }
 
 // Where the index of a view with `lines` lines ends: it is nothing, or an 04 and a list for each line.
-fn index_end(sheet: &[u8], p: usize, lines: usize) -> PartEnd
+fn index_end(sheet: &[u8], p: usize, lines: usize) -> Option<usize>
     requires { Standing sheet.now p }
     ensures { IndexEnds lines sheet.now p result }
 {
     if !starts(sheet, p, 4) {
-        return PartEnd::At(p);
+        return Some(p);
     }
     if !begins(sheet, p, 4, 1) {
-        return PartEnd::Wrong;
+        return None;
     }
-    let PassedFields::Right {
-        count: lists,
-        next: end,
-    } = pass(sheet, p + 4, Kind::LISTS)
-    else {
-        return PartEnd::Wrong;
-    };
-    if lists != lines {
-        return PartEnd::Wrong;
+    let lists = pass(sheet, p + 4, Kind::LISTS)?;
+    if lists.count != lines {
+        return None;
     }
-    PartEnd::At(end)
+    Some(lists.next)
 }
 
-// The view whose 02 should start at byte p.
-fn view_end(sheet: &[u8], p: usize) -> PartEnd
+// Where the view ends whose 02 should start at byte p.
+fn view_end(sheet: &[u8], p: usize) -> Option<usize>
     requires { Standing sheet.now p }
     ensures { ViewEnds sheet.now p result }
 {
     if !begins(sheet, p, 2, 8) {
-        return PartEnd::Wrong;
+        return None;
     }
-    let PassedFields::Right {
-        count: lines,
-        next: index,
-    } = pass(sheet, p + 11, Kind::LINES)
-    else {
-        return PartEnd::Wrong;
-    };
-    if ViewHeader::MOST_LINES < lines {
-        return PartEnd::Wrong;
+    let lines = pass(sheet, p + 11, Kind::LINES)?;
+    if ViewHeader::MOST_LINES < lines.count {
+        return None;
     }
-    let PartEnd::At(segments) = index_end(sheet, index, lines) else {
-        return PartEnd::Wrong;
-    };
-    let PassedFields::Right {
-        count: _,
-        next: end,
-    } = pass(sheet, segments, Kind::SEGMENTS)
-    else {
-        return PartEnd::Wrong;
-    };
-    PartEnd::At(end)
+    let index = index_end(sheet, lines.next, lines.count)?;
+    let segments = pass(sheet, index, Kind::SEGMENTS)?;
+    Some(segments.next)
 }
 
 // Whether the fields of the sheet obey the sheet's grammar.
@@ -169,14 +136,11 @@ pub fn shape(sheet: &[u8]) -> bool
     let mut p: usize = 12;
     let mut views: usize = 0;
     while p < sheet.len() {
-        let PartEnd::At(next) = view_end(sheet, p) else {
+        let Some(next) = view_end(sheet, p) else {
             return false;
         };
         p = next;
         views += 1;
     }
-    if views == 0 {
-        return false;
-    }
-    views <= 255
+    0 < views && views <= 255
 }

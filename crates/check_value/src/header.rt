@@ -2,47 +2,31 @@
 ghost use Rattle.std.specs.Prelude.{◌≡◌, length};
 ghost use Rattle.sheet.specs.Values.{header_value, view_head_value};
 ghost use Rattle.judge_heads.specs.Answers.{earlier_of};
-ghost use Rattle.check_value.specs.Worth.{Told, header_is, head_is};
+ghost use Rattle.check_value.specs.Worth.{Told};
 
 use bits::Cursor;
 use format::{Header, ViewHeader};
-use judge_heads::header::{ScaleAt, scale_at};
-use judge_heads::view::{HeadFieldsAt, head_fields};
-
-#[derive(Clone, Copy)]
-pub enum HeaderWorth {
-    Right(Header),
-    Wrong,
-}
-
-#[derive(Clone, Copy)]
-pub enum HeadWorth {
-    Right(ViewHeader),
-    Wrong,
-}
+use judge_heads::header::scale_at;
+use judge_heads::view::head_fields;
 
 // The value of a 01: certificates and device, then the scale.
-pub fn header_value(value: &[u8]) -> HeaderWorth
+pub fn header_value(value: &[u8]) -> Option<Header>
     requires { length value.now ≡ 9 }
-    ensures { Told header_value value.now (header_is result) }
+    ensures { Told header_value value.now result }
 {
     let device = Cursor::start().sure(value, 16);
-    match scale_at(device.next, value) {
-        ScaleAt::Outside(_) => HeaderWorth::Wrong,
-        ScaleAt::At(scale, _) => HeaderWorth::Right(Header {
-            device: device.value,
-            scale,
-        }),
-    }
+    let (scale, _) = scale_at(device.next, value).ok()?;
+    Some(Header {
+        device: device.value,
+        scale,
+    })
 }
 
 // The value of a 02; seen counts the earlier views of each position.
-pub fn head_value(value: &[u8], seen: &[u8; 11]) -> HeadWorth
+pub fn head_value(value: &[u8], seen: &[u8; 11]) -> Option<ViewHeader>
     requires { length value.now ≡ 8 }
-    ensures { Told (view_head_value (earlier_of seen.now)) value.now (head_is result) }
+    ensures { Told (view_head_value (earlier_of seen.now)) value.now result }
 {
-    match head_fields(Cursor::start(), value, seen) {
-        HeadFieldsAt::Wrong(_) => HeadWorth::Wrong,
-        HeadFieldsAt::At(head, _) => HeadWorth::Right(head),
-    }
+    let (head, _) = head_fields(Cursor::start(), value, seen).ok()?;
+    Some(head)
 }

@@ -1,6 +1,6 @@
 -- What the code that goes over a view asks and answers: from its byte on stand fields of which the first view obeys the grammar, and
 -- the answer is what reading that view gives, and how many bytes it takes in a record.
-use Rattle.std.specs.Prelude.{◌≡◌, ℕ, ◌+◌, ◌*◌, ◌≤◌, ◌<◌, List, [], ◌∷◌, length, T}
+use Rattle.std.specs.Prelude.{◌≡◌, ℕ, ◌+◌, ◌*◌, ◌≤◌, ◌<◌, Option, Some, None, List, [], ◌∷◌, length, T}
 use Rattle.bits.specs.Codec.{got, refused}
 use Rattle.outcome.specs.Refusals.{bad_value}
 use Rattle.format.specs.View.{View, view}
@@ -12,8 +12,6 @@ use Rattle.sheet.specs.Sheet.{view_from}
 use Rattle.check_fields.specs.Fields.{FieldsAt}
 use Rattle.check_shape.specs.Shape.{view_right, view_rest}
 use Rattle.check_values.specs.declared.view.Sized.{Sized}
-use Rattle.check_values.specs.declared.view.ViewWorth.{ViewWorth}
-use Rattle.check_values.specs.declared.view.ViewWorth.TheVariants as worth
 
 pub record ViewToCheck (s : List ℕ) (p : ℕ) (fs : List Field) : Type 0 where
   pub stand : FieldsAt s p fs
@@ -44,6 +42,6 @@ pub record SizedIs (w : Widths) (seen s : List ℕ) (p : ℕ) (v : Sized) : Type
   pub eleven : v.position ≤ 10
   pub is : (fs : List Field) → ViewToCheck s p fs → (ps : List ℕ) → Seen seen ps → ViewRight w ps fs s v
 
-abbrev pub ViewIs : Widths → List ℕ → List ℕ → ℕ → ViewWorth → Type 0
-ViewIs w seen s p (worth.Right v) = SizedIs w seen s p v
-ViewIs w seen s p worth.Wrong = (fs : List Field) → ViewToCheck s p fs → (ps : List ℕ) → Seen seen ps → ViewWrong w ps fs
+abbrev pub ViewIs : Widths → List ℕ → List ℕ → ℕ → Option Sized → Type 0
+ViewIs w seen s p (Some v) = SizedIs w seen s p v
+ViewIs w seen s p None = (fs : List Field) → ViewToCheck s p fs → (ps : List ℕ) → Seen seen ps → ViewWrong w ps fs

@@ -4,45 +4,36 @@
 
 ghost use Rattle.check_values.specs.Sheet.{ValuesThere, ValuesAre};
 
-use crate::view::{ViewWorth, view_values};
-use check_value::header::{HeaderWorth, header_value};
+use crate::view::view_values;
+use check_value::header::header_value;
 use format::Header;
 
 mod view; // a view
 
-// How many views there are, and the bytes of the record; or a value is wrong.
+// How many views there are, and the bytes of the record.
 #[derive(Clone, Copy)]
-pub enum Valued {
-    Right { views: usize, bytes: usize },
-    Wrong,
+pub struct Valued {
+    pub views: usize,
+    pub bytes: usize,
 }
 
 // The values of a whole sheet: its 01, then view by view. `seen` counts the views of each position.
-pub fn values(sheet: &[u8]) -> Valued
+pub fn values(sheet: &[u8]) -> Option<Valued>
     requires { ValuesThere sheet.now }
     ensures { ValuesAre sheet.now result }
 {
-    let from: usize = 3;
-    let end: usize = 12;
-    let head = &sheet[from..end];
-    let HeaderWorth::Right(h) = header_value(head) else {
-        return Valued::Wrong;
-    };
-    let scale = h.scale;
-    let w = scale.widths;
+    let header = header_value(&sheet[3..12])?;
+    let w = header.scale.widths;
     let mut seen = [0u8; 11];
-    let mut p = end;
+    let mut p: usize = 12;
     let mut views: usize = 0;
     let mut bytes: usize = Header::BYTES;
     while p < sheet.len() {
-        let ViewWorth::Right(view) = view_values(sheet, p, w, &seen) else {
-            return Valued::Wrong;
-        };
-        let position = view.position;
-        seen[position] = seen[position] + 1;
+        let view = view_values(sheet, p, w, &seen)?;
+        seen[view.position] += 1;
         p = view.end;
         views += 1;
         bytes += view.bytes;
     }
-    Valued::Right { views, bytes }
+    Some(Valued { views, bytes })
 }

@@ -1,6 +1,6 @@
 -- What the code that finds the parts of an accepted record asks and answers: it asks that its part reads as some value, and
 -- whatever value the part reads as, its answer is where that value stands.
-use Rattle.std.specs.Prelude.{◌≡◌, ℕ, ◌+◌, ◌-◌, ◌*◌, ◌≤◌, ◌<◌, List, [], ◌++◌, length, take, drop}
+use Rattle.std.specs.Prelude.{◌≡◌, ℕ, ◌+◌, ◌-◌, ◌*◌, ◌≤◌, ◌<◌, List, [], ◌++◌, length, take, drop, Option, Some, None}
 use Rattle.bits.specs.Bits.{Bits}
 use Rattle.bits.specs.Bytes.{bits_of}
 use Rattle.bits.specs.Codec.{got, field_dec}
@@ -18,7 +18,7 @@ use Rattle.format.specs.Named.{place_in, Means}
 use Rattle.format.specs.declared.Widths.{Widths}
 use Rattle.format.specs.declared.ViewName.{ViewName}
 use Rattle.find_parts.specs.Stands.{BlocksAt, ViewIn}
-use Rattle.find_parts.specs.declared.view.Part.{Part}
+use Rattle.format.specs.declared.Part.{Part}
 use Rattle.find_parts.specs.declared.view.Blocks.{Blocks}
 use Rattle.find_parts.specs.declared.Passed.{Passed}
 
@@ -54,10 +54,15 @@ pub record MeantAt (view : ViewName) (r : Record) (s : List ℕ) (a : ℕ) : Typ
   pub means : Means view r place
   pub at : ViewIn r s place a
 
--- within the record, it is there; at the record's end, the name means none
-pub record NameFound (s : List ℕ) (view : ViewName) (a : ℕ) : Type 0 where
-  pub there : a < length s → (r : Record) → read s ≡ got r [] → MeantAt view r s a
-  pub none : length s ≤ a → (r : Record) → read s ≡ got r [] → length r.views ≤ place_in view r.views
+-- it starts at byte a, within the record
+pub record NameAt (s : List ℕ) (view : ViewName) (a : ℕ) : Type 0 where
+  pub within : a < length s
+  pub there : (r : Record) → read s ≡ got r [] → MeantAt view r s a
+
+-- where it is none, the name means none
+abbrev pub NameFound : List ℕ → ViewName → Option ℕ → Type 0
+NameFound s view (Some a) = NameAt s view a
+NameFound s view None = (r : Record) → read s ≡ got r [] → length r.views ≤ place_in view r.views
 
 -- ---- lines of the skeleton block s
 

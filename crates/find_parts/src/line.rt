@@ -22,10 +22,11 @@ pub fn pass_lines(block: &[u8], w: Widths, most: usize) -> Passed
 {
     let end = 8 * block.len();
     let mut next: usize = 0;
-    let mut count: usize = 0;
-    while count < most && 8 <= end - next {
+    for count in 0..most {
+        if end - next < 8 {
+            return Passed { count, next };
+        }
         next = line_end(block, next, w);
-        count += 1;
     }
-    Passed { count, next }
+    Passed { count: most, next }
 }

@@ -12,11 +12,11 @@ pub fn pass_segments(block: &[u8], most: usize) -> Passed
     ensures { SegmentsPassed block.now most result }
 {
     let mut next: usize = 0;
-    let mut count: usize = 0;
-    while count < most && next < block.len() {
-        let size = Cursor { at: 8 * next + 16 }.sure(block, 16);
-        next += size.value;
-        count += 1;
+    for count in 0..most {
+        if block.len() <= next {
+            return Passed { count, next };
+        }
+        next += Cursor { at: 8 * next + 16 }.sure(block, 16).value;
     }
-    Passed { count, next }
+    Passed { count: most, next }
 }

@@ -2,8 +2,8 @@
 ghost use Rattle.find_parts.specs.Site.{SiteThere, SiteFound};
 
 use crate::line::pass_lines;
-use crate::view::{Blocks, Part};
-use format::{ViewHeader, Widths};
+use crate::view::Blocks;
+use format::{Part, ViewHeader, Widths};
 
 // The view's blocks, how many lines it has, and the widths of their fields.
 #[derive(Clone, Copy)]
@@ -20,16 +20,11 @@ pub fn site_at(bytes: &[u8], blocks: Blocks, w: Widths) -> Site
     requires { SiteThere bytes.now blocks w }
     ensures { SiteFound bytes.now blocks w result }
 {
-    let skeleton = blocks.skeleton;
-    let index = blocks.index;
-    let extended = blocks.extended;
-    let from = skeleton.from;
-    let to = skeleton.to;
-    let passed = pass_lines(&bytes[from..to], w, ViewHeader::MOST_LINES);
+    let passed = pass_lines(blocks.skeleton.of(bytes), w, ViewHeader::MOST_LINES);
     Site {
-        skeleton,
-        index,
-        extended,
+        skeleton: blocks.skeleton,
+        index: blocks.index,
+        extended: blocks.extended,
         lines: passed.count,
         widths: w,
     }

@@ -4,14 +4,7 @@ ghost use Rattle.format.specs.Named.{named, same_name};
 ghost use Rattle.find_parts.specs.Finds.{BlockFound, BlocksThere, BlocksFound, ViewsThere, NameFound};
 
 use bits::Cursor;
-use format::{Header, ViewName};
-
-// A part of the bytes: from its first byte up to the byte behind it.
-#[derive(Clone, Copy)]
-pub struct Part {
-    pub from: usize,
-    pub to: usize,
-}
+use format::{Header, Part, ViewName};
 
 // The blocks of a view, each behind its length: the index's length stands behind the skeleton block, the extended length behind the
 // index block.
@@ -58,18 +51,18 @@ fn has_name(bytes: &[u8], a: usize, view: ViewName) -> bool
     bytes[a + 1] as u32 == view.finger && bytes[a] as u32 == view.number
 }
 
-// The byte at which the view of that name starts; the record's end, where it has none. From header to header.
-pub fn view_named(bytes: &[u8], view: ViewName) -> usize
+// The byte at which the view of that name starts, if the record has one. From header to header.
+pub fn view_named(bytes: &[u8], view: ViewName) -> Option<usize>
     requires { ViewsThere bytes.now }
     ensures { NameFound bytes.now view result }
 {
     let mut a: usize = Header::BYTES;
     while a < bytes.len() {
         if has_name(bytes, a, view) {
-            return a;
+            return Some(a);
         }
         let blocks = blocks_at(bytes, a + 8);
         a = blocks.extended.to;
     }
-    a
+    None
 }

@@ -1,7 +1,9 @@
 -- What finding a segment answers: where it stands in an accepted record, or the refusal of every call on it.
-use Rattle.std.specs.Prelude.{◌≡◌, ℕ, ◌+◌, ◌-◌, ◌*◌, ◌≤◌, ◌<◌, List, [], length, take, drop}
+use Rattle.std.specs.Prelude.{◌≡◌, ℕ, ◌+◌, ◌-◌, ◌*◌, ◌≤◌, ◌<◌, List, [], Result, Ok, Err, length, take, drop}
 use Rattle.bits.specs.Codec.{got}
 use Rattle.outcome.specs.Outcome.{Outcome, refused}
+use Rattle.outcome.specs.Why.{number}
+use Rattle.outcome.specs.declared.refusal.Refused.{Refused}
 use Rattle.format.specs.Line.{skeleton}
 use Rattle.format.specs.Segments.{segments}
 use Rattle.format.specs.Record.{Record, read}
@@ -11,8 +13,6 @@ use Rattle.format.specs.Named.{Means}
 use Rattle.format.specs.declared.ViewName.{ViewName}
 use Rattle.find_parts.specs.Stands.{BlockAt}
 use Rattle.find_segment.specs.declared.Spot.{Spot}
-use Rattle.find_segment.specs.declared.FoundSegment.{FoundSegment}
-use Rattle.find_segment.specs.declared.FoundSegment.TheVariants as f
 
 -- x is where the segment at that place of view i of the record r stands in its bytes s: behind its view's blocks and the segments
 -- before it
@@ -52,6 +52,6 @@ pub record LinesOf (s : List ℕ) (x : Spot) (n : ℕ) : Type 0 where
 pub record SegmentRefuses (s : List ℕ) (view : ViewName) (place e p : ℕ) : Type 0 where
   pub is : (f : ℕ → Record → Outcome ℕ) → on_segment view place f s ≡ refused e p
 
-abbrev pub FindsSegment : List ℕ → ViewName → (place : ℕ) → FoundSegment → Type 0
-FindsSegment s view place (f.At x) = SegmentStands s view place x
-FindsSegment s view place (f.Refused e p) = SegmentRefuses s view place e p
+abbrev pub FindsSegment : List ℕ → ViewName → (place : ℕ) → Result Spot Refused → Type 0
+FindsSegment s view place (Ok x) = SegmentStands s view place x
+FindsSegment s view place (Err r) = SegmentRefuses s view place (number r.why) r.place

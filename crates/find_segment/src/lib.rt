@@ -8,10 +8,9 @@ ghost use Rattle.find_segment.specs.Found.{FindsSegment, SpotThere, LinesOf};
 use bits::two_at;
 use find_parts::line::pass_lines;
 use find_parts::segments::pass_segments;
-use find_parts::view::Part;
-use find_view::{FoundView, find_view};
-use format::{Image, ViewHeader, ViewName, Widths};
-use outcome::Refusal;
+use find_view::find_view;
+use format::{Image, Part, ViewHeader, ViewName, Widths};
+use outcome::{Refusal, Refused};
 
 // Of its view the size of the image, the widths of lines' fields, the skeleton block and the extended block; its type, and its payload.
 #[derive(Clone, Copy)]
@@ -24,51 +23,36 @@ pub struct Spot {
     pub payload: Part,
 }
 
-// Where the segment stands; or the number of the refusal, 1 to 13 or 23, and the bit that it is about.
-#[derive(Clone, Copy)]
-pub enum FoundSegment {
-    At(Spot),
-    Refused { number: u32, bit: u32 },
-}
-
-pub fn find_segment(bytes: &[u8], view: ViewName, place: usize) -> FoundSegment
+// Where the segment stands. Refusals 1 to 13, 23.
+pub fn find_segment(bytes: &[u8], view: ViewName, place: usize) -> Result<Spot, Refused>
     ensures { FindsSegment bytes.now view place result }
 {
-    match find_view(bytes, view) {
-        FoundView::Refused { number, place: bit } => FoundSegment::Refused { number, bit },
-        FoundView::At(scale, blocks) => {
-            let widths = scale.widths;
-            let skeleton = blocks.skeleton;
-            let lines = skeleton.from;
-            let extended = blocks.extended;
-            let first = extended.from;
-            let end = extended.to;
-            let block = &bytes[first..end];
-            let passed = pass_segments(block, place);
-            if passed.next < block.len() {
-                let start = first + passed.next;
-                FoundSegment::At(Spot {
-                    image: Image {
-                        width: two_at(bytes, lines - 6),
-                        height: two_at(bytes, lines - 4),
-                    },
-                    widths,
-                    skeleton,
-                    extended,
-                    kind: two_at(bytes, start),
-                    payload: Part {
-                        from: start + 4,
-                        to: start + two_at(bytes, start + 2),
-                    },
-                })
-            } else {
-                FoundSegment::Refused {
-                    number: Refusal::NO_SEGMENT,
-                    bit: 0,
-                }
-            }
-        }
+    let found = find_view(bytes, view)?;
+    let skeleton = found.blocks.skeleton;
+    let lines = skeleton.from;
+    let extended = found.blocks.extended;
+    let first = extended.from;
+    let end = extended.to;
+    let block = &bytes[first..end];
+    let passed = pass_segments(block, place);
+    if block.len() <= passed.next {
+        return Err(Refusal::NoSegment.into());
     }
+    let start = first + passed.next;
+    Ok(Spot {
+        image: Image {
+            width: two_at(bytes, lines - 6),
+            height: two_at(bytes, lines - 4),
+        },
+        widths: found.scale.widths,
+        skeleton,
+        extended,
+        kind: two_at(bytes, start),
+        payload: Part {
+            from: start + 4,
+            to: start + two_at(bytes, start + 2),
+        },
+    })
 }
 
 // How many lines its view has.

@@ -1,7 +1,9 @@
 -- What finding a view answers: where it stands in an accepted record, or the refusal of every call on it.
-use Rattle.std.specs.Prelude.{◌≡◌, ℕ, List, []}
+use Rattle.std.specs.Prelude.{◌≡◌, ℕ, List, [], Result, Ok, Err}
 use Rattle.bits.specs.Codec.{got}
 use Rattle.outcome.specs.Outcome.{Outcome, refused}
+use Rattle.outcome.specs.Why.{number}
+use Rattle.outcome.specs.declared.refusal.Refused.{Refused}
 use Rattle.format.specs.Record.{Record, read}
 use Rattle.format.specs.Call.{on_view}
 use Rattle.format.specs.Named.{Means}
@@ -10,7 +12,6 @@ use Rattle.format.specs.declared.ViewName.{ViewName}
 use Rattle.find_parts.specs.Stands.{BlocksIn}
 use Rattle.find_parts.specs.declared.view.Blocks.{Blocks}
 use Rattle.find_view.specs.declared.FoundView.{FoundView}
-use Rattle.find_view.specs.declared.FoundView.TheVariants as f
 
 -- the bytes s are a record's whose scale is c, and the blocks of the view that is named stand at x
 pub record Stands (s : List ℕ) (view : ViewName) (c : Scale) (x : Blocks) : Type 0 where
@@ -25,6 +26,6 @@ pub record Stands (s : List ℕ) (view : ViewName) (c : Scale) (x : Blocks) : Ty
 pub record Refuses (s : List ℕ) (view : ViewName) (e p : ℕ) : Type 0 where
   pub is : (f : ℕ → Record → Outcome ℕ) → on_view view f s ≡ refused e p
 
-abbrev pub FindsView : List ℕ → ViewName → FoundView → Type 0
-FindsView s view (f.At scale x) = Stands s view scale x
-FindsView s view (f.Refused e p) = Refuses s view e p
+abbrev pub FindsView : List ℕ → ViewName → Result FoundView Refused → Type 0
+FindsView s view (Ok f) = Stands s view f.scale f.blocks
+FindsView s view (Err r) = Refuses s view (number r.why) r.place

@@ -1,8 +1,10 @@
 // The parts of a record that code passes by value. Their formats, and the rules they obey, are in specs/.
 #![tactic(auto)]
 
+ghost use Rattle.std.specs.Prelude.{◌≡◌, ◌-◌, ◌≤◌, length, take, drop};
+
 // Bits of a coordinate, of a start or end direction and of a direction code.
-#[derive(Clone, Copy)]
+#[derive(Clone, Copy, PartialEq, Eq)]
 pub struct Widths {
     pub c: usize,
     pub b: usize,
@@ -11,7 +13,7 @@ pub struct Widths {
 
 // Bytes 15 to 21 of a record: points per cm, widths, straight step, 256 times perpendicular over straight step, and half, the
 // directions in a half turn (N).
-#[derive(Clone, Copy)]
+#[derive(Clone, Copy, PartialEq, Eq)]
 pub struct Scale {
     pub points: usize,
     pub widths: Widths,
@@ -52,6 +54,23 @@ impl ViewHeader {
     pub const MOST_LINES: usize = 1024;
 }
 
+// A part of the bytes: from its first byte up to the byte behind it.
+#[derive(Clone, Copy)]
+pub struct Part {
+    pub from: usize,
+    pub to: usize,
+}
+
+impl Part {
+    // Its bytes.
+    pub fn of(self, bytes: &[u8]) -> &[u8]
+        requires { (self.from ≤ self.to) × (self.to ≤ length bytes.now) }
+        ensures { result.now ≡ take (self.to - self.from) (drop self.from bytes.now) }
+    {
+        &bytes[self.from..self.to]
+    }
+}
+
 // How a call names a view: finger position and view number.
 #[derive(Clone, Copy)]
 pub struct ViewName {
@@ -66,7 +85,8 @@ pub struct Image {
     pub height: usize,
 }
 
-// The types of segments whose payload has a format here.
+// The types of segments whose payload has a format here. A record may hold any type of 16 bits, read as a number and compared by order
+// (order_segments): an enum would name these two and carry the number of every other.
 #[derive(Clone, Copy)]
 pub struct SegmentType;
 

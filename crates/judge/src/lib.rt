@@ -1,71 +1,45 @@
 // The judge of a record: refused, by its number and place; or accepted, with what every call needs of it.
 #![tactic(auto)]
 
-ghost use Rattle.judge.specs.Judge.{Judges};
+ghost use Rattle.judge.specs.Judge.{Finds, Judges};
 
 use format::Header;
-use judge_blocks::Reached;
-use judge_heads::header::{HeaderAt, header_at};
+use judge_heads::header::header_at;
 use judge_views::judge_views;
-use outcome::Refusal;
+use outcome::{Fault, Refusal, Refused};
 
 // An accepted record's header, how many views it has, and the bytes of its sheet.
 #[derive(Clone, Copy)]
-pub enum Verdict {
-    Accepted {
-        header: Header,
-        views: usize,
-        size: usize,
-    },
-    Refused {
-        number: u32,
-        place: u32,
-    },
+pub struct Accepted {
+    pub header: Header,
+    pub views: usize,
+    pub size: usize,
 }
 
-pub fn judge(bytes: &[u8]) -> Verdict
+pub fn judge(bytes: &[u8]) -> Result<Accepted, Refused>
     ensures { Judges bytes.now result }
 {
-    if bytes.len() < Header::LEAST_BYTES {
-        return Verdict::Refused {
-            number: Refusal::BAD_SIZE,
-            place: 0,
-        };
+    match found(bytes) {
+        Ok(accepted) => Ok(accepted),
+        Err(fault) => Err(fault.refused()),
     }
-    if Header::MOST_BYTES < bytes.len() {
-        return Verdict::Refused {
-            number: Refusal::BAD_SIZE,
-            place: 0,
-        };
+}
+
+// The same, with the place of a refusal as the readers count it.
+fn found(bytes: &[u8]) -> Result<Accepted, Fault>
+    ensures { Finds bytes.now result }
+{
+    if bytes.len() < Header::LEAST_BYTES || Header::MOST_BYTES < bytes.len() {
+        return Err(Refusal::BadSize.at(0));
     }
-    match header_at(bytes) {
-        HeaderAt::Refused(number, p) => Verdict::Refused {
-            number,
-            place: p as u32,
-        },
-        HeaderAt::At(h, count) => {
-            let scale = h.scale;
-            let widths = scale.widths;
-            match judge_views(bytes, widths, count) {
-                Reached::Refused(number, p) => Verdict::Refused {
-                    number,
-                    place: p as u32,
-                },
-                Reached::At { next: a, size } => {
-                    if a < bytes.len() {
-                        Verdict::Refused {
-                            number: Refusal::BYTES_OVER,
-                            place: (8 * a) as u32,
-                        }
-                    } else {
-                        Verdict::Accepted {
-                            header: h,
-                            views: count,
-                            size: 12 + size,
-                        }
-                    }
-                }
-            }
-        }
+    let (header, views) = header_at(bytes)?;
+    let reached = judge_views(bytes, header.scale.widths, views)?;
+    if reached.next < bytes.len() {
+        return Err(Refusal::BytesOver.at(8 * reached.next));
     }
+    Ok(Accepted {
+        header,
+        views,
+        size: 12 + reached.size,
+    })
 }

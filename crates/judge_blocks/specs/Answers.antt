@@ -1,32 +1,30 @@
 -- What the answers of the blocks' readers mean, and what each function reads: the formats' own readers, of which a judge keeps the
 -- bytes in the sheet.
-use Rattle.std.specs.Prelude.{◌≡◌, ℕ, ◌+◌, ◌-◌, ◌*◌, ◌≤◌, ◌<◌, Bool, List, length}
+use Rattle.std.specs.Prelude.{◌≡◌, ℕ, ◌+◌, ◌-◌, ◌*◌, ◌≤◌, ◌<◌, Bool, List, Result, Ok, Err, length}
 use Rattle.bits.specs.Bits.{Bits}
 use Rattle.bits.specs.Codec.{Read, field_dec}
 use Rattle.bits.specs.SizedLaws.{prefixed}
 use Rattle.bits.specs.Lists.{total}
 use Rattle.bits.specs.Reads.{Found, found, fault, Reads, keeping}
 use Rattle.outcome.specs.Refusals.{past}
+use Rattle.outcome.specs.Why.{number, fault_of}
+use Rattle.outcome.specs.declared.refusal.Fault.{Fault}
 use Rattle.format.specs.Index.{index_block}
 use Rattle.format.specs.Segments.{segments}
+use Rattle.format.specs.declared.Part.{Part}
 use Rattle.format.specs.SheetSize.{index_size, segment_size}
-use Rattle.judge_blocks.specs.declared.Judged.{Judged}
-use Rattle.judge_blocks.specs.declared.Judged.TheVariants as j
 use Rattle.judge_blocks.specs.declared.Reached.{Reached}
-use Rattle.judge_blocks.specs.declared.Reached.TheVariants as r
-use Rattle.judge_blocks.specs.declared.block.WholeBlock.{WholeBlock}
-use Rattle.judge_blocks.specs.declared.block.WholeBlock.TheVariants as k
 
 -- ---- answers
 
--- the judge of the whole block s
-abbrev pub judged : List ℕ → Judged → Found ℕ
-judged s (j.Fine n) = found n (8 * length s)
-judged s (j.Refused e p) = fault e p
+-- the judge of the whole block s, whose refusal is e
+abbrev pub judged : ℕ → List ℕ → Result ℕ ℕ → Found ℕ
+judged e s (Ok n) = found n (8 * length s)
+judged e s (Err p) = fault e p
 
-abbrev pub reached : Reached → Found ℕ
-reached (r.At b n) = found n (8 * b)
-reached (r.Refused e p) = fault e p
+abbrev pub reached : Result Reached Fault → Found ℕ
+reached (Ok r) = found r.size (8 * r.next)
+reached (Err f) = fault_of f
 
 -- ---- a block behind its length, a field of 16 bits at byte a
 
@@ -43,9 +41,9 @@ pub data Cut (s : List ℕ) (a p : ℕ) : Type 0 where
   block_past : (n : ℕ) → Reads (field_dec past 16) s (8 * a) (found n (8 * (a + 2))) → length s - (a + 2) < n → p ≡ 8 * (a + 2) → Cut s a p
 
 -- the one or the other, as `block_at` says
-abbrev pub Behind : List ℕ → ℕ → WholeBlock → Type 0
-Behind s a (k.At b e) = WholeAt s a b e
-Behind s a (k.Past p) = Cut s a p
+abbrev pub Behind : List ℕ → ℕ → Result Part Fault → Type 0
+Behind s a (Ok k) = WholeAt s a k.from k.to
+Behind s a (Err f) = (number f.why ≡ past) × Cut s a f.place
 
 -- ---- what is read
 

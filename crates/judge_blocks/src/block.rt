@@ -4,30 +4,24 @@ ghost use Rattle.std.specs.Prelude.{◌≤◌, length};
 ghost use Rattle.judge_blocks.specs.Answers.{Behind};
 
 use bits::Cursor;
+use format::Part;
+use outcome::{Fault, Refusal};
 
-// The block's first byte and the byte behind its last; or the place of the length or the block, whichever passes the end.
-#[derive(Clone, Copy)]
-pub enum WholeBlock {
-    At { from: usize, to: usize },
-    Past(usize),
-}
-
-// The length at byte a, and the block behind it.
-pub fn block_at(bytes: &[u8], a: usize) -> WholeBlock
+// The block behind the length at byte a; or the place of the length or the block, whichever passes the end.
+pub fn block_at(bytes: &[u8], a: usize) -> Result<Part, Fault>
     requires { (length bytes.now ≤ 32768) × (a ≤ length bytes.now) }
     ensures { Behind bytes.now a result }
 {
-    let at = 8 * a;
     if bytes.len() - a < 2 {
-        return WholeBlock::Past(at);
+        return Err(Refusal::Past.at(8 * a));
     }
-    let len = Cursor { at }.sure(bytes, 16).value;
+    let len = Cursor { at: 8 * a }.sure(bytes, 16).value;
     let b = a + 2;
     if bytes.len() - b < len {
-        return WholeBlock::Past(8 * b);
+        return Err(Refusal::Past.at(8 * b));
     }
-    WholeBlock::At {
+    Ok(Part {
         from: b,
         to: b + len,
-    }
+    })
 }

@@ -5,99 +5,72 @@ ghost use Rattle.bits.specs.Reads.{Reads};
 ghost use Rattle.format.specs.Record.{scale};
 ghost use Rattle.judge_heads.specs.Answers.{header_at, scale_at, header_dec};
 
-use bits::ranged::{RangedAt, ranged_at};
-use bits::{Cursor, Taken};
+use bits::Cursor;
+use bits::ranged::ranged_at;
 use format::{Header, Scale, Widths};
-use outcome::Refusal;
+use outcome::{Fault, Refusal};
 
-// A record's header with how many views there are, or a refusal.
-#[derive(Clone, Copy)]
-pub enum HeaderAt {
-    At(Header, usize),
-    Refused(u32, usize),
-}
-
-// A scale and the cursor behind it, or the place of the field outside its range.
-#[derive(Clone, Copy)]
-pub enum ScaleAt {
-    At(Scale, Cursor),
-    Outside(usize),
-}
-
-// The seven bytes at the cursor; a sheet has them too, with a refusal of its own.
-pub fn scale_at(p: Cursor, bytes: &[u8]) -> ScaleAt
+// The seven bytes at the cursor, and the cursor behind them; or the place of the field outside its range. A sheet has them too, with a
+// refusal of its own.
+pub fn scale_at(p: Cursor, bytes: &[u8]) -> Result<(Scale, Cursor), usize>
     requires { (length bytes.now ≤ 65535) × (p.at ≤ 8 * length bytes.now) }
     ensures { (e : ℕ) → Reads (scale e).dec bytes.now p.at (scale_at e result) }
 {
-    let RangedAt::At(points, p1) = ranged_at(p, bytes, 1, 255) else {
-        return ScaleAt::Outside(p.at);
+    let points = ranged_at(p, bytes, 1, 255)?;
+    let c = ranged_at(points.next, bytes, 1, 16)?;
+    let b = ranged_at(c.next, bytes, 4, 8)?;
+    let k = ranged_at(b.next, bytes, 2, 8)?;
+    let step = ranged_at(k.next, bytes, 1, 255)?;
+    let ratio = step.next.field(bytes, 8)?;
+    let half = ranged_at(ratio.next, bytes, 1, 255)?;
+    let widths = Widths {
+        c: c.value,
+        b: b.value,
+        k: k.value,
     };
-    let RangedAt::At(c, p2) = ranged_at(p1, bytes, 1, 16) else {
-        return ScaleAt::Outside(p1.at);
+    let scale = Scale {
+        points: points.value,
+        widths,
+        step: step.value,
+        ratio: ratio.value,
+        half: half.value,
     };
-    let RangedAt::At(b, p3) = ranged_at(p2, bytes, 4, 8) else {
-        return ScaleAt::Outside(p2.at);
-    };
-    let RangedAt::At(k, p4) = ranged_at(p3, bytes, 2, 8) else {
-        return ScaleAt::Outside(p3.at);
-    };
-    let RangedAt::At(step, p5) = ranged_at(p4, bytes, 1, 255) else {
-        return ScaleAt::Outside(p4.at);
-    };
-    let Taken::Bits(ratio, p6) = p5.field(bytes, 8) else {
-        return ScaleAt::Outside(p5.at);
-    };
-    let RangedAt::At(half, p7) = ranged_at(p6, bytes, 1, 255) else {
-        return ScaleAt::Outside(p6.at);
-    };
-    let widths = Widths { c, b, k };
-    ScaleAt::At(
-        Scale {
-            points,
-            widths,
-            step,
-            ratio,
-            half,
-        },
-        p7,
-    )
+    Ok((scale, half.next))
 }
 
-pub fn header_at(bytes: &[u8]) -> HeaderAt
+// A record's header, and how many views there are.
+pub fn header_at(bytes: &[u8]) -> Result<(Header, usize), Fault>
     requires { (24 ≤ length bytes.now) × (length bytes.now ≤ 32768) }
     ensures { Reads (header_dec (length bytes.now)) bytes.now 0 (header_at result) }
 {
     let id = Cursor::start().halves(bytes);
     if id.value != 0x46534B00 {
-        return HeaderAt::Refused(Refusal::BAD_IDENTIFIER, 0);
+        return Err(Refusal::BadIdentifier.at(0));
     }
     let version = id.next.halves(bytes);
     if version.value != 0x30313000 {
-        return HeaderAt::Refused(Refusal::BAD_VERSION, 32);
+        return Err(Refusal::BadVersion.at(32));
     }
     let len = version.next.halves(bytes);
     if len.value != bytes.len() {
-        return HeaderAt::Refused(Refusal::BAD_LENGTH, 64);
+        return Err(Refusal::BadLength.at(64));
     }
     let device = len.next.sure(bytes, 16);
     let views = device.next.sure(bytes, 8);
     if views.value < 1 {
-        return HeaderAt::Refused(Refusal::BAD_HEADER, 112);
+        return Err(Refusal::BadHeader.at(112));
     }
-    match scale_at(views.next, bytes) {
-        ScaleAt::Outside(p) => HeaderAt::Refused(Refusal::BAD_HEADER, p),
-        ScaleAt::At(scale, p) => {
-            let reserved = p.sure(bytes, 16);
-            if reserved.value != 0 {
-                return HeaderAt::Refused(Refusal::BAD_HEADER, 176);
-            }
-            HeaderAt::At(
-                Header {
-                    device: device.value,
-                    scale,
-                },
-                views.value,
-            )
-        }
+    let (scale, p) = match scale_at(views.next, bytes) {
+        Ok(read) => read,
+        Err(place) => return Err(Refusal::BadHeader.at(place)),
+    };
+    let reserved = p.sure(bytes, 16);
+    if reserved.value != 0 {
+        return Err(Refusal::BadHeader.at(176));
     }
+    let header = Header {
+        device: device.value,
+        scale,
+    };
+    Ok((header, views.value))
 }

@@ -6,21 +6,7 @@ ghost use Rattle.judge_heads.specs.Answers.{earlier_of, fields_at, head_at, head
 
 use bits::{Cursor, wide};
 use format::ViewHeader;
-use outcome::Refusal;
-
-// A view's header with its skeleton's length, or a refusal.
-#[derive(Clone, Copy)]
-pub enum Headed {
-    At(ViewHeader, usize),
-    Refused(u32, usize),
-}
-
-// The header's fields and the cursor behind them, or the place of the first that is not right.
-#[derive(Clone, Copy)]
-pub enum HeadFieldsAt {
-    At(ViewHeader, Cursor),
-    Wrong(usize),
-}
+use outcome::{Fault, Refusal};
 
 // How many earlier views have the finger position.
 fn earlier(seen: &[u8; 11], position: usize) -> usize
@@ -44,9 +30,9 @@ fn impression_bad(impression: usize) -> bool
     impression != 9
 }
 
-// The header's eight bytes at the cursor, without the skeleton's length; seen counts the earlier views of each position. A sheet has
-// them too, with a refusal of its own.
-pub fn head_fields(p: Cursor, bytes: &[u8], seen: &[u8; 11]) -> HeadFieldsAt
+// The header's eight bytes at the cursor, without the skeleton's length, and the cursor behind them; or the place of the first field that
+// is not right. seen counts the earlier views of each position. A sheet has these bytes too, with a refusal of its own.
+pub fn head_fields(p: Cursor, bytes: &[u8], seen: &[u8; 11]) -> Result<(ViewHeader, Cursor), usize>
     requires { (length bytes.now ≤ 65535) × (p.at + 64 ≤ 8 * length bytes.now) }
     ensures { (e : ℕ) → Reads (head_fields e (earlier_of seen.now)).dec bytes.now p.at (fields_at e result) }
 {
@@ -58,46 +44,42 @@ pub fn head_fields(p: Cursor, bytes: &[u8], seen: &[u8; 11]) -> HeadFieldsAt
     let height = width.next.sure(bytes, 16);
     let finger = position.value;
     if number.value != earlier(seen, finger) {
-        return HeadFieldsAt::Wrong(p.at);
+        return Err(p.at);
     }
     if 10 < finger {
-        return HeadFieldsAt::Wrong(p.at + 8);
+        return Err(p.at + 8);
     }
     let kind = impression.value;
     if impression_bad(kind) {
-        return HeadFieldsAt::Wrong(p.at + 16);
+        return Err(p.at + 16);
     }
     if 100 < quality.value {
-        return HeadFieldsAt::Wrong(p.at + 24);
+        return Err(p.at + 24);
     }
-    let next = height.next;
-    HeadFieldsAt::At(
-        ViewHeader {
-            number: number.value,
-            position: finger,
-            impression: kind,
-            quality: quality.value,
-            width: width.value,
-            height: height.value,
-        },
-        next,
-    )
+    let head = ViewHeader {
+        number: number.value,
+        position: finger,
+        impression: kind,
+        quality: quality.value,
+        width: width.value,
+        height: height.value,
+    };
+    Ok((head, height.next))
 }
 
 // The header at byte a, with the skeleton's length.
-pub fn head_at(bytes: &[u8], a: usize, seen: &[u8; 11]) -> Headed
+pub fn head_at(bytes: &[u8], a: usize, seen: &[u8; 11]) -> Result<(ViewHeader, usize), Fault>
     requires { (length bytes.now ≤ 32768) × (a ≤ length bytes.now) }
     ensures { Reads (head_dec seen.now) bytes.now (8 * a) (head_at a result) }
 {
     let at = 8 * a;
     if bytes.len() - a < 10 {
-        return Headed::Refused(Refusal::PAST, at);
+        return Err(Refusal::Past.at(at));
     }
-    match head_fields(Cursor { at }, bytes, seen) {
-        HeadFieldsAt::Wrong(p) => Headed::Refused(Refusal::BAD_VIEW, p),
-        HeadFieldsAt::At(head, p) => {
-            let len = p.sure(bytes, 16);
-            Headed::At(head, len.value)
-        }
-    }
+    let (head, p) = match head_fields(Cursor { at }, bytes, seen) {
+        Ok(read) => read,
+        Err(place) => return Err(Refusal::BadView.at(place)),
+    };
+    let len = p.sure(bytes, 16);
+    Ok((head, len.value))
 }

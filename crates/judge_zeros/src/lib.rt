@@ -6,29 +6,19 @@ ghost use Rattle.bits.specs.Block.{zeros_dec};
 ghost use Rattle.bits.specs.Reads.{Reads};
 ghost use Rattle.judge_zeros.specs.Zeros.{cleared};
 
-use bits::{Cursor, pow2};
-
-// All bits are zero, or the place of the first that is not.
-#[derive(Clone, Copy)]
-pub enum Cleared {
-    All,
-    One(usize),
-}
+use bits::Cursor;
 
 // The first 1 among the n bits that write the value, counted from 0.
 fn first_one(value: usize, n: usize) -> usize
     requires { (1 ≤ value) × (value < 2 ^ n) × (n ≤ 8) }
     ensures { (result < n) × (value < 2 ^ (n - result)) × (2 ^ (n - result - 1) ≤ value) }
 {
-    let mut i: usize = 0;
-    while value < pow2(n - i - 1) {
-        i += 1;
-    }
-    i
+    n - 1 - value.ilog2() as usize
 }
 
-// The bits from the cursor to the end of the block: those left of its byte, then byte by byte.
-pub fn zeros_at(p: Cursor, block: &[u8]) -> Cleared
+// The bits from the cursor to the end of the block are zero, or else: the place of the first that is 1. Those left of its byte are read,
+// then byte by byte.
+pub fn zeros_at(p: Cursor, block: &[u8]) -> Result<(), usize>
     requires { (length block.now ≤ 65535) × (p.at ≤ 8 * length block.now) }
     ensures { (e : ℕ) → Reads (zeros_dec e) block.now p.at (cleared e block.now result) }
 {
@@ -37,9 +27,9 @@ pub fn zeros_at(p: Cursor, block: &[u8]) -> Cleared
         let n = 8 - q.at % 8;
         let bits = q.sure(block, n);
         if bits.value != 0 {
-            return Cleared::One(q.at + first_one(bits.value, n));
+            return Err(q.at + first_one(bits.value, n));
         }
         q = bits.next;
     }
-    Cleared::All
+    Ok(())
 }

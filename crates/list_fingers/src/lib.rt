@@ -4,7 +4,7 @@
 ghost use Rattle.std.specs.Prelude.{◌≡◌, ◌<◌, ◌≤◌};
 ghost use Rattle.list_fingers.specs.Fingers.{finger_of};
 
-// A name's bytes, the first len of twelve.
+// A name's bytes, the first len of twelve: document 01 asks for byte arrays with lengths.
 #[derive(Clone, Copy)]
 pub struct Name {
     pub text: [u8; 12],

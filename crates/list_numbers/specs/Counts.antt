@@ -1,10 +1,12 @@
 -- What the code that counts for the listing asks of a view of an accepted record, and what it answers: whatever view stands there,
 -- the numbers are those that the listing has of it.
-use Rattle.std.specs.Prelude.{◌≡◌, ℕ, ◌≤◌, Bool, true, false, List, length}
+use Rattle.std.specs.Prelude as std
+use Rattle.std.specs.Prelude.{◌≡◌, ℕ, ◌≤◌, List, length}
+use Rattle.std.proofs.Math.Option
 use Rattle.std.proofs.Math.Option.{Option, none, some}
 use Rattle.bits.specs.Lists.{total}
 use Rattle.bits.specs.OfBlock.{OfBlock}
-use Rattle.format.specs.Index.{Index, index_block}
+use Rattle.format.specs.Index.{index_block}
 use Rattle.format.specs.View.{View}
 use Rattle.format.specs.declared.Widths.{Widths}
 use Rattle.format.specs.Record.{Narrow}
@@ -14,12 +16,13 @@ use Rattle.list_numbers.specs.declared.Listed as d
 
 -- ---- the pairs in the index block s of a view with `lines` lines
 
-abbrev pub entries : Option Index → ℕ
-entries none = 0
-entries (some i) = total length i.lists
+-- none where it is empty
+abbrev pub pairs_of : std.Option ℕ → Option ℕ
+pairs_of std.None = none
+pairs_of (std.Some n) = some n
 
-abbrev pub PairsCounted : (lines : ℕ) → List ℕ → ℕ → Type 0
-PairsCounted lines s n = OfBlock (index_block lines) s (λ o. n ≡ entries o)
+abbrev pub PairsCounted : (lines : ℕ) → List ℕ → std.Option ℕ → Type 0
+PairsCounted lines s n = OfBlock (index_block lines) s (λ o. pairs_of n ≡ Option.map (λ i. total length i.lists) o)
 
 -- ---- the view that starts at byte a
 
@@ -29,12 +32,8 @@ pub record ListedThere (w : Widths) (s : List ℕ) (a : ℕ) : Type 0 where
   pub value : View
   pub at : ViewAt w s a value
 
-abbrev pub pairs_of : Bool → ℕ → Option ℕ
-pairs_of true n = some n
-pairs_of false n = none
-
 abbrev pub numbers_of : d.Listed → Listed
-numbers_of x = record { position = x.position; number = x.number; lines = x.lines; pairs = pairs_of x.indexed x.pairs; segments = x.segments }
+numbers_of x = record { position = x.position; number = x.number; lines = x.lines; pairs = pairs_of x.pairs; segments = x.segments }
 
 pub record ListedAt (w : Widths) (s : List ℕ) (a : ℕ) (x : d.Listed) : Type 0 where
   pub is : (v : View) (at : ViewAt w s a v) → (numbers_of x ≡ listed v) × (x.next ≡ at.behind)

@@ -18,32 +18,30 @@ pub struct Listed {
     pub position: usize,
     pub number: usize,
     pub lines: usize,
-    pub indexed: bool,
-    pub pairs: usize,
+    pub pairs: Option<usize>,
     pub segments: usize,
     pub next: usize,
 }
 
-// The pairs in the index block of a view with `lines` lines: each line's count is read, and its differences are passed.
-fn count_pairs(block: &[u8], lines: usize) -> usize
+// The pairs in the index block of a view with `lines` lines, if it is not empty: each line's count is read, and its differences are
+// passed.
+fn count_pairs(block: &[u8], lines: usize) -> Option<usize>
     requires { BlockThere (index_block lines) block.now }
     ensures { PairsCounted lines block.now result }
 {
-    if block.len() == 0 {
-        return 0;
+    if block.is_empty() {
+        return None;
     }
     let width = Cursor::start().sure(block, 8);
     let w = width.value;
     let mut at: usize = 8;
     let mut pairs: usize = 0;
-    let mut l: usize = 0;
-    while l < lines {
+    for _ in 0..lines {
         let count = Cursor { at }.sure(block, w);
         pairs += count.value;
         at += w + count.value * w;
-        l += 1;
     }
-    pairs
+    Some(pairs)
 }
 
 // The view that starts at byte a.
@@ -54,22 +52,16 @@ pub fn listed_at(bytes: &[u8], a: usize, w: Widths) -> Listed
     let number = Cursor { at: 8 * a }.sure(bytes, 8);
     let position = Cursor { at: 8 * a + 8 }.sure(bytes, 8);
     let blocks = blocks_at(bytes, a + 8);
-    let skeleton = blocks.skeleton.from;
-    let skeleton_end = blocks.skeleton.to;
-    let lines = pass_lines(&bytes[skeleton..skeleton_end], w, ViewHeader::MOST_LINES);
-    let index = blocks.index.from;
-    let index_end = blocks.index.to;
-    let pairs = count_pairs(&bytes[index..index_end], lines.count);
-    let extended = blocks.extended.from;
-    let next = blocks.extended.to;
-    let segments = pass_segments(&bytes[extended..next], next - extended);
+    let skeleton = blocks.skeleton.of(bytes);
+    let index = blocks.index.of(bytes);
+    let extended = blocks.extended.of(bytes);
+    let lines = pass_lines(skeleton, w, ViewHeader::MOST_LINES);
     Listed {
         position: position.value,
         number: number.value,
         lines: lines.count,
-        indexed: index < index_end,
-        pairs,
-        segments: segments.count,
-        next,
+        pairs: count_pairs(index, lines.count),
+        segments: pass_segments(extended, extended.len()).count,
+        next: blocks.extended.to,
     }
 }

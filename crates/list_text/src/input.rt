@@ -9,6 +9,7 @@ pub fn read_full<R: Read>(input: &mut R, buffer: &mut [u8]) -> io::Result<usize>
     ensures within { IfOk result (λ n. n ≤ length buffer.new) }
 {
     let mut n: usize = 0;
+    // Each turn goes on by what one read gives.
     while n < buffer.len() {
         let more = input.read(&mut buffer[n..])?;
         if more == 0 {

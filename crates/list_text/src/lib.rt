@@ -5,7 +5,7 @@ ghost use Rattle.std.specs.Prelude.{◌≤◌, ◌<◌};
 ghost use Rattle.list_text.specs.Views.{ViewsToList};
 
 use format::{Header, Widths};
-use judge::{Verdict, judge};
+use judge::judge;
 use list_fingers::finger;
 use list_numbers::{Listed, listed_at};
 use std::io;
@@ -51,10 +51,9 @@ fn view_line(rt: &impl Print, v: Listed) -> io::Result<()>
     text(rt, b"view ")?;
     finger_name(rt, v.position)?;
     print!(rt; " {} lines {} pairs ", v.number, v.lines)?;
-    if v.indexed {
-        number(rt, v.pairs)?;
-    } else {
-        text(rt, b"-")?;
+    match v.pairs {
+        Some(pairs) => number(rt, pairs)?,
+        None => text(rt, b"-")?,
     }
     println!(rt; " segments {}", v.segments)
 }
@@ -75,15 +74,10 @@ fn view_lines(rt: &impl Print, bytes: &[u8], w: Widths, count: usize) -> io::Res
 // The listing of any bytes.
 pub fn listing(rt: &impl Print, bytes: &[u8]) -> io::Result<()> {
     match judge(bytes) {
-        Verdict::Refused { number, place: _ } => refused(rt, number),
-        Verdict::Accepted {
-            header,
-            views,
-            size: _,
-        } => {
-            record_line(rt, bytes.len(), views)?;
-            let scale = header.scale;
-            view_lines(rt, bytes, scale.widths, views)
+        Err(refusal) => refused(rt, refusal.why.number()),
+        Ok(record) => {
+            record_line(rt, bytes.len(), record.views)?;
+            view_lines(rt, bytes, record.header.scale.widths, record.views)
         }
     }
 }

@@ -4,26 +4,32 @@
 
 ghost use Rattle.std.specs.Prelude.{◌≡◌};
 ghost use Rattle.order_record.specs.Rebuilt.{Placed};
-ghost use Rattle.order_carry.specs.Carried.{size_number, CarriedOut};
+ghost use Rattle.order_carry.specs.Carried.{size_number, number_in, RefusedAt, CarriedOut};
 
 use find_parts::site::Site;
 use format::Header;
 use order_record::measure::measure;
 use order_record::put::put;
-use outcome::{Answer, Refusal, accept, refuse_at};
+use outcome::{Refusal, Refused};
 
-// A record of `bytes` bytes held against the limits, where a buffer of `lent` bytes is lent for it: 19, 20, or 0 where it is within
-// them.
-pub fn size_number(bytes: usize, lent: usize) -> u32
-    ensures { result ≡ size_number lent bytes }
+// A record of `bytes` bytes held against the limits, where a buffer of `lent` bytes is lent for it: 19, 20, at `place`.
+pub fn hold_size(bytes: usize, lent: usize, place: u32) -> Result<(), Refused>
+    ensures number { number_in result ≡ size_number lent bytes }
+    ensures place { RefusedAt place result }
 {
     if Header::MOST_BYTES < bytes {
-        return Refusal::TOO_LONG;
+        return Err(Refused {
+            why: Refusal::TooLong,
+            place,
+        });
     }
     if lent < bytes {
-        return Refusal::NO_ROOM;
+        return Err(Refused {
+            why: Refusal::NoRoom,
+            place,
+        });
     }
-    0
+    Ok(())
 }
 
 // The order on the view that stands at `site`: it is refused with 19 or 20, at `place`, or the new record is written to `out`.
@@ -34,15 +40,12 @@ pub fn carry_out(
     removal: &[u8],
     place: u32,
     out: &mut [u8],
-) -> Answer
+) -> Result<usize, Refused>
     requires { Placed bytes.now site words.now removal.now }
     ensures { CarriedOut bytes.now site words.now removal.now place out.old out.new result }
 {
     let sizes = measure(bytes, site, words, removal);
-    let number = size_number(sizes.bytes, out.len());
-    if number != 0 {
-        return refuse_at(number, place);
-    }
+    hold_size(sizes.bytes, out.len(), place)?;
     let length = put(out, bytes, site, words, removal, sizes);
-    accept(length)
+    Ok(length)
 }

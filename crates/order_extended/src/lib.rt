@@ -8,6 +8,7 @@ ghost use Rattle.order_extended.specs.Extended.{ExtendedToKeep, ExtendedSized, E
 use bits::two_at;
 use format::SegmentType;
 use order_pores::{pores_put, pores_size};
+use order_segments::Segments;
 use put_bytes::{copy, put_two};
 
 // How many bytes the segment then has, in a view with `lines` lines before the removal.
@@ -40,12 +41,9 @@ pub fn extended_size(block: &[u8], lines: usize, removal: &[u8]) -> usize
     requires { ExtendedToKeep block.now lines removal.now }
     ensures { ExtendedSized block.now lines removal.now result }
 {
-    let mut size: usize = 0;
-    let mut next: usize = 0;
-    while next < block.len() {
-        let from = next;
-        next += two_at(block, from + 2);
-        size += segment_size(&block[from..next], lines, removal);
+    let mut size = 0;
+    for segment in Segments(block) {
+        size += segment_size(segment, lines, removal);
     }
     size
 }
@@ -55,12 +53,9 @@ pub fn extended_put(out: &mut [u8], block: &[u8], lines: usize, removal: &[u8]) 
     requires { ExtendedPutThere block.now lines removal.now out.old }
     ensures { ExtendedPut block.now lines removal.now out.old out.new result }
 {
-    let mut at: usize = 0;
-    let mut next: usize = 0;
-    while next < block.len() {
-        let start = next;
-        next += two_at(block, start + 2);
-        at += segment_put(&mut out[at..], &block[start..next], lines, removal);
+    let mut at = 0;
+    for segment in Segments(block) {
+        at += segment_put(&mut out[at..], segment, lines, removal);
     }
     at
 }

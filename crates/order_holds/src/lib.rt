@@ -20,7 +20,8 @@ pub fn now_holds<'a>(old: &'a [u8], second: &'a [u8], number: u32, length: usize
     }
 }
 
-// For a host that takes numbers alone. second: 1 where the second buffer's first bytes hold, 0 where the whole old record does.
+// The C interface: two numbers, where code would answer with the slice. second: 1 where the second buffer's first bytes hold, 0 where
+// the whole old record does.
 // length: how many bytes that is.
 #[repr(C)]
 #[derive(Clone, Copy)]

@@ -2,7 +2,7 @@
 // bits are copied as they stand.
 #![tactic(auto)]
 
-ghost use Rattle.std.specs.Prelude.{◌≡◌, ◌+◌, ◌*◌, ◌≤◌, min};
+ghost use Rattle.std.specs.Prelude.{◌≡◌, ◌+◌, ◌*◌, ◌≤◌};
 ghost use Rattle.order_lines.specs.Copy.{CopyThere, Copied};
 ghost use Rattle.order_lines.specs.Lines.{LinesToKeep, LinesSized, LinesPutThere, LinesPut};
 
@@ -11,12 +11,6 @@ use find_parts::line::line_end;
 use format::Widths;
 use order_removal::rank_of;
 use put_bits::put_bits;
-
-fn smaller(a: usize, b: usize) -> usize
-    ensures { result ≡ min a b }
-{
-    if a < b { a } else { b }
-}
 
 // The n bits of `block` from place p on, put at place `at` of `out`; the answer is the place behind them.
 fn copy_few(out: &mut [u8], at: usize, block: &[u8], p: usize, n: usize) -> usize
@@ -35,11 +29,9 @@ fn copy_bytes(out: &mut [u8], a: usize, block: &[u8], p: usize, count: usize)
 {
     let first = p / 8;
     let last = (p + 7) / 8;
-    let mut i: usize = 0;
-    while i < count {
+    for i in 0..count {
         let two = wide(block[first + i]) * 256 + wide(block[last + i]);
         out[a + i] = (two << (p % 8 + 48) >> 56) as u8;
-        i += 1;
     }
 }
 
@@ -49,7 +41,7 @@ pub fn copy_bits(out: &mut [u8], at: usize, block: &[u8], p: usize, end: usize) 
     requires { CopyThere block.now p end out.old at }
     ensures { Copied block.now p end out.old at out.new result }
 {
-    let few = smaller((8 - at % 8) % 8, end - p);
+    let few = (end - p).min((8 - at % 8) % 8);
     let q = copy_few(out, at, block, p, few);
     let from = p + few;
     if from == end {
@@ -71,18 +63,14 @@ pub fn lines_size(block: &[u8], w: Widths, count: usize, removal: &[u8]) -> usiz
     requires { LinesToKeep w block.now count removal.now }
     ensures { LinesSized w block.now count removal.now result }
 {
-    let mut p: usize = 0;
-    let mut l: usize = 0;
-    let mut bits: usize = 0;
-    while l < count {
+    let mut p = 0;
+    let mut bits = 0;
+    for l in 0..count {
         let from = p;
         p = line_end(block, from, w);
-        let rank = rank_of(removal, l);
-        l += 1;
-        if rank.gone {
-            continue;
+        if rank_of(removal, l).is_err() {
+            bits += p - from;
         }
-        bits += p - from;
     }
     (bits + 7) / 8
 }
@@ -92,18 +80,14 @@ pub fn lines_put(out: &mut [u8], block: &[u8], w: Widths, count: usize, removal:
     requires { LinesPutThere w block.now count removal.now out.old }
     ensures { LinesPut w block.now count removal.now out.old out.new result }
 {
-    let mut q: usize = 0;
-    let mut p: usize = 0;
-    let mut l: usize = 0;
-    while l < count {
+    let mut q = 0;
+    let mut p = 0;
+    for l in 0..count {
         let from = p;
         p = line_end(block, from, w);
-        let rank = rank_of(removal, l);
-        l += 1;
-        if rank.gone {
-            continue;
+        if rank_of(removal, l).is_err() {
+            q = copy_bits(out, q, block, from, p);
         }
-        q = copy_bits(out, q, block, from, p);
     }
     (q + 7) / 8
 }

@@ -1,7 +1,7 @@
 -- One list after an order: the lines that the words about its line leave, without those of a removal and renumbered. What the code
 -- that goes over one list x of the index block s asks and answers: whatever lines the list has in the block, the answer is about those
 -- that stay.
-use Rattle.std.specs.Prelude.{◌≡◌, ℕ, suc, ◌-◌, ◌≤◌, ◌<◌, Bool, not, ◌||◌, List, [], ◌∷◌, length, T}
+use Rattle.std.specs.Prelude.{◌≡◌, ℕ, suc, ◌-◌, ◌≤◌, ◌<◌, Bool, not, ◌||◌, Option, Some, None, List, [], ◌∷◌, length, T}
 use Rattle.bits.specs.Choice.{pick}
 use Rattle.bits.specs.Bits.{Bits}
 use Rattle.differences.specs.Differences.{Falls, diffs}
@@ -13,20 +13,18 @@ use Rattle.orders.specs.Listed.{removal_lines}
 use Rattle.order_removal.specs.Rank.{below, Rising}
 use Rattle.order_words.specs.After.{heard_in, list_after}
 use Rattle.order_walk.specs.Merge.{MergeAt}
-use Rattle.order_lists.specs.declared.list.Fate.{Fate}
-use Rattle.order_lists.specs.declared.list.Fate.TheVariants as fate
 use Rattle.order_lists.specs.declared.list.OldList.{OldList}
 use Rattle.order_lists.specs.declared.list.Numbers.{Numbers}
 
 -- ---- what becomes of a line
 
--- the words let line n stay or not; it is gone if they do not, or if the removal of rs names it
+-- the words let line n stay or not; it is gone if they do not, or if the removal of rs names it. One that stays has a new number.
 abbrev pub gone : List ℕ → (stays : Bool) → ℕ → Bool
 gone rs stays n = not stays || elem n rs
 
-abbrev pub Fares : List ℕ → (stays : Bool) → ℕ → Fate → Type 0
-Fares rs stays n (fate.Stays m) = T (not (gone rs stays n)) × (m ≡ n - below rs n)
-Fares rs stays n fate.Gone = T (gone rs stays n)
+abbrev pub Fares : List ℕ → (stays : Bool) → ℕ → Option ℕ → Type 0
+Fares rs stays n (Some m) = T (not (gone rs stays n)) × (m ≡ n - below rs n)
+Fares rs stays n None = T (gone rs stays n)
 
 -- ---- the list
 

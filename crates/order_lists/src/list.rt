@@ -1,5 +1,4 @@
 // One list after an order: measured, for the index's width and size, or put at a width.
-ghost use Rattle.std.specs.Prelude.{◌≡◌, max};
 ghost use Rattle.orders.specs.Listed.{removal_lines};
 ghost use Rattle.order_removal.specs.Rank.{Rising};
 ghost use Rattle.order_lists.specs.List.{Fares, ListThere, Numbered, PutThere, ListPut};
@@ -17,13 +16,6 @@ pub struct OldList {
     pub own: usize,
 }
 
-// What becomes of a line: it stays with its new number, or it is gone.
-#[derive(Clone, Copy)]
-pub enum Fate {
-    Stays(usize),
-    Gone,
-}
-
 // How many neighbours the new list has, and its largest difference.
 #[derive(Clone, Copy)]
 pub struct Numbers {
@@ -31,25 +23,17 @@ pub struct Numbers {
     pub most: usize,
 }
 
-pub fn larger(a: usize, b: usize) -> usize
-    ensures { result ≡ max a b }
-{
-    if a < b { b } else { a }
-}
-
-// What becomes of line `line` under the removal; `stays` says whether the words let it stay.
-fn fate_of(removal: &[u8], stays: bool, line: usize) -> Fate
+// The new number of line `line`, if it stays: `stays` says whether the words let it, and the removal may name it.
+fn fate_of(removal: &[u8], stays: bool, line: usize) -> Option<usize>
     requires { Rising removal.now }
     ensures { Fares (removal_lines removal.now) stays line result }
 {
     if !stays {
-        return Fate::Gone;
+        return None;
     }
-    let rank = rank_of(removal, line);
-    if rank.gone {
-        Fate::Gone
-    } else {
-        Fate::Stays(line - rank.below)
+    match rank_of(removal, line) {
+        Ok(_) => None,
+        Err(before) => Some(line - before),
     }
 }
 
@@ -60,15 +44,15 @@ pub fn list_numbers(block: &[u8], list: OldList, words: &[u8], removal: &[u8]) -
 {
     let mut k = list.from;
     let mut before = list.own;
-    let mut count: usize = 0;
+    let mut count = 0;
     let mut most: usize = 0;
     while 0 < k.walk.left + k.bound {
         let step = step_on(block, words, list.line, k);
         k = step.next;
-        let Fate::Stays(line) = fate_of(removal, step.stays, step.line) else {
+        let Some(line) = fate_of(removal, step.stays, step.line) else {
             continue;
         };
-        most = larger(most, before - line);
+        most = most.max(before - line);
         before = line;
         count += 1;
     }
@@ -92,11 +76,11 @@ pub fn list_put(
     let mut p = put_bits(out, at, 0, width);
     let mut k = list.from;
     let mut before = list.own;
-    let mut count: usize = 0;
+    let mut count = 0;
     while 0 < k.walk.left + k.bound {
         let step = step_on(block, words, list.line, k);
         k = step.next;
-        let Fate::Stays(line) = fate_of(removal, step.stays, step.line) else {
+        let Some(line) = fate_of(removal, step.stays, step.line) else {
             continue;
         };
         p = put_bits(out, p, before - line, width);

@@ -2,7 +2,7 @@
 // passed where the removal names its line; the words are looked through again only for a line that is the higher one of a word.
 ghost use Rattle.order_lists.specs.Lists.{ListsThere, ListsNumbered, ListsPutThere, ListsPut};
 
-use crate::list::{OldList, larger, list_numbers, list_put};
+use crate::list::{OldList, list_numbers, list_put};
 use order_removal::rank_of;
 use order_walk::merge::Merge;
 use order_walk::walk::list_at;
@@ -22,15 +22,13 @@ pub fn lists_numbers(block: &[u8], w: usize, lines: usize, words: &[u8], removal
     ensures { ListsNumbered w block.now lines words.now removal.now result }
 {
     let mut named = next_high(words, 0);
-    let mut p: usize = 8;
-    let mut l: usize = 0;
-    let mut lists: usize = 0;
-    let mut entries: usize = 0;
+    let mut p = 8;
+    let mut lists = 0;
+    let mut entries = 0;
     let mut most: usize = 0;
-    while l < lines {
+    for l in 0..lines {
         let about = about_line(words, l, named);
         let found = list_at(block, w, p, l);
-        let rank = rank_of(removal, l);
         let walk = found.walk;
         let bound = about.bound;
         let list = OldList {
@@ -40,13 +38,12 @@ pub fn lists_numbers(block: &[u8], w: usize, lines: usize, words: &[u8], removal
         };
         named = about.next;
         p = found.next;
-        l += 1;
-        if rank.gone {
+        if rank_of(removal, l).is_ok() {
             continue;
         }
         let numbers = list_numbers(block, list, words, removal);
         entries += numbers.count;
-        most = larger(most, larger(numbers.count, numbers.most));
+        most = most.max(numbers.count).max(numbers.most);
         lists += 1;
     }
     Totals {
@@ -71,14 +68,12 @@ pub fn lists_put(
     ensures { ListsPut w block.now lines words.now removal.now width out.old out.new result }
 {
     let mut named = next_high(words, 0);
-    let mut q: usize = 8;
-    let mut p: usize = 8;
-    let mut l: usize = 0;
-    let mut lists: usize = 0;
-    while l < lines {
+    let mut q = 8;
+    let mut p = 8;
+    let mut lists = 0;
+    for l in 0..lines {
         let about = about_line(words, l, named);
         let found = list_at(block, w, p, l);
-        let rank = rank_of(removal, l);
         let walk = found.walk;
         let bound = about.bound;
         let list = OldList {
@@ -88,8 +83,7 @@ pub fn lists_put(
         };
         named = about.next;
         p = found.next;
-        l += 1;
-        if rank.gone {
+        if rank_of(removal, l).is_ok() {
             continue;
         }
         q = list_put(out, q, block, list, words, removal, width);

@@ -6,14 +6,10 @@ ghost use Rattle.orders.specs.Least.{find};
 pub fn least_width(most: usize) -> usize
     ensures { result ≡ find 15 1 most }
 {
-    let mut limit: usize = 2;
-    let mut w: usize = 1;
-    while w < 16 {
-        if most < limit {
+    for w in 1..16 {
+        if most < 1 << w {
             return w;
         }
-        limit = limit * 2;
-        w += 1;
     }
-    w
+    16
 }

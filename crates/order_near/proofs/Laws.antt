@@ -5,6 +5,7 @@ use Prim.Native.Nat.{ℕ, suc, ◌+◌, ◌*◌, ◌≤◌, ◌<◌}
 use native.Mathlib.Omega.{arith}
 use native.Mathlib.Numerals.{add-one}
 use mathlib.Core.Bool.{Bool, true, false, ◌||◌}
+use Rattle.std.specs.Prelude.{Some, None}
 use mathlib.Core.List.{List, [], ◌∷◌}
 use lib.ListN.{length, drop, get_or}
 use lib.Dec.{eqb}
@@ -17,16 +18,13 @@ use Rattle.outcome.specs.Refusals.{bad_index}
 use Rattle.orders.specs.Survive.{elem}
 use Rattle.find_parts.proofs.Laws.Index.{width_is_lem}
 use Rattle.order_words.specs.Looked.{Says}
-use Rattle.order_words.specs.declared.Spoken.{Spoken}
-use Rattle.order_words.specs.declared.Spoken.TheVariants as spoken
-use Rattle.order_words.proofs.Laws.Said.{says_settled}
-use Rattle.order_walk.specs.Walk.{WalkAt, NextLine, ListsAt, ListHere, EntryAt}
+use Rattle.order_walk.specs.Walk.{WalkAt, NextLine, ListsAt, ListHere, EntryThere, EntryAt}
 use Rattle.order_walk.specs.declared.walk.ListWalk.{ListWalk}
 use Rattle.order_walk.specs.declared.walk.LineStep.{LineStep}
 use Rattle.order_walk.specs.declared.walk.Entry.{Entry}
 use Rattle.order_walk.proofs.Laws.Walk.{walk_end}
 use Rattle.order_walk.proofs.Laws.Block.{first_here, others_at, before, as_many, lists_stand}
-use Rattle.order_near.specs.Near.{Has, FoundAt, Near, NearAfter}
+use Rattle.order_near.specs.Near.{Has, FindThere, FoundAt, Near, NearAfter}
 
 -- ---- one list
 
@@ -109,6 +107,12 @@ module _ (w : ℕ) (s : List ℕ) (line : ℕ) where
   pub passing_first : PassingAll w s line 0 8
   passing_first ls u h k = record { more = ls; at = h; is = refl }
 
+  -- the list of line l is there
+  pub passing_there : FindThere w s line → {l p : ℕ} → PassingAll w s line l p → l ≤ line → EntryThere w s p l
+  passing_there t P k =
+      let x = next_list (P t.value t.behind t.at t.there) (omega (arith, t.there)) in
+      record { narrow = t.narrow; short = t.short; value = _; behind = x.after; here = x.here }
+
   pub passing_next : {l p : ℕ} {e : Entry} → PassingAll w s line l p → l < line → EntryAt w s p l e
       → PassingAll w s line (l + 1) e.next
   passing_next P k E ls u h b =
@@ -136,13 +140,10 @@ near_is s high low h F H =
 
 -- ---- after the words
 
-module _ {s words : List ℕ} {high low : ℕ} {w : Spoken} (S : Says words high low w) where
-  pub near_joined : w ≡ spoken.Joins → NearAfter s words high low true
-  near_joined d = record { is = λ lines i u e l. says_settled (elem low (get_or i.lists high [])) S d }
-
-  pub near_parted : w ≡ spoken.Parts → NearAfter s words high low false
-  near_parted d = record { is = λ lines i u e l. says_settled (elem low (get_or i.lists high [])) S d }
+module _ {s words : List ℕ} {high low : ℕ} where
+  pub near_said : {joins : Bool} → Says words high low (Some joins) → NearAfter s words high low joins
+  near_said S = record { is = λ lines i u e l. sym (S.is (elem low (get_or i.lists high []))) }
 
   -- the index is asked
-  pub near_old : {r : Bool} → w ≡ spoken.Nothing → Near s high low r → NearAfter s words high low r
-  near_old d m = record { is = λ lines i u e l. m.is lines i u e l ∙ says_settled (elem low (get_or i.lists high [])) S d }
+  pub near_old : {r : Bool} → Says words high low None → Near s high low r → NearAfter s words high low r
+  near_old S m = record { is = λ lines i u e l. m.is lines i u e l ∙ sym (S.is (elem low (get_or i.lists high []))) }

@@ -6,7 +6,7 @@ ghost use Rattle.order_near.specs.Near.{HasThere, Has, FindThere, FoundAt, NearT
 
 use bits::Cursor;
 use order_walk::walk::{ListWalk, list_at, next_line};
-use order_words::{Spoken, word_of};
+use order_words::word_of;
 
 // Whether line `low` is in the list that `from` is at the start of.
 fn list_has(block: &[u8], from: ListWalk, low: usize) -> bool
@@ -29,15 +29,11 @@ fn list_of(block: &[u8], w: usize, line: usize) -> ListWalk
     requires { FindThere w block.now line }
     ensures { FoundAt w block.now line result }
 {
-    let mut p: usize = 8;
-    let mut l: usize = 0;
-    while l < line {
-        let list = list_at(block, w, p, l);
-        p = list.next;
-        l += 1;
+    let mut p = 8;
+    for l in 0..line {
+        p = list_at(block, w, p, l).next;
     }
-    let list = list_at(block, w, p, line);
-    list.walk
+    list_at(block, w, p, line).walk
 }
 
 // Whether line `low` is a neighbour of line `high`, which is not below it, by the index block: being neighbours is written once, at
@@ -57,8 +53,7 @@ pub fn near_after(block: &[u8], words: &[u8], high: usize, low: usize) -> bool
     ensures { NearAfter block.now words.now high low result }
 {
     match word_of(words, high, low) {
-        Spoken::Joins => true,
-        Spoken::Parts => false,
-        Spoken::Nothing => are_near(block, high, low),
+        Some(joins) => joins,
+        None => are_near(block, high, low),
     }
 }

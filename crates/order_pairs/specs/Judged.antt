@@ -1,8 +1,10 @@
 -- The orders of a list judged on the old record: what the code that does it asks and answers. That each is judged as if it were given
 -- singly, to the record that the one before left, is what the answer says.
-use Rattle.std.specs.Prelude.{◌≡◌, ℕ, ◌+◌, ◌*◌, ◌≤◌, List, [], length, T}
+use Rattle.std.specs.Prelude.{◌≡◌, ℕ, ◌+◌, ◌*◌, ◌≤◌, List, [], length, T, Result, Ok, Err}
 use Rattle.bits.specs.Codec.{got}
 use Rattle.outcome.specs.Outcome.{refused}
+use Rattle.outcome.specs.Why.{number}
+use Rattle.outcome.specs.declared.refusal.Refused.{Refused}
 use Rattle.format.specs.Limits.{most_bytes}
 use Rattle.format.specs.Record.{Record, read, size, Allowed}
 use Rattle.format.specs.Places.{view_at}
@@ -18,8 +20,6 @@ use Rattle.order_words.specs.After.{word_at, heard, heard_in, view_after, record
 use Rattle.order_view.specs.Named.{Named}
 use Rattle.order_carry.specs.Carried.{held_to}
 use Rattle.order_pairs.specs.Sizes.{Indexed}
-use Rattle.order_pairs.specs.declared.judging.Judged.{Judged}
-use Rattle.order_pairs.specs.declared.judging.Judged.TheVariants as judged
 
 -- ---- the order at place i
 
@@ -53,6 +53,6 @@ pub record AllRight (s : List ℕ) (x : Site) (list : List ℕ) (lent last : ℕ
 pub record OneRefused (s : List ℕ) (x : Site) (list : List ℕ) (lent e p : ℕ) : Type 0 where
   pub is : (view : ViewName) (n : ℕ) (F : Named s view n x) → in_turn 0 (singly (record { view = view; count = n; list = list; lent = lent })) s ≡ refused e p
 
-abbrev pub Judging : List ℕ → Site → List ℕ → ℕ → Judged → Type 0
-Judging s x list lent (judged.Right last) = AllRight s x list lent last
-Judging s x list lent (judged.Refused e p) = OneRefused s x list lent e p
+abbrev pub Judging : List ℕ → Site → List ℕ → ℕ → Result ℕ Refused → Type 0
+Judging s x list lent (Ok last) = AllRight s x list lent last
+Judging s x list lent (Err r) = OneRefused s x list lent (number r.why) r.place

@@ -4,6 +4,7 @@ use mathlib.Core.Path.{◌≡◌, refl, sym, ap, subst, ◌∙◌}
 use Prim.Native.Nat.{ℕ, ◌+◌, ◌*◌, ◌/◌, ◌≤◌}
 use native.Mathlib.Omega.{arith}
 use mathlib.Core.Option.{none, some}
+use Rattle.std.specs.Prelude.{Option, Some, None, IsSome}
 use mathlib.Core.List.{List, [], ◌∷◌, ◌++◌, map, append_assoc}
 use lib.ListN.{length, take, drop, length-append}
 use lib.Seq.{take_at, drop_at}
@@ -30,7 +31,8 @@ use Rattle.pores_parts.proofs.PartsLaws.{pores_match}
 use Rattle.pores_parts.specs.Lines.{line, front}
 use Rattle.pores.specs.PayloadLaws.{pores_got, pores_fit}
 use Rattle.pores.specs.Keep.{distances_at, keep}
-use Rattle.pores_lines.specs.Found.{LineStands}
+use Rattle.pores_lines.specs.Found.{LineStands, LineFound}
+use Rattle.pores_lines.specs.declared.PoreLine.{PoreLine}
 use Rattle.orders.specs.Survive.{survivors}
 use Rattle.orders.specs.Listed.{removal_lines}
 use Rattle.order_removal.proofs.Laws.Kept.{kept_survivors}
@@ -134,10 +136,10 @@ module _ (s : List ℕ) (p e : ℕ) (v : Pores) where
       let z : drop q (bits_of s) ≡ r = cc in
       omega (arith, ap length z, length_rest s q, ap length (first_bits h) ∙ length-append ((line e).enc ds) r, length_rest s p, L.within, h.within)
 
-  pub not_broken : {X : Type 0} (ds : List ℕ) (ls : List (List ℕ)) → EachAt (line e).enc (line e).Fits s p (ds ∷ ls) (filling e v)
-      → value_of ((line e).dec (drop p (bits_of s))) ≡ none → X
-  not_broken ds ls h b =
-      let z : some ds ≡ none = sym (ap value_of (line_got ds ls h)) ∙ b in
+  pub found_there : (ds : List ℕ) (ls : List (List ℕ)) → EachAt (line e).enc (line e).Fits s p (ds ∷ ls) (filling e v) → (r : Option PoreLine) → LineFound s p e r → IsSome r
+  found_there ds ls h (Some l) f = refl
+  found_there ds ls h None f =
+      let z : some ds ≡ none = sym (ap value_of (line_got ds ls h)) ∙ f in
       let y : ◌≡◌ {A = ℕ} 0 1 = cc in absurd (omega arith)
 
 -- ---- those that stay

@@ -7,7 +7,7 @@ ghost use Rattle.order_pores.specs.Kept.{PoresToKeep, PoresSized, PoresPutThere,
 use bits::Cursor;
 use order_lines::copy_bits;
 use order_removal::rank_of;
-use pores_lines::{LineAt, line_at};
+use pores_lines::line_at;
 
 // How many bytes the new payload has. The old one is `payload`, of a view with `lines` lines.
 pub fn pores_size(payload: &[u8], lines: usize, removal: &[u8]) -> usize
@@ -15,46 +15,33 @@ pub fn pores_size(payload: &[u8], lines: usize, removal: &[u8]) -> usize
     ensures { PoresSized payload.now lines removal.now result }
 {
     let e = Cursor { at: 16 }.sure(payload, 8).value;
-    let mut p: usize = 24;
-    let mut l: usize = 0;
-    let mut bits: usize = 24;
-    while l < lines {
+    let mut p = 24;
+    let mut bits = 24;
+    for l in 0..lines {
         let from = p;
-        let LineAt::At { count: _, next } = line_at(payload, from, e) else {
-            return 0;
-        };
-        p = next;
-        let rank = rank_of(removal, l);
-        l += 1;
-        if rank.gone {
-            continue;
+        p = line_at(payload, from, e).unwrap().next;
+        if rank_of(removal, l).is_err() {
+            bits += p - from;
         }
-        bits += next - from;
     }
     (bits + 7) / 8
 }
 
-// The new payload, put at the start of `out`; the answer is how many bytes it has.
+// The new payload, put at the start of `out`; the answer is how many bytes it has. Measuring shares two lines of the loop with this, to
+// the next line's end and whether it stays: a walk for both, with what it is handed, is longer than the two loops.
 pub fn pores_put(out: &mut [u8], payload: &[u8], lines: usize, removal: &[u8]) -> usize
     requires { PoresPutThere payload.now lines removal.now out.old }
     ensures { PoresPut payload.now lines removal.now out.old out.new result }
 {
     let e = Cursor { at: 16 }.sure(payload, 8).value;
     let mut q = copy_bits(out, 0, payload, 0, 24);
-    let mut p: usize = 24;
-    let mut line: usize = 0;
-    while line < lines {
+    let mut p = 24;
+    for line in 0..lines {
         let from = p;
-        let LineAt::At { count: _, next } = line_at(payload, from, e) else {
-            return 0;
-        };
-        p = next;
-        let rank = rank_of(removal, line);
-        line += 1;
-        if rank.gone {
-            continue;
+        p = line_at(payload, from, e).unwrap().next;
+        if rank_of(removal, line).is_err() {
+            q = copy_bits(out, q, payload, from, p);
         }
-        q = copy_bits(out, q, payload, from, next);
     }
     (q + 7) / 8
 }

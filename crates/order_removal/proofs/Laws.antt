@@ -1,5 +1,6 @@
 -- The laws of removal lists, by topic.
 pub mod Rank
+pub mod Search
 pub mod Listed
 pub mod Place
 pub mod Kept

@@ -1,7 +1,9 @@
 -- The view that an order names: it stands there, with the count that the order was made for; or whatever is ordered is refused.
-use Rattle.std.specs.Prelude.{◌≡◌, ℕ, List, []}
+use Rattle.std.specs.Prelude.{◌≡◌, ℕ, List, [], Result, Ok, Err}
 use Rattle.bits.specs.Codec.{got}
 use Rattle.outcome.specs.Outcome.{refused}
+use Rattle.outcome.specs.Why.{number}
+use Rattle.outcome.specs.declared.refusal.Refused.{Refused}
 use Rattle.format.specs.Record.{Record, read}
 use Rattle.format.specs.Named.{Means}
 use Rattle.format.specs.declared.ViewName.{ViewName}
@@ -10,8 +12,6 @@ use Rattle.orders.specs.Order.{order}
 use Rattle.orders.specs.Pairs.{pairs}
 use Rattle.find_parts.specs.Site.{SiteOf}
 use Rattle.find_parts.specs.declared.site.Site.{Site}
-use Rattle.order_view.specs.declared.NamedView.{NamedView}
-use Rattle.order_view.specs.declared.NamedView.TheVariants as f
 
 pub record Named (s : List ℕ) (view : ViewName) (n : ℕ) (x : Site) : Type 0 where
   pub value : Record
@@ -26,6 +26,6 @@ pub record NotNamed (s : List ℕ) (view : ViewName) (n e p : ℕ) : Type 0 wher
   pub order : (a : Act) → order (record { view = view; count = n; act = a }) s ≡ refused e p
   pub pairs : (list : List ℕ) (lent : ℕ) → pairs (record { view = view; count = n; list = list; lent = lent }) s ≡ refused e p
 
-abbrev pub ViewNamed : List ℕ → ViewName → (n : ℕ) → NamedView → Type 0
-ViewNamed s view n (f.At x) = Named s view n x
-ViewNamed s view n (f.Refused e p) = NotNamed s view n e p
+abbrev pub ViewNamed : List ℕ → ViewName → (n : ℕ) → Result Site Refused → Type 0
+ViewNamed s view n (Ok x) = Named s view n x
+ViewNamed s view n (Err r) = NotNamed s view n (number r.why) r.place

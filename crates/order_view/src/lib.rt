@@ -4,33 +4,18 @@
 ghost use Rattle.order_view.specs.Named.{ViewNamed};
 
 use find_parts::site::{Site, site_at};
-use find_view::{FoundView, find_view};
+use find_view::find_view;
 use format::ViewName;
-use outcome::Refusal;
+use outcome::{Refusal, Refused};
 
-// Where the view stands that an order names and was made for; or the number and the place of the refusal.
-#[derive(Clone, Copy)]
-pub enum NamedView {
-    At(Site),
-    Refused { number: u32, place: u32 },
-}
-
-// The view of any bytes: 1 to 13, 14.
-pub fn named_view(bytes: &[u8], view: ViewName, count: usize) -> NamedView
+// Where the view stands that an order names and was made for, in any bytes: 1 to 13, 14.
+pub fn named_view(bytes: &[u8], view: ViewName, count: usize) -> Result<Site, Refused>
     ensures { ViewNamed bytes.now view count result }
 {
-    match find_view(bytes, view) {
-        FoundView::Refused { number, place } => NamedView::Refused { number, place },
-        FoundView::At(scale, blocks) => {
-            let site = site_at(bytes, blocks, scale.widths);
-            if site.lines == count {
-                NamedView::At(site)
-            } else {
-                NamedView::Refused {
-                    number: Refusal::OTHER_COUNT,
-                    place: 0,
-                }
-            }
-        }
+    let found = find_view(bytes, view)?;
+    let site = site_at(bytes, found.blocks, found.scale.widths);
+    if site.lines != count {
+        return Err(Refusal::OtherCount.into());
     }
+    Ok(site)
 }

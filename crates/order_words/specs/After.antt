@@ -1,6 +1,6 @@
 -- What the first words of a list make of a view: by the definitions of single orders; and as code goes by it, the old lists and the
 -- last word about a pair. Words stand with the last first, as `said` takes them (orders/specs/History).
-use Rattle.std.specs.Prelude.{ℕ, zero, suc, ◌/◌, ◌≤◌, ◌<◌, min, max, ◌≡◌, Bool, false, List, [], ◌∷◌, length, get_or}
+use Rattle.std.specs.Prelude.{ℕ, zero, suc, ◌/◌, ◌≤◌, ◌<◌, min, max, ◌≡◌, Bool, false, Option, Some, None, List, [], ◌∷◌, length, get_or}
 use Rattle.bits.specs.Choice.{pick}
 use Rattle.format.specs.View.{View}
 use Rattle.format.specs.Record.{Record}
@@ -71,6 +71,11 @@ list_after hs l ns = lines_below hs l (suc l) ns
 abbrev pub Quiet : List Word → (l bound before : ℕ) → Type 0
 Quiet hs l bound before = (x : ℕ) → bound ≤ x → x < before → (start : Bool) → said hs l x start ≡ start
 
--- no word has its higher line from `from` on and below `to`
-abbrev pub Silent : List Word → (from to : ℕ) → Type 0
-Silent hs from to = (l : ℕ) → from ≤ l → l < to → Quiet hs l 0 (suc l)
+-- line l is before the line `to`, if there is one
+abbrev pub Before : ℕ → Option ℕ → Type 0
+Before l None = Unit {0}
+Before l (Some to) = l < to
+
+-- no word has its higher line from `from` on and before `to`
+abbrev pub Silent : List Word → ℕ → Option ℕ → Type 0
+Silent hs from to = (l : ℕ) → from ≤ l → Before l to → Quiet hs l 0 (suc l)

@@ -1,14 +1,12 @@
 -- What the code that looks through the words of a list asks and answers: the word at a place, the last word about two lines, the next
 -- line that a word names beside another, and the next line that is the higher one of a word.
-use Rattle.std.specs.Prelude.{◌≡◌, ℕ, suc, ◌+◌, ◌≤◌, ◌<◌, min, max, Bool, true, false, List, [], ◌∷◌, T}
+use Rattle.std.specs.Prelude.{◌≡◌, ℕ, suc, ◌+◌, ◌≤◌, ◌<◌, min, max, Bool, Option, unwrap_or, IfSome, List, [], ◌∷◌, T}
 use Rattle.orders.specs.Act.{Word}
 use Rattle.orders.specs.Listed.{words, shape_ok}
 use Rattle.orders.specs.History.{said}
 use Rattle.order_words.specs.After.{heard_in, Quiet, Silent}
 use Rattle.order_words.specs.declared.Pair.{Pair}
 use Rattle.order_words.specs.declared.About.{About}
-use Rattle.order_words.specs.declared.Spoken.{Spoken}
-use Rattle.order_words.specs.declared.Spoken.TheVariants as spoken
 
 -- ---- a list of one word
 
@@ -28,14 +26,9 @@ paired w = record { high = max w.one w.other; low = min w.one w.other; joins = w
 
 -- ---- the last word about two lines
 
--- what it says; start is what was so before all words
-abbrev pub settled : Spoken → Bool → Bool
-settled spoken.Joins start = true
-settled spoken.Parts start = false
-settled spoken.Nothing start = start
-
-pub record Says (list : List ℕ) (high low : ℕ) (r : Spoken) : Type 0 where
-  pub is : (start : Bool) → said (heard_in list) high low start ≡ settled r start
+-- where there is none, what was so before all words; start is that
+pub record Says (list : List ℕ) (high low : ℕ) (r : Option Bool) : Type 0 where
+  pub is : (start : Bool) → said (heard_in list) high low start ≡ unwrap_or r start
 
 -- ---- the next line beside another
 
@@ -46,13 +39,13 @@ pub record Bound (list : List ℕ) (high before r : ℕ) : Type 0 where
 
 -- ---- the next higher line
 
-pub record NextHigh (list : List ℕ) (from r : ℕ) : Type 0 where
-  pub up : from ≤ r
+pub record NextHigh (list : List ℕ) (from : ℕ) (r : Option ℕ) : Type 0 where
+  pub up : IfSome r (λ l. from ≤ l)
   pub silent : Silent (heard_in list) from r
 
 -- ---- line l's turn, where the lines come one behind the other
 
-pub record TurnThere (list : List ℕ) (l named : ℕ) : Type 0 where
+pub record TurnThere (list : List ℕ) (l : ℕ) (named : Option ℕ) : Type 0 where
   pub few : l < 65536
   pub next : NextHigh list l named
 

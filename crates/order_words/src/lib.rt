@@ -18,28 +18,17 @@ pub struct Pair {
     pub joins: bool,
 }
 
-// What was last said about two lines, if anything.
-#[derive(Clone, Copy)]
-pub enum Spoken {
-    Joins,
-    Parts,
-    Nothing,
+impl Pair {
+    // How many orders a list may have at most: places in a list have 32 bits.
+    pub const MOST: usize = 4294967296;
 }
 
 // What the words say about a line as the higher one: `bound` is one more than the highest line that a word names beside it, or 0; and
-// `next` is the next line that is the higher one of a word.
+// `next` is the next line that is the higher one of a word, if there is one.
 #[derive(Clone, Copy)]
 pub struct About {
     pub bound: usize,
-    pub next: usize,
-}
-
-// What stands for a line where there is none, and how many orders a list may have at most. Lines have numbers of 16 bits, and places
-// in a list have 32.
-impl Pair {
-    pub const NO_LINE: usize = 65536;
-
-    pub const MOST: usize = 4294967296;
+    pub next: Option<usize>,
 }
 
 // The list of one order, about lines a and b.
@@ -47,10 +36,9 @@ pub fn one_word(a: usize, b: usize, joins: bool) -> [u8; 6]
     requires { OneThere a b }
     ensures { OneWord a b joins result }
 {
-    let kind: u8 = if joins { 0 } else { 1 };
     [
         0,
-        kind,
+        u8::from(!joins),
         (a / 256) as u8,
         (a % 256) as u8,
         (b / 256) as u8,
@@ -63,21 +51,13 @@ pub fn shape_right(list: &[u8]) -> bool
     ensures { result ≡ shape_ok list.now }
 {
     let size = list.len();
-    if size == 0 {
+    if size == 0 || size % 6 != 0 || Pair::MOST < size / 6 {
         return false;
     }
-    if size % 6 != 0 {
-        return false;
-    }
-    if Pair::MOST < size / 6 {
-        return false;
-    }
-    let mut a: usize = 0;
-    while a < size {
-        if 1 < two_at(list, a) {
+    for i in 0..size / 6 {
+        if 1 < two_at(list, 6 * i) {
             return false;
         }
-        a += 6;
     }
     true
 }
@@ -88,45 +68,27 @@ pub fn pair_at(list: &[u8], i: usize) -> Pair
     ensures { result ≡ paired (word_at (words list.now) i) }
 {
     let at = 6 * i;
-    let joins = two_at(list, at) == 0;
     let a = two_at(list, at + 2);
     let b = two_at(list, at + 4);
-    if a < b {
-        Pair {
-            high: b,
-            low: a,
-            joins,
-        }
-    } else {
-        Pair {
-            high: a,
-            low: b,
-            joins,
-        }
+    Pair {
+        high: a.max(b),
+        low: a.min(b),
+        joins: two_at(list, at) == 0,
     }
 }
 
-// The last word of the list about lines `high` and `low`.
-pub fn word_of(list: &[u8], high: usize, low: usize) -> Spoken
+// The last word of the list about lines `high` and `low`, if there is one: whether it joins them.
+pub fn word_of(list: &[u8], high: usize, low: usize) -> Option<bool>
     requires { low ≤ high }
     ensures { Says list.now high low result }
 {
-    let mut i = list.len() / 6;
-    while 0 < i {
-        i -= 1;
+    for i in (0..list.len() / 6).rev() {
         let pair = pair_at(list, i);
-        if pair.high != high {
-            continue;
+        if pair.high == high && pair.low == low {
+            return Some(pair.joins);
         }
-        if pair.low != low {
-            continue;
-        }
-        if pair.joins {
-            return Spoken::Joins;
-        }
-        return Spoken::Parts;
     }
-    Spoken::Nothing
+    None
 }
 
 // Whether lines `high` and `low` are neighbours after all words of the list; `start` says whether they were before.
@@ -134,11 +96,7 @@ pub fn said_about(list: &[u8], high: usize, low: usize, start: bool) -> bool
     requires { low ≤ high }
     ensures { result ≡ said (heard_in list.now) high low start }
 {
-    match word_of(list, high, low) {
-        Spoken::Joins => true,
-        Spoken::Parts => false,
-        Spoken::Nothing => start,
-    }
+    word_of(list, high, low).unwrap_or(start)
 }
 
 // One more than the highest line below `before` that a word of the list names beside line `high`; 0 where there is none.
@@ -147,59 +105,45 @@ pub fn low_bound(list: &[u8], high: usize, before: usize) -> usize
     ensures { Bound list.now high before result }
 {
     let mut bound: usize = 0;
-    let mut i: usize = 0;
-    let words = list.len() / 6;
-    while i < words {
+    for i in 0..list.len() / 6 {
         let pair = pair_at(list, i);
-        i += 1;
-        if pair.high != high {
-            continue;
+        if pair.high == high && pair.low < before {
+            bound = bound.max(pair.low + 1);
         }
-        if before <= pair.low {
-            continue;
-        }
-        if pair.low < bound {
-            continue;
-        }
-        bound = pair.low + 1;
     }
     bound
 }
 
-// The lowest line from `from` on that is the higher one of a word of the list; NO_LINE where there is none.
-pub fn next_high(list: &[u8], from: usize) -> usize
-    requires { from ≤ 65536 }
+// The lowest line from `from` on that is the higher one of a word of the list, if there is one.
+pub fn next_high(list: &[u8], from: usize) -> Option<usize>
     ensures { NextHigh list.now from result }
 {
-    let mut next = Pair::NO_LINE;
-    let mut i: usize = 0;
-    let words = list.len() / 6;
-    while i < words {
-        let pair = pair_at(list, i);
-        i += 1;
-        if pair.high < from {
-            continue;
+    let mut next: Option<usize> = None;
+    for i in 0..list.len() / 6 {
+        let high = pair_at(list, i).high;
+        if from <= high {
+            next = match next {
+                Some(line) => Some(line.min(high)),
+                None => Some(high),
+            };
         }
-        if next <= pair.high {
-            continue;
-        }
-        next = pair.high;
     }
     next
 }
 
 // What the words of the list say about line l; `named` is the lowest line from l on that is the higher one of a word.
-pub fn about_line(list: &[u8], l: usize, named: usize) -> About
+pub fn about_line(list: &[u8], l: usize, named: Option<usize>) -> About
     requires { TurnThere list.now l named }
     ensures { TurnTold list.now l result }
 {
-    if l != named {
+    if named != Some(l) {
         return About {
             bound: 0,
             next: named,
         };
     }
-    let bound = low_bound(list, l, l + 1);
-    let next = next_high(list, l + 1);
-    About { bound, next }
+    About {
+        bound: low_bound(list, l, l + 1),
+        next: next_high(list, l + 1),
+    }
 }

@@ -13,7 +13,7 @@ use Rattle.outcome.specs.Refusals.{no_room}
 use Rattle.outcome.specs.Numbers.{among, Gives}
 use Rattle.outcome.specs.Outcome.{Outcome, refused, given, room, number_of, AnswersAs, told}
 use Rattle.outcome.specs.declared.Answer.{Answer}
-use Rattle.outcome.proofs.Refused.{Refused, room_refused}
+use Rattle.outcome.proofs.Refusing.{Refused, room_refused}
 
 or_first : (a b : Bool) → T a → T (a || b)
 or_first true b t = tt

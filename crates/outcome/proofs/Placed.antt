@@ -11,7 +11,7 @@ use Rattle.bits.specs.ChoiceLaws.{pick_case}
 use Rattle.outcome.specs.Outcome.{Outcome, refused, given, AnswersAs, told}
 use Rattle.outcome.specs.Placed.{Placed}
 use Rattle.outcome.specs.declared.Answer.{Answer}
-use Rattle.outcome.proofs.Refused.{Refused, refused_answer}
+use Rattle.outcome.proofs.Refusing.{Refused, refused_answer}
 
 -- every number can have the place 0
 pub no_place : (bits number : ℕ) → Placed bits number 0

@@ -1,11 +1,10 @@
 -- What the code that judges a stored payload of sweat pores asks and answers.
-use Rattle.std.specs.Prelude.{◌≡◌, ℕ, ◌≤◌, List, length}
+use Rattle.std.specs.Prelude.{◌≡◌, ℕ, ◌≤◌, List, length, Option, Some, None}
 use Rattle.std.proofs.Math.Option.{none, some}
 use Rattle.pores_parts.specs.Parts.{Pores}
 use Rattle.pores.specs.Payload.{pores_in}
 use Rattle.pores.specs.Numbers.{numbers_of}
 use Rattle.pores_judge.specs.declared.JudgedPayload.{JudgedPayload}
-use Rattle.pores_judge.specs.declared.JudgedPayload.TheVariants as j
 
 pub record PayloadThere (s : List ℕ) : Type 0 where
   pub short : length s ≤ 65535
@@ -17,6 +16,6 @@ pub record RightPayload (lines : ℕ) (s : List ℕ) (e numbers : ℕ) : Type 0 
   pub element : e ≡ value.e
   pub count : numbers ≡ length (numbers_of value)
 
-abbrev pub PayloadJudged : (lines : ℕ) → List ℕ → JudgedPayload → Type 0
-PayloadJudged lines s (j.Right e numbers) = RightPayload lines s e numbers
-PayloadJudged lines s j.Broken = pores_in lines s ≡ none
+abbrev pub PayloadJudged : (lines : ℕ) → List ℕ → Option JudgedPayload → Type 0
+PayloadJudged lines s (Some j) = RightPayload lines s j.e j.numbers
+PayloadJudged lines s None = pores_in lines s ≡ none

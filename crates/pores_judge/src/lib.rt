@@ -5,45 +5,42 @@
 ghost use Rattle.pores_judge.specs.Judged.{PayloadThere, PayloadJudged};
 
 use bits::Cursor;
-use bits::ranged::{RangedAt, ranged_at};
-use pores_lines::{LineAt, line_at};
+use bits::ranged::ranged_at;
+use pores_lines::line_at;
 
 // e: bits of an element; numbers: how many reading the payload gives.
 #[derive(Clone, Copy)]
-pub enum JudgedPayload {
-    Right { e: usize, numbers: usize },
-    Broken,
+pub struct JudgedPayload {
+    pub e: usize,
+    pub numbers: usize,
 }
 
-// A payload in a view with so many lines. Zero elements behind the last line are padding.
-pub fn judge_payload(payload: &[u8], lines: usize) -> JudgedPayload
+// A payload in a view with so many lines, if it is right for it. Zero elements behind the last line are padding.
+pub fn judge_payload(payload: &[u8], lines: usize) -> Option<JudgedPayload>
     requires { PayloadThere payload.now }
     ensures { PayloadJudged lines payload.now result }
 {
     if payload.len() < 3 {
-        return JudgedPayload::Broken;
+        return None;
     }
-    let RangedAt::At(e, start) = ranged_at(Cursor { at: 16 }, payload, 2, 8) else {
-        return JudgedPayload::Broken;
+    let Ok(element) = ranged_at(Cursor { at: 16 }, payload, 2, 8) else {
+        return None;
     };
-    let mut place = start.at;
+    let e = element.value;
+    let mut place = element.next.at;
     let mut numbers: usize = 2;
-    let mut i: usize = 0;
-    while i < lines {
-        let LineAt::At { count, next } = line_at(payload, place, e) else {
-            return JudgedPayload::Broken;
-        };
-        place = next;
-        numbers += 1 + count;
-        i += 1;
+    for _ in 0..lines {
+        let line = line_at(payload, place, e)?;
+        place = line.next;
+        numbers += 1 + line.count;
     }
     let left = 8 * payload.len() - place;
     if 8 <= left {
-        return JudgedPayload::Broken;
+        return None;
     }
     let padding = Cursor { at: place }.sure(payload, left);
     if padding.value != 0 {
-        return JudgedPayload::Broken;
+        return None;
     }
-    JudgedPayload::Right { e, numbers }
+    Some(JudgedPayload { e, numbers })
 }

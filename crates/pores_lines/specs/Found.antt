@@ -1,11 +1,10 @@
 -- What the code that goes over a line of pores asks and answers.
-use Rattle.std.specs.Prelude.{◌≡◌, ℕ, ◌+◌, ◌*◌, ◌≤◌, List, length, drop}
+use Rattle.std.specs.Prelude.{◌≡◌, ℕ, ◌+◌, ◌*◌, ◌≤◌, List, length, drop, Option, Some, None}
 use Rattle.std.proofs.Math.Option.{none}
 use Rattle.bits.specs.Bytes.{bits_of}
 use Rattle.bits.specs.Codec.{got, value_of}
 use Rattle.pores_parts.specs.Lines.{line}
-use Rattle.pores_lines.specs.declared.LineAt.{LineAt}
-use Rattle.pores_lines.specs.declared.LineAt.TheVariants as l
+use Rattle.pores_lines.specs.declared.PoreLine.{PoreLine}
 
 -- s: a payload; e: bits of an element, as a payload may have
 pub record ElementsThere (s : List ℕ) (at e : ℕ) : Type 0 where
@@ -22,6 +21,6 @@ pub record LineStands (s : List ℕ) (at e count next : ℕ) : Type 0 where
   pub after : at + 2 * (count + 1) ≤ next
   pub within : next ≤ 8 * length s
 
-abbrev pub LineFound : List ℕ → (at e : ℕ) → LineAt → Type 0
-LineFound s at e (l.At count next) = LineStands s at e count next
-LineFound s at e l.Broken = value_of ((line e).dec (drop at (bits_of s))) ≡ none
+abbrev pub LineFound : List ℕ → (at e : ℕ) → Option PoreLine → Type 0
+LineFound s at e (Some l) = LineStands s at e l.count l.next
+LineFound s at e None = value_of ((line e).dec (drop at (bits_of s))) ≡ none

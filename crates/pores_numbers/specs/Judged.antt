@@ -1,5 +1,5 @@
 -- What the code that judges numbers for pores asks and answers: vs are the bytes that are lent.
-use Rattle.std.specs.Prelude.{◌≡◌, ℕ, ◌+◌, ◌%◌, ◌≤◌, min, List, [], length, drop}
+use Rattle.std.specs.Prelude.{◌≡◌, ℕ, ◌+◌, ◌%◌, ◌≤◌, min, List, [], length, drop, Option, Some, None}
 use Rattle.std.proofs.Math.Option.{none, some}
 use Rattle.bits.specs.Lists.{total}
 use Rattle.bits.specs.Codec.{got, value_of, times_dec}
@@ -7,9 +7,7 @@ use Rattle.pores_parts.specs.Parts.{Pores}
 use Rattle.pores.specs.Numbers.{line_numbers, fours_in, pores_from}
 use Rattle.pores.specs.Size.{line_elements, element_count}
 use Rattle.pores_numbers.specs.declared.JudgedNumbers.{JudgedNumbers}
-use Rattle.pores_numbers.specs.declared.JudgedNumbers.TheVariants as n
 use Rattle.pores_numbers.specs.declared.JudgedLine.{JudgedLine}
-use Rattle.pores_numbers.specs.declared.JudgedLine.TheVariants as l
 
 -- Elements are counted up to so many. Of two bits each they take 65,536 bytes, and no record has more than 32,768.
 abbrev pub most_counted : ℕ
@@ -39,9 +37,9 @@ pub record LineRight (vs : List ℕ) (at e t b u : ℕ) : Type 0 where
 pub record LineBroken (vs : List ℕ) (at : ℕ) : Type 0 where
   pub is : value_of (line_numbers.dec (fours_in (drop at vs))) ≡ none
 
-abbrev pub LineJudged : List ℕ → (at e t : ℕ) → JudgedLine → Type 0
-LineJudged vs at e t (l.Right b u) = LineRight vs at e t b u
-LineJudged vs at e t l.Broken = LineBroken vs at
+abbrev pub LineJudged : List ℕ → (at e t : ℕ) → Option JudgedLine → Type 0
+LineJudged vs at e t (Some l) = LineRight vs at e t l.next l.elements
+LineJudged vs at e t None = LineBroken vs at
 
 -- ---- all lines, behind the first two numbers, and nothing behind them
 
@@ -60,9 +58,9 @@ pub record LinesRight (lines : ℕ) (vs : List ℕ) (e k u : ℕ) : Type 0 where
 pub record LinesBroken (lines : ℕ) (vs : List ℕ) : Type 0 where
   pub is : (value : List (List ℕ)) → times_dec line_numbers lines (fours_in (drop 8 vs)) ≡ got value [] → ⊥
 
-abbrev pub LinesJudged : (lines : ℕ) → List ℕ → (e : ℕ) → JudgedNumbers → Type 0
-LinesJudged lines vs e (n.Right k u) = LinesRight lines vs e k u
-LinesJudged lines vs e n.Broken = LinesBroken lines vs
+abbrev pub LinesJudged : (lines : ℕ) → List ℕ → (e : ℕ) → Option JudgedNumbers → Type 0
+LinesJudged lines vs e (Some n) = LinesRight lines vs e n.e n.elements
+LinesJudged lines vs e None = LinesBroken lines vs
 
 -- ---- all numbers
 
@@ -76,6 +74,6 @@ pub record NumbersRight (lines : ℕ) (vs : List ℕ) (k u : ℕ) : Type 0 where
 pub record NumbersBroken (lines : ℕ) (vs : List ℕ) : Type 0 where
   pub is : pores_from lines vs ≡ none
 
-abbrev pub NumbersJudged : (lines : ℕ) → List ℕ → JudgedNumbers → Type 0
-NumbersJudged lines vs (n.Right k u) = NumbersRight lines vs k u
-NumbersJudged lines vs n.Broken = NumbersBroken lines vs
+abbrev pub NumbersJudged : (lines : ℕ) → List ℕ → Option JudgedNumbers → Type 0
+NumbersJudged lines vs (Some n) = NumbersRight lines vs n.e n.elements
+NumbersJudged lines vs None = NumbersBroken lines vs

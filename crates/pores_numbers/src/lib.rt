@@ -3,110 +3,93 @@
 // up to a bound only.
 #![tactic(auto)]
 
-ghost use Rattle.std.specs.Prelude.{◌≡◌};
-ghost use Rattle.pores_numbers.specs.Judged.{counted, LineThere, LineJudged, LinesThere, LinesJudged, NumbersJudged};
+ghost use Rattle.pores_numbers.specs.Judged.{LineThere, LineJudged, LinesThere, LinesJudged, NumbersJudged};
 
 use bits::{four_at, pow2};
 
 // The bits of an element, and how many elements there are.
 #[derive(Clone, Copy)]
-pub enum JudgedNumbers {
-    Right { e: usize, elements: usize },
-    Broken,
+pub struct JudgedNumbers {
+    pub e: usize,
+    pub elements: usize,
 }
 
 // Where the list goes on behind a line, and how many elements there are up to there.
 #[derive(Clone, Copy)]
-enum JudgedLine {
-    Right { next: usize, elements: usize },
-    Broken,
+struct JudgedLine {
+    next: usize,
+    elements: usize,
 }
 
 // Elements are counted up to here. These are more than a record holds, however few bits they have.
 const MOST_COUNTED: usize = 262144;
 
-// Of that many elements, those that are counted.
-fn counted(elements: usize) -> usize
-    ensures { result ≡ counted elements }
-{
-    if elements < MOST_COUNTED {
-        elements
-    } else {
-        MOST_COUNTED
-    }
-}
-
-// The line whose count stands at byte `at`. Its zero element and those of its distances are added to `elements`.
-fn judge_line(values: &[u8], at: usize, e: usize, elements: usize) -> JudgedLine
+// The line whose count stands at byte `at`, if one does. Its zero element and those of its distances are added to `elements`.
+fn judge_line(values: &[u8], at: usize, e: usize, elements: usize) -> Option<JudgedLine>
     requires { LineThere values.now at e elements }
     ensures { LineJudged values.now at e elements result }
 {
     if values.len() <= at {
-        return JudgedLine::Broken;
+        return None;
     }
     let most = pow2(e) - 2;
-    let mut left = four_at(values, at);
+    let count = four_at(values, at);
     let mut next = at + 4;
-    let mut total = counted(elements + 1);
-    while 0 < left {
+    let mut total = (elements + 1).min(MOST_COUNTED);
+    for _ in 0..count {
         if values.len() <= next {
-            return JudgedLine::Broken;
+            return None;
         }
         let distance = four_at(values, next);
         if distance == 0 {
-            return JudgedLine::Broken;
+            return None;
         }
-        total = counted(total + (distance - 1) / most + 1);
+        total = (total + (distance - 1) / most + 1).min(MOST_COUNTED);
         next += 4;
-        left -= 1;
     }
-    JudgedLine::Right {
+    Some(JudgedLine {
         next,
         elements: total,
-    }
+    })
 }
 
 // That many lines, from the third number on to the list's end.
-fn judge_lines(values: &[u8], lines: usize, e: usize) -> JudgedNumbers
+fn judge_lines(values: &[u8], lines: usize, e: usize) -> Option<JudgedNumbers>
     requires { LinesThere values.now e }
     ensures { LinesJudged lines values.now e result }
 {
-    let mut left = lines;
     let mut at: usize = 8;
-    let mut total: usize = 0;
-    while 0 < left {
-        let JudgedLine::Right { next, elements } = judge_line(values, at, e, total) else {
-            return JudgedNumbers::Broken;
-        };
-        at = next;
-        total = elements;
-        left -= 1;
+    let mut elements: usize = 0;
+    for _ in 0..lines {
+        let line = judge_line(values, at, e, elements)?;
+        at = line.next;
+        elements = line.elements;
     }
     if at < values.len() {
-        return JudgedNumbers::Broken;
+        return None;
     }
-    JudgedNumbers::Right { e, elements: total }
+    Some(JudgedNumbers { e, elements })
 }
 
-// The numbers of a view that has `lines` lines.
-pub fn judge_numbers(values: &[u8], lines: usize) -> JudgedNumbers
+// The numbers of a view that has `lines` lines, if they are right for it.
+pub fn judge_numbers(values: &[u8], lines: usize) -> Option<JudgedNumbers>
     ensures { NumbersJudged lines values.now result }
 {
     if values.len() % 4 != 0 {
-        return JudgedNumbers::Broken;
+        return None;
     }
     if values.len() < 8 {
-        return JudgedNumbers::Broken;
+        return None;
     }
     if 65535 < four_at(values, 0) {
-        return JudgedNumbers::Broken;
+        return None;
     }
     let e = four_at(values, 4);
     if e < 2 {
-        return JudgedNumbers::Broken;
+        return None;
     }
     if 8 < e {
-        return JudgedNumbers::Broken;
+        return None;
     }
     judge_lines(values, lines, e)
 }

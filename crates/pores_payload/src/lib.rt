@@ -19,11 +19,10 @@ fn put_distance(out: &mut [u8], at: usize, distance: usize, e: usize) -> usize
     ensures { DistancePut distance e out.old at out.new result }
 {
     let most = pow2(e) - 2;
+    let ones = (distance - 1) / most;
     let mut next = at;
-    let mut left = (distance - 1) / most;
-    while 0 < left {
+    for _ in 0..ones {
         next = put_bits(out, next, most + 1, e);
-        left -= 1;
     }
     put_bits(out, next, (distance - 1) % most + 1, e)
 }
@@ -33,14 +32,12 @@ fn put_line(out: &mut [u8], values: &[u8], from: Reached, e: usize) -> Reached
     requires { LineRoom values.now e out.old from }
     ensures { LinePut values.now e out.old from out.new result }
 {
-    let start = from.byte;
-    let mut left = four_at(values, start);
-    let mut byte = start + 4;
+    let count = four_at(values, from.byte);
+    let mut byte = from.byte + 4;
     let mut bit = put_bits(out, from.bit, 0, e);
-    while 0 < left {
+    for _ in 0..count {
         bit = put_distance(out, bit, four_at(values, byte), e);
         byte += 4;
-        left -= 1;
     }
     Reached { byte, bit }
 }
@@ -54,10 +51,8 @@ pub fn put_payload(out: &mut [u8], values: &[u8], lines: usize, e: usize) -> usi
     let mut bit = put_bits(out, 0, resolution, 16);
     bit = put_bits(out, bit, e, 8);
     let mut reached = Reached { byte: 8, bit };
-    let mut left = lines;
-    while 0 < left {
+    for _ in 0..lines {
         reached = put_line(out, values, reached, e);
-        left -= 1;
     }
     (reached.bit + 7) / 8
 }

@@ -1,23 +1,20 @@
--- A segment that is found, its type, the numbers as they are judged, the new record's size and the room: what the call then answers,
--- and that the bytes that code lays are the new record.
-use mathlib.Core.Path.{◌≡◌, refl, sym, ap, ◌∙◌}
+-- A segment that is found, its type and the numbers as they are judged: what the call then answers, and that what code lays is the
+-- payload.
+use mathlib.Core.Path.{◌≡◌, sym, ap, ◌∙◌}
 use mathlib.Core.Logic.{◌≢◌}
-use Prim.Native.Nat.{ℕ, ◌+◌, ◌-◌, ◌*◌, ◌≤◌, ◌<◌}
+use Prim.Native.Nat.{ℕ, ◌*◌, ◌≤◌}
 use native.Mathlib.Nat.{mul-le-mul}
 use native.Mathlib.Omega.{arith}
-use mathlib.Core.Option.{some}
 use mathlib.Core.List.{List}
 use lib.ListN.{length}
+use Rattle.std.specs.Prelude.{Result}
 use lib.Dec.{eqb}
 use mir.Facts.{yes_eqb, no_eqb}
 use Rattle.bits.specs.ChoiceLaws.{pick_yes, pick_no, split}
-use Rattle.bits.specs.Lists.{All}
-use Rattle.bits.specs.Bytes.{Byte}
-use Rattle.bits.proofs.Laws.Parts.{part}
-use Rattle.put_bytes.specs.Laid.{Laid}
-use Rattle.put_bytes.proofs.Laws.{lent, back}
-use Rattle.outcome.specs.Refusals.{bad_pores, too_long, no_room}
+use Rattle.outcome.specs.Refusals.{bad_pores}
 use Rattle.outcome.specs.Outcome.{Answers}
+use Rattle.outcome.specs.Why.{answer_of}
+use Rattle.outcome.specs.declared.refusal.Refused.{Refused}
 use Rattle.outcome.proofs.Laws.{answer_refused}
 use Rattle.format.specs.Segments.{sweat_pores}
 use Rattle.format.specs.Places.{view_at, segment_at}
@@ -27,10 +24,7 @@ use Rattle.find_segment.specs.Found.{SegmentStands, SegmentRefuses, LinesOf}
 use Rattle.find_segment.specs.declared.Spot.{Spot}
 use Rattle.rewrite.specs.Rewrite.{rewriting}
 use Rattle.rewrite.specs.Called.{values_set, set_in, set_payload}
-use Rattle.rewrite_put.specs.Front.{new_length, front_of}
-use Rattle.rewrite_put.proofs.Laws.Front.{in_all, tail_fits, all_put}
-use Rattle.rewrite_put.proofs.Laws.Answered as A
-use Rattle.pores_parts.specs.Parts.{Pores}
+use Rattle.rewrite_put.specs.Put.{PayloadPut, RecordPut}
 use Rattle.pores.specs.Payload.{payload_of}
 use Rattle.pores.specs.PayloadLaws.{payload_bytes}
 use Rattle.pores.specs.Numbers.{pores_from}
@@ -40,7 +34,7 @@ use Rattle.pores.proofs.Laws.Size.{payload_long}
 use Rattle.pores_numbers.specs.Judged.{most_counted, NumbersRight, NumbersBroken}
 use Rattle.pores_payload.specs.Payload.{PayloadRoom, PayloadLaid}
 use Rattle.pores_payload.proofs.Laws.Listed.{all_listed}
-use Rattle.pores_setting.specs.Setting.{counted_size, FewElements, PutThere, RecordPut, PayloadSet}
+use Rattle.pores_setting.specs.Setting.{counted_size, FewElements, PayloadSet}
 
 -- ---- how long the payload is that right numbers make
 
@@ -113,53 +107,23 @@ module _ {s : List ℕ} {x : Spot} (vs before : List ℕ) where
 
     -- ---- accepted so far: the type is right, and the numbers are
 
-    module _ {e u k : ℕ} (R : NumbersRight lines vs e u) (z : k ≡ counted_size e u) (bytes : All Byte s) where
-      abbrev new : List ℕ
-      new = payload_of R.value
-
-      goes_on : {view : ViewName} {place : ℕ} (h : SegmentStands s view place x) → set_pores view place vs s ≡ rewriting h.i place new h.value
+    module _ {e u : ℕ} (R : NumbersRight lines vs e u) where
+      goes_on : {view : ViewName} {place : ℕ} (h : SegmentStands s view place x) → set_pores view place vs s ≡ rewriting h.i place (payload_of R.value) h.value
       goes_on {place = place} h = right_type h ∙ ap (values_set pores_format place h.i h.value) R.is
 
-      pub too_long_lem : 32768 < new_length s x k → PayloadSet s x vs before before (record { number = too_long; place = 0; length = 0 })
-      too_long_lem l = record { is = λ view place h. A.too_long_lem h bytes new (goes_on h) refl before (omega (arith, z, at_least R)) }
+      pub put : {k : ℕ} {gives : List ℕ → ℕ → List ℕ → Type 0} {after : List ℕ} {r : Result ℕ Refused} → PayloadPut k gives (payload_of R.value)
+          → RecordPut s x k gives before after r → PayloadSet s x vs before after (answer_of r)
+      put P D = record { is = λ view place h. rw (goes_on h) (D.is (payload_of R.value) P view place h) }
 
-      module _ (small : new_length s x k ≤ 32768) where
-        pub size_right : k ≡ length new
-        size_right = z ∙ exact R (omega (arith, z))
+-- ---- the payload of right numbers, as code counts and lays it
 
-        fits : new_length s x (length new) ≤ 32768
-        fits = omega (arith, size_right)
+module _ {lines : ℕ} {vs : List ℕ} {e u k : ℕ} (R : NumbersRight lines vs e u) (z : k ≡ counted_size e u) where
+  size_right : k ≤ 32768 → k ≡ length (payload_of R.value)
+  size_right m = z ∙ exact R (omega (arith, z))
 
-        pub no_room_lem : length before < new_length s x k → PayloadSet s x vs before before (record { number = no_room; place = 0; length = 0 })
-        no_room_lem l = record { is = λ view place h. A.no_room_lem h bytes new (goes_on h) refl before fits (omega (arith, size_right)) }
+  pub right_room : {rest : List ℕ} → k ≤ 32768 → k ≤ length rest → PayloadRoom lines vs e rest
+  right_room m l = record { value = R.value; is = R.is; bits = R.bits; small = omega (arith, size_right m); room = omega (arith, size_right m) }
 
-        pub put : {after : List ℕ} {n : ℕ} → new_length s x k ≤ length before → RecordPut s x vs lines before after n
-            → PayloadSet s x vs before after (record { number = 0; place = 0; length = n })
-        put l D =
-            record {
-              is = λ view place h. A.put h bytes new (goes_on h) refl before fits (payload_bytes R.value) (omega (arith, size_right)) (D.is R.value R.is);
-            }
-
--- ---- the new record, part by part
-
-module _ {s : List ℕ} {x : Spot} {vs : List ℕ} {lines e k : ℕ} {out : List ℕ} (t : PutThere s x vs lines e k out) where
-  pub payload_end : {o o1 : List ℕ} {b : ℕ} → PayloadLaid lines vs o o1 b → b ≡ k
-  payload_end h = (h.is t.value t.is).count ∙ sym t.size
-
-  pub put_room : {rest : List ℕ} → k ≤ length rest → PayloadRoom lines vs e rest
-  put_room l =
-      record { value = t.value; is = t.is; bits = t.bits; small = omega (arith, t.size, in_all t.front, t.front.small); room = omega (arith, t.size) }
-
-  module _ {o1 o2 : List ℕ} {a b : ℕ} (F : Laid (front_of s x k) out o1 a) (P : PayloadLaid lines vs (lent o1 a) o2 b) where
-    pub tail_room : length (part s x.payload.to (length s - x.payload.to)) ≤ length (lent (back o1 a o2) (a + b))
-    tail_room = tail_fits t.front t.size F (P.is t.value t.is)
-
-    pub record_put : {o3 : List ℕ} {c : ℕ} → Laid (part s x.payload.to (length s - x.payload.to)) (lent (back o1 a o2) (a + b)) o3 c
-        → RecordPut s x vs lines out (back (back o1 a o2) (a + b) o3) (a + b + c)
-    record_put C =
-        record {
-          is = λ p g.
-              let same : some t.value ≡ some p = sym t.is ∙ g in
-              let is : t.value ≡ p = cc in
-              all_put t.front (t.size ∙ ap (λ (v : Pores). length (payload_of v)) is) F (P.is p g) C;
-        }
+  pub right_put : {gives : List ℕ → ℕ → List ℕ → Type 0} → ((rest left : List ℕ) (n : ℕ) → gives rest n left → PayloadLaid lines vs rest left n) → PayloadPut k gives (payload_of R.value)
+  right_put f =
+      record { bytes = payload_bytes R.value; least = omega (arith, z, at_least R); exact = size_right; lays = λ rest left n h. (f rest left n h).is R.value R.is }

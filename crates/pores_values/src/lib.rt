@@ -25,6 +25,7 @@ fn distances_put(out: &mut [u8], payload: &[u8], at: usize, e: usize) -> LinePut
     let mut p = at + e;
     let mut laid: usize = 0;
     let mut passed: usize = 0;
+    // Element by element, e bits each, up to a zero one: no index is counted.
     while e <= end - p {
         let element = Cursor { at: p }.sure(payload, e);
         if element.value == 0 {
@@ -67,12 +68,10 @@ fn lines_put(out: &mut [u8], payload: &[u8], lines: usize, e: usize) -> usize
 {
     let mut laid: usize = 0;
     let mut place: usize = 24;
-    let mut i: usize = 0;
-    while i < lines {
+    for _ in 0..lines {
         let line = line_put(&mut out[laid..], payload, place, e);
         laid += line.length;
         place = line.next;
-        i += 1;
     }
     laid
 }

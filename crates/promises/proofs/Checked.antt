@@ -18,7 +18,7 @@ use Rattle.bits.specs.Codec as C
 use Rattle.outcome.specs.Refusals.{no_room, no_rule}
 use Rattle.outcome.specs.Outcome.{Outcome, refused, given, room, number_of, place_of, told, Answers}
 use Rattle.outcome.specs.declared.Answer.{Answer}
-use Rattle.outcome.proofs.Refused.{Refused, refused_answer}
+use Rattle.outcome.proofs.Refusing.{Refused, refused_answer}
 use Rattle.format.specs.Record.{Record, read, write}
 use Rattle.format.specs.Call.{from_read, on_record}
 use Rattle.format.specs.declared.Header.{Header}

@@ -12,7 +12,7 @@ use Rattle.bits.specs.Codec as C
 use Rattle.outcome.specs.Outcome.{Outcome, given, room, place_of, AnswersAs, Answers}
 use Rattle.outcome.specs.Placed.{Placed}
 use Rattle.outcome.specs.declared.Answer.{Answer}
-use Rattle.outcome.proofs.Refused.{Refused}
+use Rattle.outcome.proofs.Refusing.{Refused}
 use Rattle.outcome.proofs.Placed.{no_place, answer_place, told_place}
 use Rattle.format.specs.Record.{Record, read, write}
 use Rattle.format.specs.Places.{view_at, count}

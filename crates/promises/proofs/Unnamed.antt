@@ -12,7 +12,7 @@ use Rattle.outcome.specs.Refusals.{no_view}
 use Rattle.outcome.specs.Outcome.{Outcome, refused, room, number_of, AnswersAs, Answers}
 use Rattle.outcome.specs.declared.Answer.{Answer}
 use Rattle.outcome.proofs.Laws.{told_refused}
-use Rattle.outcome.proofs.Refused.{refused_answer, refused_told}
+use Rattle.outcome.proofs.Refusing.{refused_answer, refused_told}
 use Rattle.format.specs.Record.{read}
 use Rattle.format.specs.Places.{view_at, count}
 use Rattle.format.specs.Named.{NoViewNamed}

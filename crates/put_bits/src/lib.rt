@@ -44,7 +44,7 @@ fn add_at(out: &mut [u8], i: usize, n: usize)
     requires { (i < length out.old) × (n < 256) }
     ensures { out.new ≡ set out.old i ((get_or out.old i 0 + n) % 256) }
 {
-    out[i] = ((wide(out[i]) + n) % 256) as u8;
+    out[i] = out[i].wrapping_add(n as u8);
 }
 
 // The number of `width` bits, put into the zeros that keep its bits free at place `at`.

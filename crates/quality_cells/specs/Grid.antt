@@ -1,12 +1,10 @@
 -- What the first three bytes say, of a payload of local quality or of values to be written: how many cells there are, and how many
 -- bits each has.
-use Rattle.std.specs.Prelude.{◌≡◌, ℕ, ◌*◌, ◌≤◌, ◌<◌, List, ◌∷◌, take, T}
+use Rattle.std.specs.Prelude.{◌≡◌, ℕ, ◌*◌, ◌≤◌, ◌<◌, List, ◌∷◌, take, T, Option, Some, None}
 use Rattle.bits.specs.Choice.{within}
 use Rattle.format.specs.declared.Image.{Image}
 use Rattle.quality_parts.specs.Parts.{cells, values_right}
 use Rattle.quality_cells.specs.declared.Grid.{Grid}
-use Rattle.quality_cells.specs.declared.FoundGrid.{FoundGrid}
-use Rattle.quality_cells.specs.declared.FoundGrid.TheVariants as f
 
 -- a view's header has 16 bits for each
 pub record SmallImage (image : Image) : Type 0 where
@@ -29,6 +27,6 @@ pub record Started (image : Image) (s : List ℕ) (g : Grid) : Type 0 where
 pub record NoStart (s : List ℕ) : Type 0 where
   pub is : (image : Image) (vs : List ℕ) → T (values_right image vs) → take 3 vs ≡ take 3 s → ⊥
 
-abbrev pub GridFound : Image → List ℕ → FoundGrid → Type 0
-GridFound image s (f.At g) = Started image s g
-GridFound image s f.Broken = NoStart s
+abbrev pub GridFound : Image → List ℕ → Option Grid → Type 0
+GridFound image s (Some g) = Started image s g
+GridFound image s None = NoStart s

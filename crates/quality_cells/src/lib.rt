@@ -3,7 +3,6 @@
 #![tactic(auto)]
 
 ghost use Rattle.std.specs.Prelude.{◌≡◌, ◌+◌, ◌*◌, ◌/◌, ◌≤◌, ◌<◌};
-ghost use Rattle.quality_parts.specs.Parts.{rounded_up};
 ghost use Rattle.quality_cells.specs.Grid.{SmallImage, GridFound};
 
 use bits::wide;
@@ -15,45 +14,22 @@ pub struct Grid {
     pub bits: usize,
 }
 
-#[derive(Clone, Copy)]
-pub enum FoundGrid {
-    At(Grid),
-    Broken,
-}
-
-// n over d, rounded up.
-fn rounded_up(n: usize, d: usize) -> usize
-    requires { (n < 65536) × (1 ≤ d) × (d ≤ 255) }
-    ensures { (result ≡ rounded_up n d) × (result ≤ 65535) }
-{
-    (n + (d - 1)) / d
-}
-
-// The cells of the image, by the first three bytes.
-pub fn grid_of(bytes: &[u8], image: Image) -> FoundGrid
+// The cells of the image, by the first three bytes; none, where no right values start so.
+pub fn grid_of(bytes: &[u8], image: Image) -> Option<Grid>
     requires { SmallImage image }
     ensures { GridFound image bytes.now result }
 {
-    if bytes.len() < 3 {
-        return FoundGrid::Broken;
+    let [width, height, bits, ..] = bytes else {
+        return None;
+    };
+    let width = wide(*width);
+    let height = wide(*height);
+    let bits = wide(*bits);
+    if width == 0 || height == 0 || bits == 0 || 8 < bits {
+        return None;
     }
-    let width = wide(bytes[0]);
-    let height = wide(bytes[1]);
-    let bits = wide(bytes[2]);
-    if width == 0 {
-        return FoundGrid::Broken;
-    }
-    if height == 0 {
-        return FoundGrid::Broken;
-    }
-    if bits == 0 {
-        return FoundGrid::Broken;
-    }
-    if 8 < bits {
-        return FoundGrid::Broken;
-    }
-    FoundGrid::At(Grid {
-        cells: rounded_up(image.width, width) * rounded_up(image.height, height),
+    Some(Grid {
+        cells: image.width.div_ceil(width) * image.height.div_ceil(height),
         bits,
     })
 }

@@ -1,22 +1,20 @@
 -- What the code that judges values of local quality, and that puts the payload they make, asks and answers.
-use Rattle.std.specs.Prelude.{ℕ, ◌+◌, ◌*◌, ◌/◌, ◌≤◌, not, List, length, T}
+use Rattle.std.specs.Prelude.{ℕ, ◌+◌, ◌*◌, ◌/◌, ◌≤◌, not, List, length, T, Option, Some, None}
 use Rattle.put_bytes.specs.Laid.{Laid}
 use Rattle.format.specs.declared.Image.{Image}
 use Rattle.quality_parts.specs.Parts.{values_right}
 use Rattle.quality.specs.Payload.{payload_for}
 use Rattle.quality_cells.specs.Grid.{Started}
 use Rattle.quality_cells.specs.declared.Grid.{Grid}
-use Rattle.quality_payload.specs.declared.JudgedValues.{JudgedValues}
-use Rattle.quality_payload.specs.declared.JudgedValues.TheVariants as j
 
 -- the values vs are right, and g is what the first three say
 pub record RightValues (image : Image) (vs : List ℕ) (g : Grid) : Type 0 where
   pub right : T (values_right image vs)
   pub start : Started image vs g
 
-abbrev pub ValuesJudged : Image → List ℕ → JudgedValues → Type 0
-ValuesJudged image vs (j.Right g) = RightValues image vs g
-ValuesJudged image vs j.Broken = T (not (values_right image vs))
+abbrev pub ValuesJudged : Image → List ℕ → Option Grid → Type 0
+ValuesJudged image vs (Some g) = RightValues image vs g
+ValuesJudged image vs None = T (not (values_right image vs))
 
 -- ---- their payload
 

@@ -1,5 +1,5 @@
 -- What the code that judges a stored payload of local quality, and that lays its values, asks and answers.
-use Rattle.std.specs.Prelude.{◌≡◌, ℕ, ◌+◌, ◌≤◌, List, [], length}
+use Rattle.std.specs.Prelude.{◌≡◌, ℕ, ◌+◌, ◌≤◌, List, [], length, Option, Some, None}
 use Rattle.std.proofs.Math.Option.{none}
 use Rattle.bits.specs.Bytes.{bits_of}
 use Rattle.bits.specs.Codec.{got, value_of}
@@ -8,8 +8,6 @@ use Rattle.format.specs.declared.Image.{Image}
 use Rattle.quality.specs.Payload.{quality_block}
 use Rattle.quality_cells.specs.Grid.{SmallImage, Started}
 use Rattle.quality_cells.specs.declared.Grid.{Grid}
-use Rattle.quality_values.specs.declared.JudgedPayload.{JudgedPayload}
-use Rattle.quality_values.specs.declared.JudgedPayload.TheVariants as j
 
 -- the payload s has values, and g is what its first three bytes say
 pub record RightPayload (image : Image) (s : List ℕ) (g : Grid) : Type 0 where
@@ -21,9 +19,9 @@ pub record PayloadThere (image : Image) (s : List ℕ) : Type 0 where
   pub small : SmallImage image
   pub short : length s ≤ 65535
 
-abbrev pub PayloadJudged : Image → List ℕ → JudgedPayload → Type 0
-PayloadJudged image s (j.Right g) = RightPayload image s g
-PayloadJudged image s j.Broken = value_of ((quality_block image).dec (bits_of s)) ≡ none
+abbrev pub PayloadJudged : Image → List ℕ → Option Grid → Type 0
+PayloadJudged image s (Some g) = RightPayload image s g
+PayloadJudged image s None = value_of ((quality_block image).dec (bits_of s)) ≡ none
 
 -- ---- its values: the first three bytes and a byte per cell
 

@@ -7,31 +7,23 @@ ghost use Rattle.quality_values.specs.Values.{PayloadThere, PayloadJudged, Value
 use bits::Cursor;
 use format::Image;
 use put_bytes::copy;
-use quality_cells::{FoundGrid, Grid, grid_of, payload_size};
+use quality_cells::{Grid, grid_of, payload_size};
 
-#[derive(Clone, Copy)]
-pub enum JudgedPayload {
-    Right(Grid),
-    Broken,
-}
-
-// The cells' bits end in the last byte, and what fills it up is zero.
-pub fn judge_payload(payload: &[u8], image: Image) -> JudgedPayload
+// Its cells, where the payload is right: their bits end in the last byte, and what fills it up is zero.
+pub fn judge_payload(payload: &[u8], image: Image) -> Option<Grid>
     requires { PayloadThere image payload.now }
     ensures { PayloadJudged image payload.now result }
 {
-    let FoundGrid::At(grid) = grid_of(payload, image) else {
-        return JudgedPayload::Broken;
-    };
+    let grid = grid_of(payload, image)?;
     if payload.len() != payload_size(grid) {
-        return JudgedPayload::Broken;
+        return None;
     }
     let end = 24 + grid.cells * grid.bits;
     let filling = Cursor { at: end }.sure(payload, 8 * payload.len() - end);
     if filling.value != 0 {
-        return JudgedPayload::Broken;
+        return None;
     }
-    JudgedPayload::Right(grid)
+    Some(grid)
 }
 
 // The payload's first three bytes, and a byte for the value of each cell.
@@ -41,12 +33,10 @@ pub fn put_values(out: &mut [u8], payload: &[u8], grid: Grid) -> usize
 {
     let first = copy(out, &payload[0..3]);
     let mut place = Cursor { at: 24 };
-    let mut i: usize = 0;
-    while i < grid.cells {
+    for i in 0..grid.cells {
         let cell = place.sure(payload, grid.bits);
         out[first + i] = cell.value as u8;
         place = cell.next;
-        i += 1;
     }
-    first + i
+    first + grid.cells
 }

@@ -14,7 +14,7 @@ use Rattle.format.specs.declared.Widths.{Widths}
 use Rattle.put_bytes.specs.HighFirst.{joined}
 use Rattle.format.specs.Record.{Narrow}
 use Rattle.sheet_bytes.specs.Bytes.{line_bytes}
-use Rattle.read_blocks.specs.declared.line.Lined.{Lined}
+use Rattle.read_blocks.specs.declared.Moved.{Moved}
 use Rattle.read_blocks.specs.declared.line.Lines.{Lines}
 
 -- ---- a line at place p of the block s; n bytes are lent
@@ -27,7 +27,7 @@ pub record LineToRead (w : Widths) (s : List ℕ) (p n : ℕ) : Type 0 where
   pub reads : Reads (line w).dec s p (found value behind)
   pub room : line_size value ≤ n
 
-pub record LineOut (w : Widths) (s : List ℕ) (p : ℕ) (before after : List ℕ) (r : Lined) : Type 0 where
+pub record LineOut (w : Widths) (s : List ℕ) (p : ℕ) (before after : List ℕ) (r : Moved) : Type 0 where
   pub is : (l : Line) (q : ℕ) → Reads (line w).dec s p (found l q) → (r.next.at ≡ q) × Laid (line_bytes w.k l) before after r.written
 
 -- ---- the lines of the skeleton block s

@@ -10,47 +10,38 @@ ghost use Rattle.sheet_bytes.specs.Bytes.{list_bytes};
 ghost use Rattle.read_blocks.specs.BlockOuts.{IndexToRead, IndexOut};
 ghost use Rattle.read_blocks.specs.ListOuts.{ValueThere, ValueOut, numbers_dec};
 
+use crate::Moved;
 use bits::Cursor;
 use put_bytes::{copy, put_three, put_two};
-
-// The cursor behind what was read, and how many bytes were laid.
-#[derive(Clone, Copy)]
-struct Moved {
-    next: Cursor,
-    bytes: usize,
-}
 
 // Line l's neighbours by number, from n differences of w bits each.
 fn numbers_out(out: &mut [u8], block: &[u8], p: Cursor, w: usize, l: usize, n: usize) -> Moved
     requires { (w ≤ 16) × (l < 1024) × ValueThere (numbers_dec w n 0 l) (λ ns. 2 * length ns) block.now p.at (length out.old) }
-    ensures { ValueOut (numbers_dec w n 0 l) (joined two) block.now p.at result.next.at out.old out.new result.bytes }
+    ensures { ValueOut (numbers_dec w n 0 l) (joined two) block.now p.at result.next.at out.old out.new result.written }
 {
-    let mut q = p;
+    let mut next = p;
     let mut number = l;
-    let mut at: usize = 0;
-    let mut i: usize = 0;
-    while i < n {
-        let d = q.sure(block, w);
+    let mut written: usize = 0;
+    for _ in 0..n {
+        let d = next.sure(block, w);
         number -= d.value;
-        at += put_two(&mut out[at..], number);
-        q = d.next;
-        i += 1;
+        written += put_two(&mut out[written..], number);
+        next = d.next;
     }
-    Moved { next: q, bytes: at }
+    Moved { next, written }
 }
 
 // The 05 field of line l.
 fn list_out(out: &mut [u8], block: &[u8], p: Cursor, w: usize, l: usize) -> Moved
     requires { (w ≤ 16) × (l < 1024) × ValueThere (neighbours w l).dec list_size block.now p.at (length out.old) }
-    ensures { ValueOut (neighbours w l).dec list_bytes block.now p.at result.next.at out.old out.new result.bytes }
+    ensures { ValueOut (neighbours w l).dec list_bytes block.now p.at result.next.at out.old out.new result.written }
 {
     let count = p.sure(block, w);
     let at = put_three(out, 5, 2 * count.value);
     let list = numbers_out(&mut out[at..], block, count.next, w, l, count.value);
-    let next = list.next;
     Moved {
-        next,
-        bytes: at + list.bytes,
+        next: list.next,
+        written: at + list.written,
     }
 }
 
@@ -59,14 +50,12 @@ fn lists_out(out: &mut [u8], block: &[u8], p: Cursor, w: usize, lines: usize) ->
     requires { (w ≤ 16) × (lines ≤ 1024) × ValueThere (along_dec (neighbours w) up lines 0) (total list_size) block.now p.at (length out.old) }
     ensures { (q : ℕ) × ValueOut (along_dec (neighbours w) up lines 0) (joined list_bytes) block.now p.at q out.old out.new result }
 {
-    let mut q = p;
+    let mut next = p;
     let mut at: usize = 0;
-    let mut l: usize = 0;
-    while l < lines {
-        let list = list_out(&mut out[at..], block, q, w, l);
-        at += list.bytes;
-        q = list.next;
-        l += 1;
+    for l in 0..lines {
+        let list = list_out(&mut out[at..], block, next, w, l);
+        at += list.written;
+        next = list.next;
     }
     at
 }
@@ -76,7 +65,7 @@ pub fn index_out(out: &mut [u8], block: &[u8], lines: usize) -> usize
     requires { IndexToRead lines block.now (length out.old) }
     ensures { IndexOut lines block.now out.old out.new result }
 {
-    if block.len() == 0 {
+    if block.is_empty() {
         return 0;
     }
     let w = Cursor::start().sure(block, 8);

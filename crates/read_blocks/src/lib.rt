@@ -5,3 +5,12 @@
 pub mod index; // 04 and 05: the neighbour index
 pub mod line; // 03: lines
 pub mod segments; // 06: segments
+
+use bits::Cursor;
+
+// The cursor behind what was read, and the bytes written for it.
+#[derive(Clone, Copy)]
+pub struct Moved {
+    pub next: Cursor,
+    pub written: usize,
+}

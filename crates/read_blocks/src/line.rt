@@ -12,9 +12,10 @@ ghost use Rattle.sheet_bytes.specs.Bytes.{end_bytes};
 ghost use Rattle.read_blocks.specs.LineParts.{SmallEnd, PartsThere, PartsOut};
 ghost use Rattle.read_blocks.specs.LineOuts.{LineToRead, LineOut, LinesToRead, LinesOut};
 
+use crate::Moved;
 use bits::{Cursor, pow2};
 use format::{End, Widths};
-use put_bytes::put_three;
+use put_bytes::{put_three, put_two};
 
 // An end, and the cursor behind it.
 #[derive(Clone, Copy)]
@@ -30,13 +31,6 @@ struct LineParts {
     finish: End,
     codes: Cursor,
     count: usize,
-}
-
-// The cursor behind a line, and the bytes written for it.
-#[derive(Clone, Copy)]
-pub struct Lined {
-    pub next: Cursor,
-    pub written: usize,
 }
 
 // How many lines a block has, and the bytes written for them.
@@ -63,13 +57,10 @@ fn end_out(out: &mut [u8], e: End) -> usize
     requires { (6 ≤ length out.old) × SmallEnd e }
     ensures { Laid (end_bytes e) out.old out.new result }
 {
-    out[0] = (e.kind % 256) as u8;
-    out[1] = (e.direction % 256) as u8;
-    out[2] = (e.x / 256 % 256) as u8;
-    out[3] = (e.x % 256) as u8;
-    out[4] = (e.y / 256 % 256) as u8;
-    out[5] = (e.y % 256) as u8;
-    6
+    out[0] = e.kind as u8;
+    out[1] = e.direction as u8;
+    let at = 2 + put_two(&mut out[2..], e.x);
+    at + put_two(&mut out[at..], e.y)
 }
 
 // The end at the cursor, where its bits are known to be there.
@@ -97,15 +88,13 @@ fn codes_out(out: &mut [u8], block: &[u8], p: Cursor, k: usize, n: usize) -> usi
     ensures { (result ≡ n) × ((cs : List ℕ) (q : ℕ) → Reads (times_dec (field bad_line k) n) block.now p.at (found cs q)
         → Laid (map (sign_extended k) cs) out.old out.new result) }
 {
-    let mut q = p;
-    let mut i: usize = 0;
-    while i < n {
-        let code = q.sure(block, k);
-        out[i] = code_byte(code.value, k);
-        q = code.next;
-        i += 1;
+    let mut codes = p;
+    for byte in &mut out[..n] {
+        let code = codes.sure(block, k);
+        *byte = code_byte(code.value, k);
+        codes = code.next;
     }
-    i
+    n
 }
 
 // The 03 field of a line.
@@ -121,7 +110,7 @@ fn parts_out(out: &mut [u8], block: &[u8], l: LineParts, k: usize) -> usize
 }
 
 // The 03 field of the line at the cursor.
-pub fn line_out(out: &mut [u8], block: &[u8], p: Cursor, w: Widths) -> Lined
+pub fn line_out(out: &mut [u8], block: &[u8], p: Cursor, w: Widths) -> Moved
     requires { LineToRead w block.now p.at (length out.old) }
     ensures { LineOut w block.now p.at out.old out.new result }
 {
@@ -141,7 +130,7 @@ pub fn line_out(out: &mut [u8], block: &[u8], p: Cursor, w: Widths) -> Lined
         count,
     };
     let written = parts_out(out, block, parts, w.k);
-    Lined { next, written }
+    Moved { next, written }
 }
 
 // The 03 fields of the lines of a skeleton block.

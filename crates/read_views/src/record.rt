@@ -25,13 +25,11 @@ fn views_out(out: &mut [u8], bytes: &[u8], w: Widths, count: usize) -> usize
     ensures { ViewsOut bytes.now out.old out.new result }
 {
     let mut p: usize = Header::BYTES;
-    let mut i: usize = 0;
     let mut at: usize = 0;
-    while i < count {
+    for _ in 0..count {
         let v = view_out(&mut out[at..], bytes, p, w);
         at += v.written;
         p = v.next;
-        i += 1;
     }
     at
 }

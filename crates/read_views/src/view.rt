@@ -23,17 +23,17 @@ fn blocks_out(out: &mut [u8], bytes: &[u8], b: usize, w: Widths) -> ViewOut
     ensures { BlocksOut w bytes.now b out.old out.new result }
 {
     let blocks = blocks_at(bytes, b);
-    let skeleton = blocks.skeleton.from;
-    let skeleton_end = blocks.skeleton.to;
-    let lines = lines_out(out, &bytes[skeleton..skeleton_end], w);
+    let skeleton = blocks.skeleton.of(bytes);
+    let index = blocks.index.of(bytes);
+    let extended = blocks.extended.of(bytes);
+    let lines = lines_out(out, skeleton, w);
     let mut at = lines.written;
-    let index = blocks.index.from;
-    let index_end = blocks.index.to;
-    at += index_out(&mut out[at..], &bytes[index..index_end], lines.count);
-    let extended = blocks.extended.from;
-    let next = blocks.extended.to;
-    at += segments_out(&mut out[at..], &bytes[extended..next]);
-    ViewOut { next, written: at }
+    at += index_out(&mut out[at..], index, lines.count);
+    at += segments_out(&mut out[at..], extended);
+    ViewOut {
+        next: blocks.extended.to,
+        written: at,
+    }
 }
 
 // The fields of the view at byte a.
@@ -46,6 +46,8 @@ pub fn view_out(out: &mut [u8], bytes: &[u8], a: usize, w: Widths) -> ViewOut
     at += copy(&mut out[at..], &bytes[a..b]);
     let blocks = blocks_out(&mut out[at..], bytes, b, w);
     at += blocks.written;
-    let next = blocks.next;
-    ViewOut { next, written: at }
+    ViewOut {
+        next: blocks.next,
+        written: at,
+    }
 }

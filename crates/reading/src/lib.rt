@@ -2,29 +2,26 @@
 #![tactic(auto)]
 
 ghost use Rattle.outcome.specs.Outcome.{Answers};
+ghost use Rattle.outcome.specs.Why.{answer_of};
 ghost use Rattle.sheet.specs.Sheet.{reading};
 
-use judge::{Verdict, judge};
-use outcome::{Answer, Refusal, accept, refuse, refuse_at};
+use judge::judge;
+use outcome::{Answer, Refusal, Refused};
 use read_views::record::sheet_out;
 
 pub fn read(bytes: &[u8], sheet: &mut [u8]) -> Answer
     ensures { Answers (reading bytes.now) sheet.old sheet.new result }
 {
-    match judge(bytes) {
-        Verdict::Refused { number, place } => refuse_at(number, place),
-        Verdict::Accepted {
-            header,
-            views,
-            size,
-        } => {
-            if sheet.len() < size {
-                refuse(Refusal::NO_ROOM)
-            } else {
-                let scale = header.scale;
-                let length = sheet_out(sheet, bytes, scale.widths, views);
-                accept(length)
-            }
-        }
+    Answer::of(read_out(bytes, sheet))
+}
+
+// How many bytes the sheet has: 1 to 12, 20.
+fn read_out(bytes: &[u8], sheet: &mut [u8]) -> Result<usize, Refused>
+    ensures { Answers (reading bytes.now) sheet.old sheet.new (answer_of result) }
+{
+    let record = judge(bytes)?;
+    if sheet.len() < record.size {
+        return Err(Refusal::NoRoom.into());
     }
+    Ok(sheet_out(sheet, bytes, record.header.scale.widths, record.views))
 }

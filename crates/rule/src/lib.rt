@@ -12,9 +12,7 @@ pub struct Rule {
     pub least: usize,
 }
 
-const COUNT: usize = 2;
-
-const RULES: [Rule; COUNT] = [
+const RULES: [Rule; 2] = [
     Rule {
         number: 1,
         least: 4,
@@ -25,23 +23,14 @@ const RULES: [Rule; COUNT] = [
     },
 ];
 
-// What the number of a rule stands for: so many bits at least, or no rule.
-#[derive(Clone, Copy)]
-pub enum Wanted {
-    Least(usize),
-    NoRule,
-}
-
-pub fn least_of(number: u32) -> Wanted
+// How many bits the rule of that number wants at least; none where there is no such rule.
+pub fn least_of(number: u32) -> Option<usize>
     ensures { known_least result ≡ least_of number }
 {
-    let mut i: usize = 0;
-    while i < COUNT {
-        let row = RULES[i];
+    for row in &RULES {
         if row.number == number {
-            return Wanted::Least(row.least);
+            return Some(row.least);
         }
-        i += 1;
     }
-    Wanted::NoRule
+    None
 }

@@ -2,33 +2,30 @@
 #![tactic(auto)]
 
 ghost use Rattle.std.specs.Prelude.{◌≡◌};
+ghost use Rattle.outcome.specs.Why.{answer_of};
 ghost use Rattle.rule.specs.Check.{check_answer};
 
-use judge::{Verdict, judge};
-use outcome::{Answer, Refusal, accept, refuse, refuse_at};
-use rule::{Wanted, least_of};
+use judge::judge;
+use outcome::{Answer, Refusal, Refused};
+use rule::least_of;
 
-// Any bytes by any rule: 30, 1 to 12, 31. Nothing is written.
+// Any bytes by any rule. Nothing is written.
 pub fn check(rule: u32, bytes: &[u8]) -> Answer
     ensures { result ≡ check_answer rule bytes.now }
 {
-    let Wanted::Least(least) = least_of(rule) else {
-        return refuse(Refusal::NO_RULE);
+    Answer::of(checked(rule, bytes))
+}
+
+// 30, 1 to 12, 31.
+fn checked(rule: u32, bytes: &[u8]) -> Result<usize, Refused>
+    ensures { answer_of result ≡ check_answer rule bytes.now }
+{
+    let Some(least) = least_of(rule) else {
+        return Err(Refusal::NoRule.into());
     };
-    match judge(bytes) {
-        Verdict::Refused { number, place } => refuse_at(number, place),
-        Verdict::Accepted {
-            header,
-            views: _,
-            size: _,
-        } => {
-            let scale = header.scale;
-            let widths = scale.widths;
-            if widths.b < least {
-                refuse(Refusal::BELOW_RULE)
-            } else {
-                accept(0)
-            }
-        }
+    let record = judge(bytes)?;
+    if record.header.scale.widths.b < least {
+        return Err(Refusal::BelowRule.into());
     }
+    Ok(0)
 }

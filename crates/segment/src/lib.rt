@@ -5,17 +5,17 @@
 ghost use Rattle.std.specs.Prelude.{◌≡◌};
 ghost use Rattle.segment.specs.Segment.{payload, payload_of, segment_answer};
 
-use find_segment::{FoundSegment, find_segment};
+use find_segment::find_segment;
 use format::ViewName;
-use outcome::{Answer, refuse_at};
+use outcome::Answer;
 
 // The segment's number, the first bit of its payload, and the payload's bytes.
 pub fn segment(bytes: &[u8], view: ViewName, place: usize) -> Answer
     ensures { result ≡ segment_answer view place bytes.now }
 {
     match find_segment(bytes, view, place) {
-        FoundSegment::Refused { number, bit } => refuse_at(number, bit),
-        FoundSegment::At(spot) => Answer {
+        Err(refused) => Answer::of(Err(refused)),
+        Ok(spot) => Answer {
             number: 0,
             place: (8 * spot.payload.from) as u32,
             length: spot.payload.to - spot.payload.from,
@@ -27,12 +27,10 @@ pub fn segment(bytes: &[u8], view: ViewName, place: usize) -> Answer
 pub fn payload<'a>(bytes: &'a [u8], view: ViewName, place: usize) -> &'a [u8]
     ensures { result.now ≡ payload_of (payload view place bytes.now) }
 {
-    match find_segment(bytes, view, place) {
-        FoundSegment::Refused { number: _, bit: _ } => &bytes[0..0],
-        FoundSegment::At(spot) => {
-            let from = spot.payload.from;
-            let to = spot.payload.to;
-            &bytes[from..to]
-        }
-    }
+    let Ok(spot) = find_segment(bytes, view, place) else {
+        return &bytes[0..0];
+    };
+    let from = spot.payload.from;
+    let to = spot.payload.to;
+    &bytes[from..to]
 }

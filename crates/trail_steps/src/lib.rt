@@ -1,14 +1,17 @@
-// The walk along the codes of a line: the first heading, one step, how many elements it draws, and two writers of the trail, as
-// 16-bit numbers and as bytes. They run on a line that is known to be accepted.
+// The walk along the codes of a line: the first heading, and an iterator of the elements that the codes draw, which two writers lay,
+// as 16-bit numbers and as bytes. They run on a line that is known to be accepted.
 #![tactic(auto)]
 
-ghost use Rattle.std.specs.Prelude.{◌≡◌, ◌-◌, ◌*◌, ◌^◌, ◌≤◌, ◌<◌, false, length};
+ghost use Rattle.std.specs.Prelude.{◌≡◌, ◌-◌, ◌*◌, ◌^◌, ◌≤◌, ◌<◌, length};
+ghost use Rattle.std.specs.Iterator.{YieldsFirst, item_count};
 ghost use Rattle.put_bytes.specs.Laid.{Laid};
 ghost use Rattle.put_bytes.specs.HighFirst.{two, joined};
-ghost use Rattle.trail.specs.Trail.{first_heading, turned, follow};
-ghost use Rattle.trail_steps.specs.Walk.{start_at, element_at, drawn, CodesThere, CanDraw, OfCodes, StepDraws};
+ghost use Rattle.trail.specs.Trail.{first_heading, turned};
+ghost use Rattle.trail_steps.specs.Walk.{start_at, StepDraws};
+ghost use Rattle.trail_steps.specs.Elements.{elements, CodesThere, Ready, CanDraw};
 
 use bits::{Cursor, pow2};
+use put_bytes::put_two;
 
 // Where the walk stands: its heading, and whether the level is high.
 #[derive(Clone, Copy)]
@@ -19,7 +22,7 @@ pub struct Pen {
 
 impl Pen {
     // Each line starts at level 0.
-    fn start(heading: usize) -> Self
+    pub fn start(heading: usize) -> Self
         ensures { result ≡ start_at heading }
     {
         Self {
@@ -27,13 +30,19 @@ impl Pen {
             high: false,
         }
     }
-}
 
-// What a code does: it draws an element, or turns the level.
-#[derive(Clone, Copy)]
-pub enum Stepped {
-    Drawn(usize, Pen),
-    Turned(Pen),
+    // One code of k bits: the element that it draws, if it turns no level.
+    fn step(&mut self, code: usize, k: usize, half: usize) -> Option<usize>
+        requires { (1 ≤ k) × (k ≤ 8) × (code < 2 ^ k) × (1 ≤ half) × (half ≤ 255) × (self.old.heading < 2 * half) }
+        ensures { StepDraws half k self.old code self.new result }
+    {
+        if code == level_turn(k) {
+            self.high = !self.high;
+            return None;
+        }
+        self.heading = heading_after(self.heading, code, k, half);
+        Some(2 * self.heading + usize::from(self.high))
+    }
 }
 
 // The start direction of b bits as a heading, the nearest of a full turn, halves upwards; half: directions in a half turn.
@@ -67,114 +76,80 @@ fn heading_after(heading: usize, code: usize, k: usize, half: usize) -> usize
     (sum + (2 * half - 1) * (2 * top)) % (2 * half)
 }
 
-// An element at that heading and level.
-fn element_at(heading: usize, high: bool) -> Stepped
-    requires { heading < 510 }
-    ensures { result ≡ element_at heading high }
-{
-    if high {
-        return Stepped::Drawn(2 * heading + 1, Pen { heading, high });
-    }
-    Stepped::Drawn(2 * heading, Pen { heading, high })
+// The walk along the codes of a line: the block that they stand in, where the next one starts, how many are left, bits of each,
+// directions in a half turn, and the pen. Its items are the elements that the codes draw.
+#[derive(Clone, Copy)]
+pub struct CodeWalk<'a> {
+    pub block: &'a [u8],
+    pub codes: Cursor,
+    pub left: usize,
+    pub k: usize,
+    pub half: usize,
+    pub pen: Pen,
 }
 
-// One code of k bits.
-pub fn step(pen: Pen, code: usize, k: usize, half: usize) -> Stepped
-    requires { (1 ≤ k) × (k ≤ 8) × (code < 2 ^ k) × (1 ≤ half) × (half ≤ 255) × (pen.heading < 2 * half) }
-    ensures { StepDraws half k pen code result }
-{
-    if code == level_turn(k) {
-        return Stepped::Turned(Pen {
-            heading: pen.heading,
-            high: !pen.high,
-        });
+impl<'a> Iterator for CodeWalk<'a> {
+    type Item = usize;
+
+    ghost can_next = { Ready };
+
+    ghost next_gives = { YieldsFirst elements };
+
+    ghost remaining = { item_count elements };
+
+    fn next(&mut self) -> Option<usize> {
+        while 0 < self.left {
+            let code = self.codes.sure(self.block, self.k);
+            self.codes = code.next;
+            self.left -= 1;
+            if let Some(element) = self.pen.step(code.value, self.k, self.half) {
+                return Some(element);
+            }
+        }
+        None
     }
-    element_at(heading_after(pen.heading, code, k, half), pen.high)
 }
 
-// How many elements the n codes of k bits from the cursor on draw.
-pub fn count_drawn(block: &[u8], p: Cursor, k: usize, n: usize) -> usize
-    requires { CodesThere k n block.now p.at }
-    ensures { OfCodes k n block.now p.at (λ codes. result ≡ drawn k codes) }
+// How many elements the walk draws: a level turn draws none. The iterator's own `count` would find every heading, by a division for each
+// code.
+pub fn count_drawn(walk: CodeWalk) -> usize
+    requires { CodesThere walk }
+    ensures { result ≡ length (elements walk.entry) }
 {
-    let top = level_turn(k);
-    let mut q = p;
+    let top = level_turn(walk.k);
+    let mut codes = walk.codes;
     let mut count: usize = 0;
-    let mut i: usize = 0;
-    while i < n {
-        let code = q.sure(block, k);
+    for _ in 0..walk.left {
+        let code = codes.sure(walk.block, walk.k);
         if code.value != top {
             count += 1;
         }
-        q = code.next;
-        i += 1;
+        codes = code.next;
     }
     count
 }
 
-// The trail of the n codes of k bits from the cursor on, first heading `heading`, as 16-bit numbers; the answer is how many.
-pub fn trail_numbers(
-    out: &mut [u16],
-    block: &[u8],
-    p: Cursor,
-    k: usize,
-    n: usize,
-    half: usize,
-    heading: usize,
-) -> usize
-    requires { CanDraw 1 k n half heading block.now p.at (length out.old) }
-    ensures { OfCodes k n block.now p.at (λ codes. Laid (follow half k false heading codes) out.old out.new result) }
+// The elements of the walk as 16-bit numbers; the answer is how many.
+pub fn trail_numbers(out: &mut [u16], walk: CodeWalk) -> usize
+    requires { CanDraw 1 walk (length out.old) }
+    ensures { Laid (elements walk.entry) out.old out.new result }
 {
-    let mut q = p;
-    let mut pen = Pen::start(heading);
     let mut at: usize = 0;
-    let mut i: usize = 0;
-    while i < n {
-        let code = q.sure(block, k);
-        let stepped = step(pen, code.value, k, half);
-        match stepped {
-            Stepped::Drawn(element, moved) => {
-                out[at] = element as u16;
-                at += 1;
-                pen = moved;
-            }
-            Stepped::Turned(turned) => pen = turned,
-        }
-        q = code.next;
-        i += 1;
+    for element in walk {
+        out[at] = element as u16;
+        at += 1;
     }
     at
 }
 
 // The same as bytes, high byte first; the answer is how many elements.
-pub fn trail_bytes(
-    out: &mut [u8],
-    block: &[u8],
-    p: Cursor,
-    k: usize,
-    n: usize,
-    half: usize,
-    heading: usize,
-) -> usize
-    requires { CanDraw 2 k n half heading block.now p.at (length out.old) }
-    ensures { OfCodes k n block.now p.at (λ codes. Laid (joined two (follow half k false heading codes)) out.old out.new (2 * result)) }
+pub fn trail_bytes(out: &mut [u8], walk: CodeWalk) -> usize
+    requires { CanDraw 2 walk (length out.old) }
+    ensures { Laid (joined two (elements walk.entry)) out.old out.new (2 * result) }
 {
-    let mut q = p;
-    let mut pen = Pen::start(heading);
     let mut at: usize = 0;
-    let mut i: usize = 0;
-    while i < n {
-        let code = q.sure(block, k);
-        let stepped = step(pen, code.value, k, half);
-        match stepped {
-            Stepped::Drawn(element, moved) => {
-                at += put_bytes::put_two(&mut out[at..], element);
-                pen = moved;
-            }
-            Stepped::Turned(turned) => pen = turned,
-        }
-        q = code.next;
-        i += 1;
+    for element in walk {
+        at += put_two(&mut out[at..], element);
     }
     at / 2
 }

@@ -1,22 +1,20 @@
 -- From where a line stands to its trail, and from there to the statement of the call.
-use mathlib.Core.Path.{◌≡◌, sym, ap, ap₂, ◌∙◌, subst}
-use Prim.Native.Nat.{ℕ, ◌+◌, ◌-◌, ◌*◌, ◌≤◌, ◌<◌}
+use mathlib.Core.Path.{◌≡◌, sym, ◌∙◌}
+use Prim.Native.Nat.{ℕ, ◌+◌, ◌*◌, ◌≤◌, ◌<◌}
 use native.Mathlib.Omega.{arith}
-use mathlib.Core.Bool.{false}
 use mathlib.Core.List.{List}
-use lib.ListN.{length}
+use Rattle.std.proofs.Common.{Bor}
+use lib.ListN.{length, drop}
+use Rattle.bits.specs.Bytes.{bits_of}
 use lib.Dec.{ltb}
 use mir.Facts.{yes_ltb, no_ltb}
 use Rattle.bits.specs.ChoiceLaws.{pick_yes, pick_no, within_low, within_high}
-use Rattle.bits.specs.Codec.{field_dec, times_dec}
-use Rattle.bits.specs.CodecLaws.{field}
+use Rattle.bits.specs.Codec.{field_dec}
 use Rattle.bits.specs.Reads.{found, Reads}
-use Rattle.bits.proofs.Laws.Reads.{at_place, up_to}
-use Rattle.bits.proofs.Laws.Parts.{part}
 use Rattle.bits.proofs.Laws.Apart.{same}
-use Rattle.outcome.specs.Refusals.{bad_line, bad_lines, no_room}
+use Rattle.outcome.specs.Refusals.{bad_line, bad_lines}
 use Rattle.outcome.specs.Outcome.{Outcome, refused, given, AnswersAs}
-use Rattle.outcome.proofs.Laws.{answer_full, answer_given}
+use Rattle.outcome.proofs.Laws.{answer_given}
 use Rattle.put_bytes.specs.Laid.{Laid}
 use Rattle.format.specs.Line.{Line, end_bits, line}
 use Rattle.format.specs.View.{View}
@@ -25,16 +23,17 @@ use Rattle.format.specs.Places.{view_at, count, line_at}
 use Rattle.format.specs.declared.Scale.{Scale}
 use Rattle.format.specs.declared.ViewName.{ViewName}
 use Rattle.format.proofs.Laws.Call.{on_view_lem}
-use Rattle.trail.specs.Trail.{first_heading, follow, trail, trail_in, trailing}
+use Rattle.trail.specs.Trail.{first_heading, trail, trail_in, trailing}
 use Rattle.trail.proofs.Laws.{first_small}
-use Rattle.trail_steps.specs.Walk.{CodesThere, OfCodes, drawn, CanDraw}
-use Rattle.trail_steps.proofs.Laws.{trail_length}
+use Rattle.trail_steps.specs.Walk.{start_at}
+use Rattle.trail_steps.specs.Elements.{codes_in, elements}
+use Rattle.trail_steps.proofs.Laws.{codes_read}
 use Rattle.find_parts.specs.declared.view.Blocks.{Blocks}
 use Rattle.find_view.specs.Found.{Stands, Refuses}
 use Rattle.find_parts.proofs.Laws.Record.{record_apart}
 use Rattle.find_parts.proofs.Laws.Line.{LineAt, line_at_lem, direction_at}
-use Rattle.trailing.specs.Trace.{Draws, DrawsPart}
-use Rattle.trailing.specs.declared.CodeWalk.{CodeWalk}
+use Rattle.trailing.specs.Trace.{Draws, Drawn}
+use Rattle.trailing.specs.declared.FoundLine.{FoundLine}
 
 -- ---- the walk along a line: d is the direction that code reads, n the count
 
@@ -53,28 +52,29 @@ module _ (sc : Scale) {s : List ℕ} {p : ℕ} {l : Line} {q : ℕ} (h : Reads (
     direction_is = (same D (direction_at sc.widths at_line.start (omega (arith, at_line.start.within)))).0
 
   module _ {n c : ℕ} (N : Reads (field_dec bad_line 8) s (p + end_bits sc.widths) (found n c)) where
-    pub codes_are : Reads (times_dec (field bad_line sc.widths.k) n) s c (found l.codes (c + n * sc.widths.k))
+    codes_are : (codes_in sc.widths.k n (drop c (bits_of s)) ≡ l.codes) × (c + n * sc.widths.k ≤ 8 * length s)
     codes_are =
         let (e, z) = same N at_line.count in
-        let y : c + n * sc.widths.k ≡ p + end_bits sc.widths + 8 + length l.codes * sc.widths.k = ap₂ (λ (a b : ℕ). a + b * sc.widths.k) z e in
-        subst (λ (m : ℕ). Reads (times_dec (field bad_line sc.widths.k) m) s c (found l.codes (c + n * sc.widths.k))) (sym e)
-        (at_place (sym z) (up_to (sym y) at_line.codes))
-
-    pub codes_there : Narrow sc.widths → length s ≤ 65535 → CodesThere sc.widths.k n s c
-    codes_there w i = record { low = w.low; high = w.k; short = i; value = l.codes; behind = c + n * sc.widths.k; reads = codes_are }
+        let b = codes_read sc.widths.k (length l.codes) (drop (p + end_bits sc.widths + 8) (bits_of s)) at_line.codes.is in
+        (rw (e, z) b, rw (e, z) at_line.codes.within)
 
     module _ {d z : ℕ} (D : Reads (field_dec bad_line sc.widths.b) s (p + 2) (found d z)) where
-      pub draws : Narrow sc.widths → length s ≤ 65535 → 1 ≤ sc.half → sc.half ≤ 255 → {m : ℕ} → OfCodes sc.widths.k n s c (λ codes. m ≡ drawn sc.widths.k codes)
-          → Draws s (record { codes = record { at = c }; count = n; k = sc.widths.k; half = sc.half; heading = first_heading sc.half sc.widths.b d; drawn = m }) (trail sc l)
-      unfolding trail codes_there
-      draws w i lo hi o =
+      pub draws : (b : Bor (List ℕ)) → b.now ≡ s → Narrow sc.widths → length s ≤ 65535 → 1 ≤ sc.half → sc.half ≤ 255
+          → Draws (record { block = b; codes = record { at = c }; left = n; k = sc.widths.k; half = sc.half; pen = start_at (first_heading sc.half sc.widths.b d) }) (trail sc l)
+      unfolding trail elements
+      draws b e w i lo hi =
+          let (codes, within) = codes_are in
           record {
-            there = codes_there w i;
-            some = lo;
-            few = hi;
-            below = first_small sc.half sc.widths.b d (omega arith);
-            drawn = o.is l.codes (c + n * sc.widths.k) codes_are;
-            is = ap (λ (x : ℕ). follow sc.half sc.widths.k false (first_heading sc.half sc.widths.b x) l.codes) (direction_is D);
+            ready = record {
+              low = w.low;
+              high = w.k;
+              short = rw e i;
+              there = rw e within;
+              some = lo;
+              few = hi;
+              below = first_small sc.half sc.widths.b d (omega arith);
+            };
+            is = rw (e, codes, direction_is D);
           }
 
 -- ---- the outcome of the call on an accepted record
@@ -105,25 +105,9 @@ module _ {view : ViewName} (line : ℕ) {s : List ℕ} where
 
 -- ---- what code answers, in whatever form the elements stand, each in so many places
 
-module _ (form : List ℕ → List ℕ) (each : ℕ) (undo : (n m : ℕ) → each * n ≡ each * m → n ≡ m) (long : (xs : List ℕ) → length (form xs) ≡ each * length xs)
-    {s : List ℕ} {o : Outcome ℕ} {from to : ℕ} {x : CodeWalk} (D : DrawsPart s o from to x) (before : List ℕ) where
-  drawn_is : x.drawn ≡ length D.value
-  drawn_is =
-      let d = D.draws in
-      d.drawn ∙ sym (trail_length x.half x.k false x.heading d.there.value) ∙ ap length d.is
-
-  pub can_draw : each * x.drawn ≤ length before → CanDraw each x.k x.count x.half x.heading (part s from (to - from)) x.codes.at (length before)
-  can_draw l =
-      let d = D.draws in
-      record { there = d.there; some = d.some; few = d.few; below = d.below; enough = rw d.drawn at l }
-
-  pub full : {lent : ℕ} → lent < x.drawn → AnswersAs form lent o before before (record { number = no_room; place = 0; length = 0 })
-  full {lent} l = answer_full form lent before D.is (omega (arith, drawn_is))
-
-  pub given_out : {lent : ℕ} {after : List ℕ} {n m : ℕ} → x.drawn ≤ lent → m ≡ each * n
-      → OfCodes x.k x.count (part s from (to - from)) x.codes.at (λ codes. Laid (form (follow x.half x.k false x.heading codes)) before after m)
-      → AnswersAs form lent o before after (record { number = 0; place = 0; length = n })
-  given_out {lent} {after} {n} l e w =
-      let d = D.draws in
-      let y = rw d.is at (w.is d.there.value d.there.behind d.there.reads) in
-      answer_given form lent before D.is after n (omega (arith, drawn_is)) (undo n (length D.value) (sym e ∙ y.count ∙ long D.value)) y.is
+pub given_out : (form : List ℕ → List ℕ) (each : ℕ) (undo : (n m : ℕ) → each * n ≡ each * m → n ≡ m) (long : (xs : List ℕ) → length (form xs) ≡ each * length xs)
+    {o : Outcome ℕ} {x : FoundLine} (D : Drawn o x) (before : List ℕ) {lent : ℕ} {after : List ℕ} {n m : ℕ} → x.drawn ≤ lent → m ≡ each * n → Laid (form (elements x.walk)) before after m
+    → AnswersAs form lent o before after (record { number = 0; place = 0; length = n })
+given_out form each undo long D before {lent} {after} {n} l e w =
+    let y = rw D.draws.is at w in
+    answer_given form lent before D.is after n (omega (arith, D.drawn)) (undo n (length D.value) (sym e ∙ y.count ∙ long D.value)) y.is

@@ -8,14 +8,15 @@ use bits::four_at;
 use card_reading::card_read;
 use card_writing::card_write;
 use format::{Header, ViewName};
-use judge::{Verdict, judge};
+use judge::judge;
 use list_text::input::read_full;
-use list_text::{listing, number, refused, text};
+use list_text::{listing, refused, text};
 use outcome::Refusal;
 use pores_reading::pores;
 use quality_reading::quality;
 use reading::read;
 use segment::{payload, segment};
+use std::fmt::Display;
 use std::rt::Files;
 use std::{env, fs, io};
 use trailing::trail;
@@ -52,9 +53,9 @@ fn start(rt: &impl Print, name: &str, view: ViewName, place: usize) -> io::Resul
     print!(rt; "{name} {} {} {place}:", view.finger, view.number)
 }
 
-// The first `count` numbers of a trail.
-fn numbers(rt: &impl Print, trail: &[u16], count: usize) -> io::Result<()> {
-    for x in trail.iter().take(count) {
+// The first `count` numbers of a trail, or values of a local quality.
+fn numbers<T: Display>(rt: &impl Print, out: &[T], count: usize) -> io::Result<()> {
+    for x in out.iter().take(count) {
         print!(rt; " {x}")?;
     }
     Ok(())
@@ -73,14 +74,6 @@ fn trail_of(rt: &impl Print, bytes: &[u8], view: ViewName, line: usize) -> io::R
     Ok(true)
 }
 
-// The first `count` values of a local quality.
-fn values(rt: &impl Print, out: &[u8], count: usize) -> io::Result<()> {
-    for x in out.iter().take(count) {
-        print!(rt; " {x}")?;
-    }
-    Ok(())
-}
-
 // The values of local quality, where the segment has some.
 fn quality_of(rt: &impl Print, bytes: &[u8], view: ViewName, place: usize) -> io::Result<()> {
     let mut out = [0u8; 256];
@@ -89,15 +82,14 @@ fn quality_of(rt: &impl Print, bytes: &[u8], view: ViewName, place: usize) -> io
         return Ok(());
     }
     start(rt, "quality", view, place)?;
-    values(rt, &out, answer.length)?;
+    numbers(rt, &out, answer.length)?;
     text(rt, b"\n")
 }
 
 // The first `count` numbers of pores, four bytes each.
 fn distances(rt: &impl Print, out: &[u8], count: usize) -> io::Result<()> {
-    for i in 0..count.min(out.len() / 4) {
-        text(rt, b" ")?;
-        number(rt, four_at(out, 4 * i))?;
+    for bytes in out.chunks_exact(4).take(count) {
+        print!(rt; " {}", four_at(bytes, 0))?;
     }
     Ok(())
 }
@@ -151,7 +143,7 @@ fn segments_of(rt: &impl Print, bytes: &[u8], view: ViewName) -> io::Result<()> 
 // Whether there is such a view.
 fn parts_of(rt: &impl Print, bytes: &[u8], view: ViewName) -> io::Result<bool> {
     let first = segment(bytes, view, 0);
-    if first.number == Refusal::NO_VIEW {
+    if first.number == Refusal::NoView.number() {
         return Ok(false);
     }
     trails_of(rt, bytes, view)?;
@@ -171,7 +163,7 @@ fn views_of(rt: &impl Print, bytes: &[u8], finger: u32) -> io::Result<()> {
 
 fn of_record(rt: &impl Print, bytes: &[u8]) -> io::Result<()> {
     listing(rt, bytes)?;
-    if let Verdict::Refused { .. } = judge(bytes) {
+    if judge(bytes).is_err() {
         return refused_at(rt, bytes);
     }
     sheet(rt, bytes)?;

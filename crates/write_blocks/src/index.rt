@@ -13,12 +13,10 @@ fn list_put(out: &mut [u8], at: usize, value: &[u8], w: usize, l: usize) -> usiz
     let count = value.len() / 2;
     let mut p = put_bits(out, at, count, w);
     let mut before = l;
-    let mut i: usize = 0;
-    while i < count {
+    for i in 0..count {
         let number = two_at(value, 2 * i);
         p = put_bits(out, p, before - number, w);
         before = number;
-        i += 1;
     }
     p
 }
@@ -30,13 +28,11 @@ fn lists_put(out: &mut [u8], at: usize, sheet: &[u8], a: usize, w: usize, lines:
 {
     let mut p = at;
     let mut next = a;
-    let mut l: usize = 0;
-    while l < lines {
+    for l in 0..lines {
         let from = next + 3;
         let to = from + two_at(sheet, next + 1);
         p = list_put(out, p, &sheet[from..to], w, l);
         next = to;
-        l += 1;
     }
     Done {
         next,

@@ -31,10 +31,8 @@ fn codes_put(out: &mut [u8], at: usize, value: &[u8], k: usize) -> usize
 {
     let top = pow2(k);
     let mut p = at;
-    let mut i: usize = 0;
-    while i < value.len() {
-        p = put_bits(out, p, wide(value[i]) % top, k);
-        i += 1;
+    for code in value {
+        p = put_bits(out, p, wide(*code) % top, k);
     }
     p
 }

@@ -13,7 +13,7 @@ fn put_one(out: &mut [u8], n: usize) -> usize
     requires { (1 ≤ length out.old) × (n < 256) }
     ensures { Laid (n ∷ []) out.old out.new result }
 {
-    out[0] = (n % 256) as u8;
+    out[0] = n as u8;
     1
 }
 

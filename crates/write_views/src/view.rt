@@ -1,5 +1,6 @@
 // A view of the record, from its fields in the sheet: the header's bytes as they stand, then the three blocks, each behind its length.
-// A block is written first, and its length in front of it when it is known.
+// A block is written first, and its length in front of it when it is known. What a block asks and leaves is a record of its own: one
+// function over closures would have to carry all three.
 ghost use Rattle.write_views.specs.Views.{SkeletonThere, SkeletonOut, IndexSizedThere, IndexBehindLength, SegmentsSizedThere, SegmentsSized, ViewToWrite, ViewPut};
 
 use format::Widths;

@@ -1,6 +1,8 @@
 -- From what judges a sheet's fields, grammar and values to the sheet's record or refusal; and from there to the statement of the
 -- call.
-use mathlib.Core.Path.{◌≡◌, refl, sym, ap, ◌∙◌}
+use Rattle.std.specs.Prelude.{Option, Some, None, Ok, Err}
+use Rattle.std.specs.Option.{ok_or}
+use mathlib.Core.Path.{◌≡◌, refl, sym, ap, ◌∙◌, subst}
 use Prim.Native.Nat.{ℕ, ◌≤◌, ◌<◌}
 use native.Mathlib.Omega.{arith}
 use mathlib.Core.Bool.{Bool, true, false}
@@ -31,6 +33,17 @@ use Rattle.find_parts.specs.Stored.{record_out}
 use Rattle.write_views.specs.Records.{RecordThere, RecordPut}
 use Rattle.find_parts.proofs.Laws.Written.{stored_long, written}
 use Rattle.writing.specs.JudgedSheet.{SheetRight, SheetRefused, InOrder}
+
+-- ---- an option that an error stands in for
+
+module _ {A E : Type 0} (P : Option A → Type 0) (e : E) where
+  pub of_ok : (o : Option A) {x : A} → Ok x ≡ ok_or o e → P o → P (Some x)
+  of_ok (Some y) {x} z h = let d : Some y ≡ Some x = cc in subst P d h
+  of_ok None z h = cc
+
+  pub of_err : (o : Option A) {d : E} → Err d ≡ ok_or o e → P o → (d ≡ e) × P None
+  of_err (Some y) z h = cc
+  of_err None {d} z h = (cc, h)
 
 -- ---- the sheet
 

@@ -1,12 +1,13 @@
--- What the judge of a sheet answers: of its record, how many views and bytes it has; or the number of the sheet's refusal.
-use Rattle.std.specs.Prelude.{◌≡◌, ℕ, Bool, true, false, List, [], length}
+-- What the judge of a sheet answers: of its record, how many views and bytes it has; or the sheet's refusal.
+use Rattle.std.specs.Prelude.{◌≡◌, ℕ, Bool, true, false, Result, Ok, Err, List, [], length}
 use Rattle.bits.specs.Codec.{got, refused}
 use Rattle.outcome.specs.Refusals.{bad_sheet}
+use Rattle.outcome.specs.Why.{number}
+use Rattle.outcome.specs.declared.refusal.Refusal.{Refusal}
 use Rattle.format.specs.Record.{Record, size}
 use Rattle.sheet.specs.Sheet.{read_sheet}
 use Rattle.check_values.specs.Sheet.{ValuesThere}
-use Rattle.writing.specs.declared.JudgedSheet.{JudgedSheet}
-use Rattle.writing.specs.declared.JudgedSheet.TheVariants as judged
+use Rattle.check_values.specs.declared.Valued.{Valued}
 
 -- n views, z bytes
 pub record SheetRight (s : List ℕ) (n z : ℕ) : Type 0 where
@@ -24,6 +25,6 @@ abbrev pub InOrder : List ℕ → Bool → Type 0
 InOrder s true = ValuesThere s
 InOrder s false = SheetRefused s bad_sheet
 
-abbrev pub SheetIs : List ℕ → JudgedSheet → Type 0
-SheetIs s (judged.Right n z) = SheetRight s n z
-SheetIs s (judged.Refused e) = SheetRefused s e
+abbrev pub SheetIs : List ℕ → Result Valued Refusal → Type 0
+SheetIs s (Ok r) = SheetRight s r.views r.bytes
+SheetIs s (Err e) = SheetRefused s (number e)

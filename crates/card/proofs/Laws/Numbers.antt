@@ -25,7 +25,7 @@ use Rattle.outcome.specs.Numbers.{among, Gives, card_read_numbers, card_write_nu
 use Rattle.outcome.specs.Placed.{Placed}
 use Rattle.outcome.specs.Outcome.{refused, given, Answers}
 use Rattle.outcome.specs.declared.Answer.{Answer}
-use Rattle.outcome.proofs.Refused.{Refused, refused_map}
+use Rattle.outcome.proofs.Refusing.{Refused, refused_map}
 use Rattle.outcome.proofs.Numbers.{RefusedBy, answer_number, never_zero, among_first}
 use Rattle.outcome.proofs.Placed.{answer_place, no_place}
 use Rattle.format.specs.Limits.{most_bytes}

@@ -3,7 +3,7 @@
 use mathlib.Core.Path.{◌≡◌, sym, ap, ◌∙◌, subst}
 use Prim.Native.Nat.{ℕ, ◌+◌, ◌-◌, ◌≤◌, ◌<◌}
 use native.Mathlib.Omega.{arith}
-use mathlib.Core.Bool.{Bool, true}
+use mathlib.Core.Bool.{Bool, true, ◌&&◌, and_assoc, and-true}
 use mathlib.Core.List.{List, [], ◌∷◌, ◌++◌, append_assoc}
 use lib.ListN.{length, take, drop, length-append}
 use lib.Seq.{take_at, drop_at}
@@ -52,6 +52,13 @@ same_scale_is s t e =
     let ratio = eqb→eq s.ratio t.ratio h.1.1.1.1.1.0 in
     let half = eqb→eq s.half t.half h.1.1.1.1.1.1.0 in
     λ i. record { points = points i; widths = record { c = c i; b = b i; k = k i }; step = step i; ratio = ratio i; half = half i }
+
+-- the derived equality, to which the widths are one part, compares the same seven numbers
+pub same_scale_derived : (s t : Scale)
+    → (eqb s.points t.points
+    && ((eqb s.widths.c t.widths.c && (eqb s.widths.b t.widths.b && eqb s.widths.k t.widths.k)) && (eqb s.step t.step && (eqb s.ratio t.ratio && eqb s.half t.half))))
+    ≡ same_scale s t
+same_scale_derived s t = simp (and_assoc, and-true)
 
 -- ---- how long an object is
 

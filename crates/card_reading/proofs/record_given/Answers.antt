@@ -7,22 +7,14 @@ use Rattle.card_reading.proofs.record_given.Goals as goal
 
 pub returns-then-value : goal.returns-then-value
 returns-then-value c =
-    rw c.refuse.ensures (record { is = λ o e. answer_refused (λ xs. xs) _ c.args.out.now (e ∙ too_long_lem c.args.s c.args.value.now c.if-value.true) })
-
-pub overflow_add-value : goal.overflow_add-value
-overflow_add-value c =
-    omega (arith, c.if-value.false)
+    rw c.into.ensures (record { is = λ o e. answer_refused (λ xs. xs) _ c.args.out.now (e ∙ too_long_lem c.args.s c.args.value.now c.if-value.true) })
 
 pub returns-then-out-value : goal.returns-then-out-value
 returns-then-out-value c =
-    rw c.refuse-then-out-value.ensures (record { is = λ o e. answer_full (λ xs. xs) _ c.args.out.now (e ∙ short_enough c.args.s c.args.value.now c.if-value.false) (omega (arith, c.if-out-value.true, record_long c.args.s c.args.value.now)) })
-
-pub record_put-length-requires : goal.record_put-length-requires
-record_put-length-requires c =
-    record { scale = c.requires; short = omega (arith, c.if-value.false); room = omega (arith, c.if-out-value.false) }
+    rw c.into-then-out-value.ensures (record { is = λ o e. answer_full (λ xs. xs) _ c.args.out.now (e ∙ short_enough c.args.s c.args.value.now c.if-value.false) (omega (arith, c.if-out-value.true, record_long c.args.s c.args.value.now)) })
 
 pub returns : goal.returns
 returns c =
     let l = record_long c.args.s c.args.value.now in
-    let p = c.record_put-length.ensures in
-    rw c.accept.ensures (record { is = λ o e. answer_given (λ xs. xs) _ c.args.out.now (e ∙ short_enough c.args.s c.args.value.now c.if-value.false) _ _ (omega (arith, l, c.if-out-value.false)) p.count p.is })
+    let p = c.record_put.ensures in
+    record { is = λ o e. answer_given (λ xs. xs) _ c.args.out.now (e ∙ short_enough c.args.s c.args.value.now c.if-value.false) _ _ (omega (arith, l, c.if-out-value.false)) p.count p.is }

@@ -120,10 +120,11 @@ module _ {bytes before out : List ℕ} {added last at i x more : ℕ} (o : Putti
       }
 
 pub putting_done : {bytes before out : List ℕ} {added last at i : ℕ} → Putting bytes before out added last at i → length bytes ≤ i
-    → Laid (joined two (run_of bytes)) before out (2 * i)
-putting_done {bytes} {i = i} o l =
+    → Laid (joined two (run_of bytes)) before out (2 * length bytes)
+putting_done {bytes} {at = at} {i = i} o l =
     let k : length (run_of bytes) ≤ i = rw (length_run bytes) l in
-    rw (← o.place) (rw (take_all i (run_of bytes) k) at o.laid)
+    let e : 2 * length bytes ≡ at = omega (arith, o.place, o.passed.within) in
+    rw e (rw (take_all i (run_of bytes) k) at o.laid)
 
 -- ---- the answers
 

@@ -1,6 +1,5 @@
 -- One low byte after the other; the invariant is what is laid so far.
-use native.Mathlib.Omega.{arith}
-use Prim.Native.Nat.{◌-◌, ◌*◌, ◌+◌}
+use Prim.Native.Nat.{◌*◌, ◌+◌}
 use Rattle.card_runs.proofs.Laws.Low.{lowering_start, lowering_next, lowering_done}
 use Rattle.card_runs.proofs.put_low.Goals as goal
 
@@ -10,7 +9,7 @@ loop-i-init c = lowering_start c.args.run.now c.args.out.now
 pub loop-i-preserved : goal.loop-i-preserved
 loop-i-preserved c =
     let l = c.loop-i in
-    lowering_next l.invariant c.loop-i-test.true c.requires (omega (arith, c.shared_slice_known-1.given (2 * l.i + 1)))
+    lowering_next l.invariant c.loop-i-test.true c.requires (c.type_inv.run (2 * l.i + 1)).fits
 
 pub returns : goal.returns
 returns c = lowering_done c.loop-i.invariant c.loop-i-test.false

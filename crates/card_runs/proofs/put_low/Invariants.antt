@@ -1,11 +1,6 @@
 -- One low byte after the other; the invariant is what is laid so far.
-use Prim.Native.Nat.{◌-◌, ◌/◌}
-use lib.ListN.{length}
 use Rattle.card_runs.proofs.Laws.Low.{Lowering}
 use Rattle.card_runs.proofs.put_low.Given as goal
 
 abbrev pub invariant-loop-i : goal.invariant-loop-i
 invariant-loop-i l = Lowering l.run l.initial.out l.out l.i
-
-abbrev pub decreases-loop-i : goal.decreases-loop-i
-decreases-loop-i l = length l.run / 2 - l.i

@@ -1,11 +1,8 @@
 -- The run number by number. The loop's invariant: what is left of it is as right as the whole.
-use Prim.Native.Nat.{◌-◌}
-use lib.ListN.{length}
+use mathlib.Core.Path.{◌≡◌}
+use Rattle.std.specs.Slice.Iter.{chunks_exact_rest, chunks_exact_size}
 use Rattle.card_runs.proofs.Laws.Low.{Climbing}
 use Rattle.card_runs.proofs.run_right.Given as goal
 
-abbrev pub invariant-loop-a : goal.invariant-loop-a
-invariant-loop-a l = Climbing l.run l.last l.a
-
-abbrev pub decreases-loop-a : goal.decreases-loop-a
-decreases-loop-a l = length l.run - l.a
+abbrev pub invariant-loop-pair : goal.invariant-loop-pair
+invariant-loop-pair l = (chunks_exact_size l.pair-iterator ≡ 2) × Climbing l.run (chunks_exact_rest l.pair-iterator) l.last

@@ -24,7 +24,7 @@ use Rattle.card.specs.Length.{object_length}
 use Rattle.card.specs.Object.{any_bytes, object_head, data_object, Other, other, others}
 use Rattle.card_shape.specs.Shape.{Bad, WholeValue, CutValue, length_bad, value_past}
 use Rattle.card_shape.proofs.Laws.Value.{any_bytes_lem}
-use Rattle.find_parts.specs.declared.view.Part.{Part}
+use Rattle.format.specs.declared.Part.{Part}
 
 -- the rest of the bytes, as it is lent
 pub rest_is : (s : List ℕ) (a : ℕ) → take (length s - a) (drop a s) ≡ drop a s

@@ -20,7 +20,7 @@ use Rattle.outcome.specs.Refusals.{bad_object}
 use Rattle.card.specs.Object.{Other, others, object_head, data_object, template, whole_object}
 use Rattle.card_shape.specs.Shape.{Bad, WholeValue, CutValue}
 use Rattle.card_shape.proofs.Laws.Others.{counted_is, object_cut, object_good}
-use Rattle.find_parts.specs.declared.view.Part.{Part}
+use Rattle.format.specs.declared.Part.{Part}
 
 -- ---- a part that is refused, inside what is refused for it
 

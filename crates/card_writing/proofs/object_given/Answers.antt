@@ -18,10 +18,10 @@ pub returns-then-out-tagged_bytes : goal.returns-then-out-tagged_bytes
 returns-then-out-tagged_bytes c =
     let value = c.args.value.now in
     let e = whole_is value c.tagged_bytes-inner.ensures c.tagged_bytes.ensures in
-    record { is = λ o q. rw c.refuse.ensures (answer_full (λ xs. xs) _ c.args.out.now q (omega (arith, e, c.if-out-tagged_bytes.true))) }
+    record { is = λ o q. rw c.into.ensures (answer_full (λ xs. xs) _ c.args.out.now q (omega (arith, e, c.if-out-tagged_bytes.true))) }
 
-pub object_put-length-requires : goal.object_put-length-requires
-object_put-length-requires c =
+pub object_put-requires : goal.object_put-requires
+object_put-requires c =
     let value = c.args.value.now in
     let e = whole_is value c.tagged_bytes-inner.ensures c.tagged_bytes.ensures in
     record { short = c.requires; room = omega (arith, e, c.if-out-tagged_bytes.false) }
@@ -30,5 +30,5 @@ pub returns : goal.returns
 returns c =
     let value = c.args.value.now in
     let e = whole_is value c.tagged_bytes-inner.ensures c.tagged_bytes.ensures in
-    let l = c.object_put-length.ensures.laid in
-    record { is = λ o q. rw c.accept.ensures (answer_given (λ xs. xs) _ c.args.out.now q _ _ (omega (arith, e, c.if-out-tagged_bytes.false)) l.count l.is) }
+    let l = c.object_put.ensures.laid in
+    record { is = λ o q. answer_given (λ xs. xs) _ c.args.out.now q _ _ (omega (arith, e, c.if-out-tagged_bytes.false)) l.count l.is }

@@ -3,7 +3,7 @@
 use mathlib.Core.Path.{◌≡◌, refl, sym, ap, ◌∙◌, subst}
 use Prim.Native.Nat.{ℕ, ◌+◌, ◌-◌, ◌/◌, ◌≤◌}
 use native.Mathlib.Omega.{arith}
-use mathlib.Core.Bool.{not}
+use mathlib.Core.Bool.{Bool, true, not}
 use mathlib.Core.Option.{Option, none, some}
 use mathlib.Core.List.{List, [], ◌∷◌}
 use lib.ListN.{length}
@@ -24,7 +24,8 @@ use Rattle.sheet.specs.Values.{width_value, list_value}
 use Rattle.sheet.specs.Sheet.{index_from}
 use Rattle.check_fields.specs.Fields.{FieldsAt}
 use Rattle.check_fields.proofs.Laws.{field_there, its_value, fields_behind}
-use Rattle.check_shape.specs.Shape.{starts}
+use Rattle.check_shape.specs.Shape.{starts, Starts}
+use Rattle.check_shape.proofs.Laws.Stand.{told}
 use Rattle.check_value.specs.Worth.{Wrong}
 use Rattle.check_blocks.specs.Run.{list_long, list_bits, ListFields, RunRight, RunWrong}
 use Rattle.check_blocks.specs.Index.{IndexToCheck, IndexRight, IndexWrong}
@@ -52,7 +53,7 @@ pub record IndexParts (s : List ℕ) (p : ℕ) (fs : List Field) : Type 0 where
   pub holds : part s (p + 3) (p + 4 - (p + 3)) ≡ width
   pub lists : ListFields s (p + 4) others
 
-pub index_parts : {s : List ℕ} {p : ℕ} (fs : List Field) → IndexToCheck s p fs → T (starts 4 fs) → IndexParts s p fs
+index_parts : {s : List ℕ} {p : ℕ} (fs : List Field) → IndexToCheck s p fs → T (starts 4 fs) → IndexParts s p fs
 index_parts [] h t = absurd t
 index_parts {s} {p} (f ∷ fs) h t =
     let e : index_in (f ∷ fs) ≡ some (f.value, front 5 fs) = pick_yes (eqb f.tag 4) _ _ t in
@@ -73,6 +74,10 @@ index_parts {s} {p} (f ∷ fs) h t =
       holds = v;
       lists = record { run = record { stand = subst (λ (k : ℕ). FieldsAt s k fs) x (fields_behind h.stand); right = d }; few = omega (arith, h.few, count) };
     }
+
+-- where a call has found it
+pub index_there : {s : List ℕ} {p : ℕ} {r : Bool} → Starts 4 s p r → r ≡ true → (fs : List Field) → IndexToCheck s p fs → IndexParts s p fs
+index_there S e fs h = index_parts fs h (told e (S.is fs h.stand))
 
 -- a width that is read is at most 16
 pub width_most : (v : List ℕ) (w : ℕ) → width_value.dec (bits_of v) ≡ got w [] → w ≤ 16

@@ -4,10 +4,9 @@ use mathlib.Core.Path.{◌≡◌, ap, ◌∙◌, subst}
 use Prim.Native.Nat.{ℕ, ◌+◌, ◌-◌, ◌*◌, ◌≤◌, ◌<◌}
 use native.Mathlib.Omega.{arith}
 use native.Mathlib.Nat.{mul_comm, mul-le-mul}
-use mathlib.Core.Bool.{not}
+use mathlib.Core.Bool.{Bool, true, false}
 use mathlib.Core.List.{List, []}
-use lib.ListN.{length}
-use lib.Dec.{T}
+use lib.ListN.{length, get_or}
 use Rattle.bits.specs.ChoiceLaws.{within_low, within_high}
 use Rattle.bits.specs.Bytes.{bits_of}
 use Rattle.bits.specs.Codec.{got, refused}
@@ -20,10 +19,11 @@ use Rattle.find_parts.proofs.Laws.Line.{line_bits_lem}
 use Rattle.sheet.specs.Fields.{Field}
 use Rattle.sheet.specs.Values.{line_value}
 use Rattle.sheet.specs.Sheet.{alike}
-use Rattle.check_shape.specs.Shape.{starts}
+use Rattle.check_shape.specs.Shape.{Starts}
+use Rattle.check_shape.proofs.Laws.Stand.{denied}
 use Rattle.check_value.specs.Worth.{Right, Wrong}
-use Rattle.check_blocks.specs.Run.{line_long, line_bits, LineFields, RunWrong, RunRight, RightAre}
-use Rattle.check_blocks.proofs.Laws.Stand.{Held, Next}
+use Rattle.check_blocks.specs.Run.{line_long, line_bits, SomeFields, LineFields, RunWrong, RunRight, RightAre}
+use Rattle.check_blocks.proofs.Laws.Stand.{Held, Next, three, next}
 use Rattle.check_blocks.proofs.Laws.Run.{Going, going_first, going_all, going_wrong, going_on, its_right, one_more}
 
 -- ---- one line
@@ -64,7 +64,7 @@ pub record LineNext (w : Widths) (s : List ℕ) (a p z : ℕ) (g : LinesGoing w 
   pub is : (fs : List Field) (h : LineFields s a fs) → Next 3 s p m (g.is fs h).left
 
 module _ {w : Widths} {s : List ℕ} {a p z : ℕ} (g : LinesGoing w s a p z) where
-  pub line_next : (fs : List Field) (h : LineFields s a fs) → {m : ℕ} → ((fs : List Field) (h : LineFields s a fs) → Next 3 s p m (g.is fs h).left) → LineNext w s a p z g m
+  line_next : (fs : List Field) (h : LineFields s a fs) → {m : ℕ} → ((fs : List Field) (h : LineFields s a fs) → Next 3 s p m (g.is fs h).left) → LineNext w s a p z g m
   line_next fs h {m} k =
       let N = k fs h in
       let v : List ℕ = N.field.value in
@@ -76,6 +76,14 @@ module _ {w : Widths} {s : List ℕ} {a p z : ℕ} (g : LinesGoing w s a p z) wh
         few = omega (arith, one_more (g.is fs h) N, h.few);
         is = k;
       }
+
+  -- where a call has found one
+  module _ (F : SomeFields (LineFields s a)) {r : Bool} (S : Starts 3 s p r) (e : r ≡ true) where
+    pub line_three : p + 3 ≤ length s
+    line_three = three 3 S e (g.is F.value F.holds).stand
+
+    pub line_there : {m : ℕ} → m ≡ get_or s (p + 1) 0 * 256 + get_or s (p + 1 + 1) 0 → LineNext w s a p z g m
+    line_there y = line_next F.value F.holds (λ fs h. next 3 S e (g.is fs h).stand y)
 
   module _ {m : ℕ} (N : LineNext w s a p z g m) where
     abbrev v : List ℕ
@@ -103,11 +111,10 @@ module _ {w : Widths} {s : List ℕ} {a p z : ℕ} (g : LinesGoing w s a p z) wh
         let k = counted_few w (m - 12) n (omega (arith, N.most)) in
         (codes_few w (m - 12) n (omega (arith, N.most)), k, omega (arith, k, g.small, N.few))
 
-  pub lines_all : (fs : List Field) → LineFields s a fs → ((gs : List Field) (h : LineFields s a gs) → T (not (starts 3 (g.is gs h).left)))
-      → RightAre (1024 * 2132) a p z (LineFields s a) (λ gs. RunRight 3 (λ _. line_value w) alike tt gs (line_bits w) s p z)
-  lines_all fs h k =
+  pub lines_all : SomeFields (LineFields s a) → {r : Bool} → Starts 3 s p r → r ≡ false → RightAre (1024 * 2132) a p z (LineFields s a) (λ gs. RunRight 3 (λ _. line_value w) alike tt gs (line_bits w) s p z)
+  lines_all F S e =
       record {
-        small = omega (arith, g.small, (g.is fs h).count, h.few);
+        small = omega (arith, g.small, (g.is F.value F.holds).count, F.holds.few);
         on = g.on;
-        is = λ gs l. going_all (g.is gs l) (k gs l);
+        is = λ gs h. going_all (g.is gs h) (denied e (S.is (g.is gs h).left (g.is gs h).stand));
       }

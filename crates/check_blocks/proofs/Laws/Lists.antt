@@ -5,10 +5,9 @@ use Prim.Native.Nat.{ℕ, ◌+◌, ◌-◌, ◌*◌, ◌/◌, ◌%◌, ◌≤◌
 use native.Mathlib.Omega.{arith}
 use native.Mathlib.Numerals.{add-one}
 use native.Mathlib.Nat.{mul-le-mul}
-use mathlib.Core.Bool.{not}
+use mathlib.Core.Bool.{Bool, true, false}
 use mathlib.Core.List.{List, []}
-use lib.ListN.{length}
-use lib.Dec.{T}
+use lib.ListN.{length, get_or}
 use mir.Facts.{eqb_yes}
 use Rattle.bits.specs.Bytes.{bits_of}
 use Rattle.bits.specs.Codec.{got, refused}
@@ -17,10 +16,11 @@ use Rattle.outcome.specs.Refusals.{bad_value}
 use Rattle.format.specs.Index.{up}
 use Rattle.sheet.specs.Fields.{Field}
 use Rattle.sheet.specs.Values.{list_value}
-use Rattle.check_shape.specs.Shape.{starts}
+use Rattle.check_shape.specs.Shape.{Starts}
+use Rattle.check_shape.proofs.Laws.Stand.{denied}
 use Rattle.check_value.specs.Worth.{Right, Wrong}
-use Rattle.check_blocks.specs.Run.{list_long, list_bits, ListFields, RunWrong, RunRight, RightAre}
-use Rattle.check_blocks.proofs.Laws.Stand.{Held, Next}
+use Rattle.check_blocks.specs.Run.{list_long, list_bits, SomeFields, ListFields, RunWrong, RunRight, RightAre}
+use Rattle.check_blocks.proofs.Laws.Stand.{Held, Next, three, next}
 use Rattle.check_blocks.proofs.Laws.Run.{Going, going_first, going_all, going_wrong, going_on, its_right, one_more}
 
 -- of n neighbours
@@ -46,7 +46,7 @@ pub record ListNext (w : ℕ) (s : List ℕ) (a p l z : ℕ) (g : ListsGoing w s
   pub is : (fs : List Field) (h : ListFields s a fs) → Next 5 s p m (g.is fs h).left
 
 module _ {w : ℕ} {s : List ℕ} {a p l z : ℕ} (g : ListsGoing w s a p l z) where
-  pub list_next : (fs : List Field) (h : ListFields s a fs) → {m : ℕ} → ((fs : List Field) (h : ListFields s a fs) → Next 5 s p m (g.is fs h).left) → ListNext w s a p l z g m
+  list_next : (fs : List Field) (h : ListFields s a fs) → {m : ℕ} → ((fs : List Field) (h : ListFields s a fs) → Next 5 s p m (g.is fs h).left) → ListNext w s a p l z g m
   list_next fs h {m} k =
       let N = k fs h in
       let e : length N.field.value % 2 ≡ 0 = eqb_yes (its_right (g.is fs h) N) in
@@ -58,6 +58,14 @@ module _ {w : ℕ} {s : List ℕ} {a p l z : ℕ} (g : ListsGoing w s a p l z) w
         few = omega (arith, one_more (g.is fs h) N, h.few);
         is = k;
       }
+
+  -- where a call has found one
+  module _ (F : SomeFields (ListFields s a)) {r : Bool} (S : Starts 5 s p r) (e : r ≡ true) where
+    pub list_three : p + 3 ≤ length s
+    list_three = three 5 S e (g.is F.value F.holds).stand
+
+    pub list_there : {m : ℕ} → m ≡ get_or s (p + 1) 0 * 256 + get_or s (p + 1 + 1) 0 → ListNext w s a p l z g m
+    list_there y = list_next F.value F.holds (λ fs h. next 5 S e (g.is fs h).stand y)
 
   module _ {m : ℕ} (N : ListNext w s a p l z g m) where
     abbrev v : List ℕ
@@ -85,11 +93,10 @@ module _ {w : ℕ} {s : List ℕ} {a p l z : ℕ} (g : ListsGoing w s a p l z) w
               (ap (λ (k : ℕ). w + w * k) e));
         }
 
-  pub lists_all : (fs : List Field) → ListFields s a fs → ((gs : List Field) (h : ListFields s a gs) → T (not (starts 5 (g.is gs h).left)))
-      → RightAre (1024 * 524288) a p z (ListFields s a) (λ gs. RunRight 5 (list_value w) up 0 gs (list_bits w) s p z)
-  lists_all fs h k =
+  pub lists_all : SomeFields (ListFields s a) → {r : Bool} → Starts 5 s p r → r ≡ false → RightAre (1024 * 524288) a p z (ListFields s a) (λ gs. RunRight 5 (list_value w) up 0 gs (list_bits w) s p z)
+  lists_all F S e =
       record {
-        small = omega (arith, g.small, (g.is fs h).count, h.few);
+        small = omega (arith, g.small, (g.is F.value F.holds).count, F.holds.few);
         on = g.on;
-        is = λ gs j. going_all (g.is gs j) (k gs j);
+        is = λ gs h. going_all (g.is gs h) (denied e (S.is (g.is gs h).left (g.is gs h).stand));
       }

@@ -3,10 +3,10 @@
 use mathlib.Core.Path.{◌≡◌, ◌∙◌}
 use Prim.Native.Nat.{ℕ, ◌+◌, ◌-◌, ◌*◌, ◌≤◌}
 use native.Mathlib.Omega.{arith}
-use mathlib.Core.Bool.{not}
+use mathlib.Core.Bool.{Bool, true, false}
 use mathlib.Core.List.{List, []}
-use lib.ListN.{length, take, drop, length-drop}
-use lib.Dec.{T, leb→le}
+use lib.ListN.{length, get_or, take, drop, length-drop}
+use lib.Dec.{leb→le}
 use Rattle.bits.specs.Bits.{Bits, number_of_bits}
 use Rattle.bits.specs.Bytes.{bits_of}
 use Rattle.bits.specs.BytesLaws.{length_bits_of}
@@ -19,9 +19,10 @@ use Rattle.format.specs.Segments.{Segment}
 use Rattle.sheet.specs.Fields.{Field}
 use Rattle.sheet.specs.Values.{segment_value}
 use Rattle.sheet.specs.Sheet.{alike}
-use Rattle.check_shape.specs.Shape.{starts}
+use Rattle.check_shape.specs.Shape.{Starts}
+use Rattle.check_shape.proofs.Laws.Stand.{denied}
 use Rattle.check_blocks.specs.Run.{segment_long, segment_takes, Segments, RunRight}
-use Rattle.check_blocks.proofs.Laws.Stand.{Next}
+use Rattle.check_blocks.proofs.Laws.Stand.{Next, three, next}
 use Rattle.check_blocks.proofs.Laws.Run.{Going, going_first, going_all, its_right, going_on}
 
 -- ---- one segment
@@ -50,10 +51,16 @@ pub segments_first : {s : List ℕ} {p : ℕ} {fs : List Field} → Segments s p
 segments_first h = (0, going_first h)
 
 module _ {s : List ℕ} {fs : List Field} {p z : ℕ} (g : SegmentsGoing s fs p z) where
-  pub segments_next : {m : ℕ} → Next 6 s p m g.1.left → SegmentsGoing s fs (p + 3 + m) (z + (m + 2))
+  pub segment_three : {r : Bool} → Starts 6 s p r → r ≡ true → p + 3 ≤ length s
+  segment_three S e = three 6 S e g.1.stand
+
+  segments_next : {m : ℕ} → Next 6 s p m g.1.left → SegmentsGoing s fs (p + 3 + m) (z + (m + 2))
   segments_next {m} N =
       let S = segment_in N.field.value (leb→le 2 (length N.field.value) (its_right g.1 N)) in
       (g.0 + 1, going_on g.1 N S.reads (omega (arith, S.bytes, N.size)))
 
-  pub segments_all : T (not (starts 6 g.1.left)) → RunRight 6 (λ _. segment_value) alike tt fs segment_takes s p z
-  segments_all h = going_all g.1 h
+  pub segments_on : {r : Bool} → Starts 6 s p r → r ≡ true → {m : ℕ} → m ≡ get_or s (p + 1) 0 * 256 + get_or s (p + 1 + 1) 0 → SegmentsGoing s fs (p + 3 + m) (z + (m + 2))
+  segments_on S e y = segments_next (next 6 S e g.1.stand y)
+
+  pub segments_all : {r : Bool} → Starts 6 s p r → r ≡ false → RunRight 6 (λ _. segment_value) alike tt fs segment_takes s p z
+  segments_all S e = going_all g.1 (denied e (S.is g.1.left g.1.stand))

@@ -2,6 +2,7 @@
 use mathlib.Core.Path.{◌≡◌, refl, sym, ap, ◌∙◌, subst}
 use Prim.Native.Nat.{ℕ, ◌+◌, ◌-◌, ◌*◌, ◌≤◌, ◌<◌}
 use native.Mathlib.Omega.{arith}
+use mathlib.Core.Bool.{Bool, true}
 use mathlib.Core.List.{List, [], ◌∷◌}
 use lib.ListN.{length, get_or}
 use lib.Dec.{T}
@@ -10,7 +11,8 @@ use Rattle.bits.proofs.Laws.Parts.{part}
 use Rattle.sheet.specs.Fields.{Field}
 use Rattle.check_fields.specs.Fields.{FieldsAt}
 use Rattle.check_fields.proofs.Laws.{field_there, its_size, its_value, fields_behind}
-use Rattle.check_shape.specs.Shape.{starts}
+use Rattle.check_shape.specs.Shape.{starts, Starts}
+use Rattle.check_shape.proofs.Laws.Stand.{told}
 
 -- the m bytes of a value, as code cuts them out behind the three at byte p
 pub record Held (s : List ℕ) (p m : ℕ) : Type 0 where
@@ -30,12 +32,11 @@ pub record Next (t : ℕ) (s : List ℕ) (p m : ℕ) (fs : List Field) : Type 0 
   pub behind : FieldsAt s (p + 3 + m) others
 
 module _ (t : ℕ) {s : List ℕ} {p : ℕ} where
-  -- three bytes of it are there
-  pub three : {fs : List Field} → FieldsAt s p fs → T (starts t fs) → p + 3 ≤ length s
-  three {fs = []} h b = absurd b
-  three {fs = f ∷ fs} h b = omega (arith, field_there h)
+  first_three : {fs : List Field} → FieldsAt s p fs → T (starts t fs) → p + 3 ≤ length s
+  first_three {fs = []} h b = absurd b
+  first_three {fs = f ∷ fs} h b = omega (arith, field_there h)
 
-  pub next_field : {fs : List Field} → FieldsAt s p fs → T (starts t fs) → {m : ℕ} → m ≡ get_or s (p + 1) 0 * 256 + get_or s (p + 1 + 1) 0 → Next t s p m fs
+  next_field : {fs : List Field} → FieldsAt s p fs → T (starts t fs) → {m : ℕ} → m ≡ get_or s (p + 1) 0 * 256 + get_or s (p + 1 + 1) 0 → Next t s p m fs
   next_field {fs = []} h b e = absurd b
   next_field {fs = f ∷ fs} h b {m} e =
       let z : m ≡ length f.value = e ∙ its_size h in
@@ -53,3 +54,11 @@ module _ (t : ℕ) {s : List ℕ} {p : ℕ} where
         holds = v;
         behind = subst (λ (k : ℕ). FieldsAt s k fs) x (fields_behind h);
       }
+
+  -- where a call has found one: three bytes of it are there, and so is the whole, once its length is read
+  module _ {r : Bool} (S : Starts t s p r) (e : r ≡ true) {fs : List Field} (h : FieldsAt s p fs) where
+    pub three : p + 3 ≤ length s
+    three = first_three h (told e (S.is fs h))
+
+    pub next : {m : ℕ} → m ≡ get_or s (p + 1) 0 * 256 + get_or s (p + 1 + 1) 0 → Next t s p m fs
+    next y = next_field h (told e (S.is fs h)) y

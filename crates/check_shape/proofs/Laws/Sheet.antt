@@ -6,7 +6,7 @@ use native.Mathlib.Omega.{arith}
 use mathlib.Core.Bool.{Bool, true, false, not, ◌&&◌}
 use mathlib.Core.List.{List, [], ◌∷◌}
 use lib.ListN.{length, length-append, length-drop}
-use lib.Dec.{T, leb, eqb, le→leb}
+use lib.Dec.{T, leb, ltb, eqb, le→leb}
 use mir.Facts.{T_not, not_T, yes_and, yes_eqb}
 use Rattle.bits.specs.Choice.{within}
 use Rattle.bits.specs.ChoiceLaws.{T_true, T_false, eqb_true, eqb_false, eq_split}
@@ -97,10 +97,10 @@ module _ {s : List ℕ} {p : ℕ} {fs : List Field} (B : Begun 1 9 s p fs) where
     counted : grammar fs ≡ (within 1 255 n && true)
     counted = grammar_begun ∙ (λ i. within 1 255 (sym e i) && T_true (views_right B.others) t i)
 
-    pub no_views : n ≡ 0 → false ≡ grammar fs
-    no_views z = sym (counted ∙ ap (λ (k : ℕ). within 1 255 k && true) z)
+    pub no_views : n ≤ 0 → ltb 0 n ≡ grammar fs
+    no_views l = let z : n ≡ 0 = omega arith in ap (ltb 0) z ∙ sym (counted ∙ ap (λ (k : ℕ). within 1 255 k && true) z)
 
-    pub some_views : (n ≡ 0 → ⊥) → leb n 255 ≡ grammar fs
+    pub some_views : 0 < n → leb n 255 ≡ grammar fs
     some_views z = sym (counted ∙ go (leb 1 n) (leb n 255) (le→leb 1 n (omega arith)))
       where
         go : (a b : Bool) → T a → ((a && b) && true) ≡ b

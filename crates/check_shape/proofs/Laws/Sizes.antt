@@ -29,12 +29,12 @@ every_same P t u (x ∷ xs) h e = ap₂ (λ (a b : Bool). a && b) (e x h.0) (eve
 
 -- ---- one length
 
-pub sized_facts : (k : Kind) (n : ℕ) → T (right_size k n) → (k.least ≤ n) × (n ≤ k.most) × (n % k.step ≡ 0)
+sized_facts : (k : Kind) (n : ℕ) → T (right_size k n) → (k.least ≤ n) × (n ≤ k.most) × (n % k.step ≡ 0)
 sized_facts k n t =
     let (a, b) = and_yes (within k.least k.most n) (eqb (n % k.step) 0) t in
     (within_low k.least k.most n a, within_high k.least k.most n a, eqb_yes b)
 
-pub facts_sized : (k : Kind) (n : ℕ) → k.least ≤ n → n ≤ k.most → n % k.step ≡ 0 → T (right_size k n)
+facts_sized : (k : Kind) (n : ℕ) → k.least ≤ n → n ≤ k.most → n % k.step ≡ 0 → T (right_size k n)
 facts_sized k n a b e = yes_and (within k.least k.most n) (eqb (n % k.step) 0) (within_yes k.least k.most n a b) (yes_eqb e)
 
 -- ---- those of the fields

@@ -70,21 +70,17 @@ module _ (w l : ℕ) (ns : List ℕ) where
 -- ---- the value s of a list of line l, at width w
 
 module _ (w l : ℕ) (s : List ℕ) where
-  -- what is read from byte i on
+  -- what is read from the neighbour i on
   abbrev rest : ℕ → Read Bool (List ℕ)
-  rest i = fill_dec (field bad_value 16) bad_value (length (bits_of s) - i / 2) (drop (8 * i) (bits_of s))
+  rest i = fill_dec (field bad_value 16) bad_value (length (bits_of s) - i) (drop (16 * i) (bits_of s))
 
-  -- The neighbours before byte i are right, and the last of them, or the line, is `before`: the test of the rest is the test of all.
+  -- The first i neighbours are right, and the last of them, or the line, is `before`: the test of the rest is the test of all.
   pub record ListFrom (m before i : ℕ) : Type 0 where
-    pub even : i % 2 ≡ 0
-    pub within : i ≤ length s
     pub tests : keeping (right w m before) (rest i) ≡ keeping (right w 0 l) (fill_dec (field bad_value 16) bad_value (length (bits_of s)) (bits_of s))
 
   pub list_first : ListFrom 0 l 0
   list_first =
       record {
-        even = refl;
-        within = omega arith;
         tests = ap (λ (n : ℕ). keeping (right w 0 l) (fill_dec (field bad_value 16) bad_value n (bits_of s))) (sub-zero (length (bits_of s)));
       }
 
@@ -100,10 +96,10 @@ module _ (w l : ℕ) (s : List ℕ) where
     pub too_many : ltb (length s / 2) (2 ^ w) ≡ false → Wrong (list_value w l) s
     too_many e = wrong (rw (whole.1, e) (never (falls_ok 0 l whole.0)))
 
-    pub list_done : {m before i : ℕ} → ListFrom m before i → length s ≤ i → ltb (length s / 2) (2 ^ w) ≡ true → Right (list_value w l) s (λ ns. length ns ≡ length s / 2)
+    pub list_done : {m before i : ℕ} → ListFrom m before i → length s / 2 ≤ i → ltb (length s / 2) (2 ^ w) ≡ true → Right (list_value w l) s (λ ns. length ns ≡ length s / 2)
     unfolding list_value pass_dec right
     list_done {m} {before} {i} g h e =
-        let z = fill_done (field bad_value 16) bad_value (length (bits_of s) - i / 2) (drop (8 * i) (bits_of s)) (drop_end s (8 * i) (omega arith)) in
+        let z = fill_done (field bad_value 16) bad_value (length (bits_of s) - i) (drop (16 * i) (bits_of s)) (drop_end s (16 * i) (omega arith)) in
         let y : got true [] ≡ got (right w 0 l whole.0) [] = ap (keeping (right w m before)) (sym z) ∙ g.tests ∙ ap (keeping (right w 0 l)) whole.2 in
         let x : right w 0 l whole.0 ≡ true = cc in
         record {
@@ -112,22 +108,21 @@ module _ (w l : ℕ) (s : List ℕ) where
           known = whole.1;
         }
 
-    -- the neighbour at byte i is v
-    module _ {m before i : ℕ} (g : ListFrom m before i) (h : i < length s) {v q : ℕ} (r : Reads (field_dec bad_value 16) s (8 * i) (found v q)) where
+    -- the neighbour i is v
+    module _ {m before i : ℕ} (g : ListFrom m before i) (h : i < length s / 2) {v q : ℕ} (r : Reads (field_dec bad_value 16) s (16 * i) (found v q)) where
       abbrev behind : Read Bool (List ℕ)
-      behind = fill_dec (field bad_value 16) bad_value (length (bits_of s) - (i / 2 + 1)) (drop q (bits_of s))
+      behind = fill_dec (field bad_value 16) bad_value (length (bits_of s) - (i + 1)) (drop q (bits_of s))
 
       turn : keeping (right w m before) (rest i) ≡ keeping (λ xs. right w m before (v ∷ xs)) behind
       turn =
-          fill_turn (field bad_value 16) bad_value (length (bits_of s)) (i / 2) (drop (8 * i) (bits_of s)) (right w m before) (omega (arith, length_bits_of s))
-          (some_left s (8 * i) (omega arith)) r.is
+          fill_turn (field bad_value 16) bad_value (length (bits_of s)) i (drop (16 * i) (bits_of s)) (right w m before) (omega (arith, length_bits_of s))
+          (some_left s (16 * i) (omega arith)) r.is
 
-      pub list_turn : q ≡ 8 * i + 16 → v + m ≤ before → ltb (before - v) (2 ^ w) ≡ true → ListFrom 1 v (i + 2)
+      pub list_turn : q ≡ 16 * i + 16 → v + m ≤ before → ltb (before - v) (2 ^ w) ≡ true → ListFrom 1 v (i + 1)
       list_turn y a e =
-          let b : (i + 2) / 2 ≡ i / 2 + 1 = omega (arith, g.even) in
-          let d : 8 * (i + 2) ≡ q = omega arith in
+          let d : 16 * (i + 1) ≡ q = omega arith in
           let z = keeping_same (λ xs. right w m before (v ∷ xs)) (right w 1 v) behind (λ xs. right_more w m before v xs a e) in
-          record { even = omega (arith, g.even); within = omega (arith, g.even); tests = rw (b, d) (sym (turn ∙ z) ∙ g.tests) }
+          record { tests = rw d (sym (turn ∙ z) ∙ g.tests) }
 
       stops : ((xs : List ℕ) → right w m before (v ∷ xs) ≡ false) → Wrong (list_value w l) s
       stops k =

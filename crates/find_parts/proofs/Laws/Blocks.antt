@@ -22,7 +22,7 @@ use Rattle.format.specs.declared.Widths.{Widths}
 use Rattle.format.specs.Record.{Record, Narrow}
 use Rattle.find_parts.specs.Stands.{BlockAt, BlocksAt, ViewAt, ViewIn, BlocksIn}
 use Rattle.find_parts.specs.Finds.{BlockFound, BlocksThere, BlocksFound, LinesThere}
-use Rattle.find_parts.specs.declared.view.Part.{Part}
+use Rattle.format.specs.declared.Part.{Part}
 use Rattle.find_parts.specs.declared.view.Blocks.{Blocks}
 use Rattle.find_parts.proofs.Laws.Prefixed.{block_end}
 

@@ -20,7 +20,7 @@ use Rattle.bits.proofs.Laws.Parts.{part_bits}
 use Rattle.outcome.specs.Refusals.{past}
 use Rattle.find_parts.specs.Stands.{BlockAt}
 use Rattle.find_parts.specs.Finds.{BlockFound}
-use Rattle.find_parts.specs.declared.view.Part.{Part}
+use Rattle.format.specs.declared.Part.{Part}
 use Rattle.bits.proofs.Laws.Apart.{then_got, via_got, moved}
 
 -- ---- a block behind its length, at byte b of s; rest is what follows

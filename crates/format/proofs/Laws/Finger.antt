@@ -14,7 +14,7 @@ use Rattle.bits.specs.Codec.{Read}
 use Rattle.bits.specs.Codec as C
 use Rattle.outcome.specs.Refusals.{no_view}
 use Rattle.outcome.specs.Outcome.{Outcome, refused}
-use Rattle.outcome.proofs.Refused.{Refused, refused_map}
+use Rattle.outcome.proofs.Refusing.{Refused, refused_map}
 use Rattle.format.specs.Record.{Record, read}
 use Rattle.format.specs.Places.{view_at}
 use Rattle.format.specs.Named.{name_of, place_in, NoViewNamed, Means}

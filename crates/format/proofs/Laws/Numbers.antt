@@ -14,7 +14,7 @@ use Rattle.outcome.specs.Refusals.{no_view, no_segment}
 use Rattle.outcome.specs.Numbers.{among}
 use Rattle.outcome.specs.Outcome.{Outcome}
 use Rattle.outcome.specs.Placed.{Placed}
-use Rattle.outcome.proofs.Refused.{Refused}
+use Rattle.outcome.proofs.Refusing.{Refused}
 use Rattle.outcome.proofs.Numbers.{RefusedBy}
 use Rattle.format.specs.Record.{Record, read}
 use Rattle.format.specs.Places.{view_at}

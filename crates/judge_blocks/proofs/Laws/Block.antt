@@ -1,6 +1,6 @@
 -- A block behind its length, said once for every format of a block: the block is cut, or it is whole and is judged by itself. Each
 -- law makes of that what is read from the length on.
-use mathlib.Core.Path.{◌≡◌, sym, ap, subst}
+use mathlib.Core.Path.{◌≡◌, sym, ap, ◌∙◌}
 use Prim.Native.Nat.{ℕ, ◌+◌, ◌-◌, ◌*◌, ◌≤◌}
 use native.Mathlib.Omega.{arith}
 use mathlib.Core.Bool.{Bool}
@@ -12,17 +12,9 @@ use Rattle.bits.specs.Block.{Block}
 use Rattle.bits.specs.SizedLaws.{prefixed}
 use Rattle.bits.specs.Reads.{found, fault, Reads, keeping}
 use Rattle.bits.proofs.Laws.Reads.{known}
-use Rattle.bits.proofs.Laws.Parts.{part, part_length, behind_cut, behind_past, behind_bad, behind_good}
+use Rattle.bits.proofs.Laws.Parts.{part, behind_cut, behind_past, behind_bad, behind_good}
 use Rattle.outcome.specs.Refusals.{past}
-use Rattle.judge_blocks.specs.Answers.{WholeAt, Cut, length_past, block_past, Behind}
-use Rattle.judge_blocks.specs.declared.block.WholeBlock.{WholeBlock}
-
--- the answer of `block_at`, once its case is known
-pub told : (s : List ℕ) (a : ℕ) {r r' : WholeBlock} → r ≡ r' → Behind s a r → Behind s a r'
-told s a e h = subst (Behind s a) e h
-
-pub block_length : {s : List ℕ} {a b e : ℕ} → WholeAt s a b e → length (part s b (e - b)) ≡ e - b
-block_length {s} {b = b} {e} h = part_length s b (e - b) (omega (arith, h.ordered, h.within))
+use Rattle.judge_blocks.specs.Answers.{WholeAt, Cut, length_past, block_past}
 
 -- w is the block's format, and f what is kept of its value
 module _ {A B : Type 0} (w : Block A) (f : A → B) where
@@ -36,12 +28,10 @@ module _ {A B : Type 0} (w : Block A) (f : A → B) where
   block_cut {s} {a} i (length_past h e) = known (ap (fault past) (sym e)) (behind_cut w f s a i h)
   block_cut {s} {a} i (block_past n k h e) = known (ap (fault past) (sym e)) (behind_past w f s a n _ k (omega arith) (omega (arith, k.within)) h)
 
-  module _ {s : List ℕ} {a b e : ℕ} (h : WholeAt s a b e) where
-    abbrev block : List ℕ
-    block = part s b (e - b)
-
+  -- the block as the code cuts it out
+  module _ {s : List ℕ} {a b e : ℕ} (h : WholeAt s a b e) {block : List ℕ} (d : block ≡ part s b (e - b)) where
     same : block ≡ part s (a + 2) (e - b)
-    same = ap (λ (n : ℕ). part s n (e - b)) h.start
+    same = d ∙ ap (λ (n : ℕ). part s n (e - b)) h.start
 
     pub block_bad : {x q : ℕ} → Reads judge block 0 (fault x q) → Reads from_length s (8 * a) (fault x (8 * b + q))
     block_bad {x} {q} k =

@@ -1,6 +1,6 @@
 -- What the judge of the extended data finds: one segment, from the two numbers before its payload, and the loop over the segments,
 -- which carries the bytes of those passed. The whole answer is the answer from here on with that sum added.
-use mathlib.Core.Path.{◌≡◌, sym, ap, ap₂, ◌∙◌}
+use mathlib.Core.Path.{◌≡◌, sym, ap, ap₂, ◌∙◌, subst}
 use Prim.Native.Nat.{ℕ, ◌+◌, ◌-◌, ◌*◌, ◌≤◌, ◌<◌}
 use native.Mathlib.Omega.{arith}
 use native.Mathlib.Nat.{sub-zero, add-zero}
@@ -27,7 +27,7 @@ use Rattle.judge_blocks.specs.Answers.{segments_dec}
 
 -- ---- one segment, of kind v and length k
 
-pub segment_short : (s : List ℕ) (p : ℕ) → p ≤ 8 * length s → 8 * length s - p < 32 → Reads segment.dec s p (fault bad_segment p)
+segment_short : (s : List ℕ) (p : ℕ) → p ≤ 8 * length s → 8 * length s - p < 32 → Reads segment.dec s p (fault bad_segment p)
 unfolding segment
 segment_short s p i h = made _ _ (room_past _ bad_segment 32 i h)
 
@@ -39,7 +39,7 @@ module _ (s : List ℕ) (p v p1 k p2 : ℕ) (i : p + 32 ≤ 8 * length s)
   abbrev body : Codec Bool (ℕ × List ℕ)
   body = then (only (field bad_segment 16) bad_segment (leb 4)) payload
 
-  pub segment_low : k < 4 → Reads segment.dec s p (fault bad_segment p1)
+  segment_low : k < 4 → Reads segment.dec s p (fault bad_segment p1)
   unfolding segment
   segment_low h =
       made _ _ (room_there _ bad_segment 32 i (go_on _ (λ _. measured) A
@@ -52,11 +52,11 @@ module _ (s : List ℕ) (p v p1 k p2 : ℕ) (i : p + 32 ≤ 8 * length s)
       let y = pass (field bad_segment 16) bad_segment (leb 4) B (le→leb 4 k h) in
       none_of_it body bad_segment x A.within (rw (y.is, z))
 
-  pub segment_cut : 4 ≤ k → 8 * length s - p2 < 8 * (k - 4) → Reads segment.dec s p (fault bad_segment p1)
+  segment_cut : 4 ≤ k → 8 * length s - p2 < 8 * (k - 4) → Reads segment.dec s p (fault bad_segment p1)
   unfolding segment
   segment_cut h l = made _ _ (room_there _ bad_segment 32 i (go_on _ (λ _. measured) A (measured_cut h l)))
 
-  pub segment_good : {P : Type 0} → 4 ≤ k → 8 * (k - 4) ≤ 8 * length s - p2
+  segment_good : {P : Type 0} → 4 ≤ k → 8 * (k - 4) ≤ 8 * length s - p2
       → ((g : Segment) → segment_size g ≡ k + 1 → Reads segment.dec s p (found g (p2 + 8 * (k - 4))) → P) → P
   unfolding segment
   segment_good h l f =
@@ -68,32 +68,56 @@ module _ (s : List ℕ) (p v p1 k p2 : ℕ) (i : p + 32 ≤ 8 * length s)
       f (record { kind = v; payload = xs }) (omega arith)
       (made _ _ (room_there _ bad_segment 32 i (go_on _ (λ _. measured) A (all_of body (go_on _ payload y t)))))
 
--- ---- the segments: n of them passed, which take z bytes in the sheet, and the next at place p
+-- ---- the segments of the block s: those passed take z bytes in the sheet, and the next is at place p
 
-module _ (s : List ℕ) where
-  abbrev pub Filled : ℕ → ℕ → ℕ → Type 0
-  Filled z n p = summed segment_size z (fill_dec segment bad_segment (8 * length s - n) (drop p (bits_of s))) ≡ segments_dec (bits_of s)
+pub record Filled (s : List ℕ) (z p : ℕ) : Type 0 where
+  pub passed : ℕ
+  pub few : passed ≤ p
+  pub small : z ≤ p
+  pub within : p ≤ 8 * length s
+  pub is : summed segment_size z (fill_dec segment bad_segment (8 * length s - passed) (drop p (bits_of s))) ≡ segments_dec (bits_of s)
 
-  pub fill_start : Filled 0 0 0
-  unfolding segments_dec segments
-  fill_start =
-      sum_start segment_size (fill_dec segment bad_segment (8 * length s - 0) (bits_of s))
-      ∙ ap (λ (k : ℕ). keeping (total segment_size) (fill_dec segment bad_segment k (bits_of s))) (sub-zero _ ∙ sym (length_bits_of s))
+pub fill_start : (s : List ℕ) (p : ℕ) → p ≡ 0 → Filled s 0 p
+unfolding segments_dec segments
+fill_start s p e =
+    let first = sum_start segment_size (fill_dec segment bad_segment (8 * length s - 0) (bits_of s))
+    ∙ ap (λ (k : ℕ). keeping (total segment_size) (fill_dec segment bad_segment k (bits_of s))) (sub-zero _ ∙ sym (length_bits_of s)) in
+    record { passed = 0; few = omega arith; small = omega arith; within = omega arith; is = subst (λ (q : ℕ). summed segment_size 0 (fill_dec segment bad_segment (8 * length s - 0) (drop q (bits_of s))) ≡ segments_dec (bits_of s)) (sym e) first }
 
-  module _ (z n p : ℕ) (inv : Filled z n p) where
-    module _ (h : n ≤ p) (k : p < 8 * length s) where
-      pub fill_bad : {e q : ℕ} → Reads segment.dec s p (fault e q) → Reads segments_dec s 0 (fault e q)
-      fill_bad {e} {q} r =
-          refuses _ e q r.within
-          (sym inv ∙ ap (summed segment_size z) (fill_stop segment bad_segment (8 * length s) n (drop p (bits_of s)) (omega arith) (some_left s p k) r.is))
+module _ {s : List ℕ} {z p : ℕ} (F : Filled s z p) where
+  pub fill_end : 8 * length s ≤ p → Reads segments_dec s 0 (found z (8 * length s))
+  fill_end h =
+      gives _ z (8 * length s) (omega arith)
+      (sym F.is ∙ ap (summed segment_size z) (fill_done segment bad_segment (8 * length s - F.passed) (drop p (bits_of s)) (drop_end s p h))
+      ∙ ap₂ got (add-zero z) (sym (drop_end s (8 * length s) (omega arith))))
 
-      pub fill_next : {q y : ℕ} {g : Segment} → z + segment_size g ≡ y → Reads segment.dec s p (found g q) → Filled y (n + 1) q
-      fill_next {q} {y} {g} e r =
-          rw (← e) (sym (fill_turn segment bad_segment (8 * length s) n (drop p (bits_of s)) (λ xs. z + total segment_size xs) (omega arith) (some_left s p k) r.is
-          ∙ sum_more segment_size z g (fill_dec segment bad_segment (8 * length s - (n + 1)) (drop q (bits_of s)))) ∙ inv)
+  -- a segment follows
+  module _ (l : p < 8 * length s) where
+    fill_bad : {e q : ℕ} → Reads segment.dec s p (fault e q) → Reads segments_dec s 0 (fault e q)
+    fill_bad {e} {q} r =
+        refuses _ e q r.within
+        (sym F.is ∙ ap (summed segment_size z) (fill_stop segment bad_segment (8 * length s) F.passed (drop p (bits_of s)) (omega (arith, F.few)) (some_left s p l) r.is))
 
-    pub fill_end : 8 * length s ≤ p → Reads segments_dec s 0 (found z (8 * length s))
-    fill_end h =
-        gives _ z (8 * length s) (omega arith)
-        (sym inv ∙ ap (summed segment_size z) (fill_done segment bad_segment (8 * length s - n) (drop p (bits_of s)) (drop_end s p h))
-        ∙ ap₂ got (add-zero z) (sym (drop_end s (8 * length s) (omega arith))))
+    pub fill_short : 8 * length s - p < 32 → Reads segments_dec s 0 (fault bad_segment p)
+    fill_short h = fill_bad (segment_short s p F.within h)
+
+    -- its kind is v, and its length k
+    module _ {v k p1 p2 : ℕ} (i : 32 ≤ 8 * length s - p) (A : Reads (field_dec bad_segment 16) s p (found v p1)) (B : Reads (field_dec bad_segment 16) s p1 (found k p2)) where
+      pub fill_low : k < 4 → Reads segments_dec s 0 (fault bad_segment p1)
+      fill_low h = fill_bad (segment_low s p v p1 k p2 (omega arith) A B h)
+
+      pub fill_cut : 4 ≤ k → 8 * length s - p2 < 8 * (k - 4) → Reads segments_dec s 0 (fault bad_segment p1)
+      fill_cut h r = fill_bad (segment_cut s p v p1 k p2 (omega arith) A B h r)
+
+      pub fill_next : p2 ≡ p + 32 → 4 ≤ k → 8 * (k - 4) ≤ 8 * length s - p2 → Filled s (z + (k + 1)) (p2 + 8 * (k - 4))
+      fill_next e h r =
+          segment_good s p v p1 k p2 (omega arith) A B h r λ g y t.
+          record {
+            passed = F.passed + 1;
+            few = omega (arith, F.few);
+            small = omega (arith, F.small);
+            within = t.within;
+            is = rw (← y)
+                (sym (fill_turn segment bad_segment (8 * length s) F.passed (drop p (bits_of s)) (λ xs. z + total segment_size xs) (omega (arith, F.few)) (some_left s p l) t.is
+                ∙ sum_more segment_size z g (fill_dec segment bad_segment (8 * length s - (F.passed + 1)) (drop (p2 + 8 * (k - 4)) (bits_of s)))) ∙ F.is);
+          }

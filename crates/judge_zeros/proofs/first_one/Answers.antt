@@ -1,27 +1,20 @@
--- The invariant: the value is written by the bits from here on. It is not 0, so that one of them is 1.
-use native.Mathlib.Omega.{arith}
-use mathlib.Core.Path.{◌≡◌, ap}
-use Prim.Native.Nat.{ℕ, zero, suc, ◌+◌, ◌-◌, ◌^◌, ◌≤◌, ◌<◌}
+-- The exponent of the power of 2 that the value reaches counts the bits behind its first 1. It is below n, as the value is below 2 to
+-- the n.
+use Rattle.std.proofs.Common.{ℕ, suc, ◌≡◌, ◌-◌, ◌^◌, ◌<◌, arith, ap}
+use lib.Pow.{pow_mono}
 use Rattle.judge_zeros.proofs.first_one.Goals as goal
 
-some_bits : {v : ℕ} (n : ℕ) → 1 ≤ v → v < 2 ^ n → 1 ≤ n
-some_bits zero h l = absurd (omega arith)
-some_bits (suc n) h l = omega arith
+fewer : (k n : ℕ) → 2 ^ k < 2 ^ n → k < n
+fewer k n h = grind (arith, pow_mono)
 
-pub loop-i-init : goal.loop-i-init
-loop-i-init c =
-    let a = c.args in
-    let z : a.n ≡ a.n - 0 = omega arith in
-    (some_bits a.n c.requires.0 c.requires.1, omega (arith, c.requires.1, ap (λ (k : ℕ). 2 ^ k) z))
-
-pub loop-i-preserved : goal.loop-i-preserved
-loop-i-preserved c =
-    let a = c.args in
-    let i = c.loop-i.i in
-    let l : a.value < 2 ^ (a.n - i - 1) = omega (arith, c.loop-i-test.true, c.pow2.ensures.0) in
-    let z : a.n - i - 1 ≡ a.n - (i + 1) = omega arith in
-    (omega (arith, some_bits (a.n - i - 1) c.requires.0 l), omega (arith, l, ap (λ (k : ℕ). 2 ^ k) z))
+pub overflow_sub-result-2 : goal.overflow_sub-result-2
+overflow_sub-result-2 c = omega (arith, fewer c.ilog2.result c.args.n (omega (arith, c.ilog2.ensures.power_le, c.requires.1)))
 
 pub returns : goal.returns
 returns c =
-    (c.loop-i.invariant.0, c.loop-i.invariant.1, omega (arith, c.loop-i-test.false, c.pow2.ensures.0))
+    let a = c.args in
+    let k = c.ilog2.result in
+    let h = fewer k a.n (omega (arith, c.ilog2.ensures.power_le, c.requires.1)) in
+    let e : a.n - (a.n - 1 - k) ≡ suc k = omega arith in
+    let f : a.n - (a.n - 1 - k) - 1 ≡ k = omega arith in
+    (omega arith, omega (arith, ap (λ (j : ℕ). 2 ^ j) e, c.ilog2.ensures.next_power_gt), omega (arith, ap (λ (j : ℕ). 2 ^ j) f, c.ilog2.ensures.power_le))

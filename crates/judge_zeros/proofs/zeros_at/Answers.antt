@@ -2,7 +2,7 @@
 -- measure is the bits left.
 use native.Mathlib.Omega.{arith}
 use Prim.Native.Nat.{◌-◌, ◌*◌, ◌%◌}
-use mathlib.Core.Path.{refl, ap, sym, ◌∙◌}
+use mathlib.Core.Path.{ap, sym, ◌∙◌}
 use lib.ListN.{length, drop}
 use Rattle.bits.specs.Bytes.{bits_of}
 use Rattle.bits.specs.Block.{zeros_dec}
@@ -11,10 +11,6 @@ use Rattle.bits.proofs.Laws.Reads.{length_rest, below}
 use Rattle.bits.proofs.Laws.Loops.{field_zero, field_one}
 use Rattle.bits.proofs.Laws.Parts.{drop_end}
 use Rattle.judge_zeros.proofs.zeros_at.Goals as goal
-
-pub loop-q-init : goal.loop-q-init
-loop-q-init c =
-    (omega arith, λ e. refl)
 
 pub first_one-requires : goal.first_one-requires
 first_one-requires c =

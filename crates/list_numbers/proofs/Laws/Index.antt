@@ -1,11 +1,11 @@
 -- The index of an accepted view, list by list: which lists still stand from a place on, and how many neighbours were counted before
 -- it. A list has as many bits as its count says.
-use mathlib.Core.Path.{◌≡◌, sym, ap, ◌∙◌}
+use mathlib.Core.Path.{◌≡◌, ap, ◌∙◌}
 use Prim.Native.Nat.{ℕ, suc, ◌+◌, ◌*◌, ◌≤◌, ◌<◌}
 use native.Mathlib.Omega.{arith}
 use native.Mathlib.Nat.{mul-le-mul_left}
 use native.Mathlib.Numerals.{add-one}
-use mathlib.Core.Option.{Option, some}
+use mathlib.Core.Option.{Option, some, map}
 use mathlib.Core.List.{List, [], ◌∷◌, ◌++◌, append_assoc}
 use lib.ListN.{length, drop}
 use Rattle.bits.specs.Lists.{Along, total}
@@ -17,8 +17,7 @@ use Rattle.bits.specs.CodecLaws.{enc_along}
 use Rattle.bits.specs.Reads.{found, Reads}
 use Rattle.outcome.specs.Refusals.{bad_index}
 use Rattle.differences.specs.Differences.{diffs, diff, tell_difference}
-use Rattle.format.specs.Index.{FitsList, neighbours, Index, up, FitsIndex, index, index_block}
-use Rattle.list_numbers.specs.Counts.{entries}
+use Rattle.format.specs.Index.{FitsList, neighbours, Index, up, FitsIndex, index_block}
 use Rattle.find_parts.proofs.Laws.Index.{an_index, index_at, width_is_lem}
 use Rattle.find_parts.proofs.Laws.Lists.{list_bits_lem}
 use Rattle.find_parts.proofs.Laws.Standing.{stands_behind, stands_within, number_there}
@@ -90,7 +89,7 @@ module _ {lines : ℕ} {s : List ℕ} {l p n : ℕ} {i : Index} (h : ListsLeft l
           }
 
   -- behind the last list all are counted
-  all_counted : lines ≤ l → n ≡ entries (some i)
+  all_counted : lines ≤ l → n ≡ total length i.lists
   all_counted k = go h.lists h.count h.sum
     where
       go : (ls : List (List ℕ)) → l + length ls ≡ lines → n + total length ls ≡ total length i.lists → n ≡ total length i.lists
@@ -124,7 +123,7 @@ module _ (lines : ℕ) (s : List ℕ) {w : ℕ} where
         let (z, left) = h i u (e ∙ ap (λ (x : Option Index). got x u) q) in
         omega (arith, z, (list_next left k).further.within)
 
-    pub counted_all : {l p n : ℕ} → Counted lines s w l p n → lines ≤ l → n ≡ entries o
+    pub counted_all : {l p n : ℕ} → Counted lines s w l p n → lines ≤ l → some n ≡ map (λ (i : Index). total length i.lists) o
     counted_all h k =
         an_index lines s c e λ i q.
-        all_counted (h i u (e ∙ ap (λ (x : Option Index). got x u) q)).1 k ∙ ap entries (sym q)
+        rw q (ap some (all_counted (h i u (e ∙ ap (λ (x : Option Index). got x u) q)).1 k))

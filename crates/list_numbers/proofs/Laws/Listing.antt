@@ -1,16 +1,14 @@
 -- The numbers of the listing: what code reads and counts in a view is what the listing has of it. Each count goes to the end of its
 -- block, since nothing is left there.
+use Rattle.std.specs.Prelude as std
 use mathlib.Core.Path.{◌≡◌, ◌∙◌}
 use Prim.Native.Nat.{ℕ, ◌+◌, ◌-◌, ◌*◌, ◌≤◌}
 use native.Mathlib.Omega.{arith}
-use mathlib.Core.Option.{Option, map}
 use mathlib.Core.List.{List, [], ◌∷◌, ◌++◌, append_assoc}
 use lib.ListN.{length, take, drop}
 use lib.Seq.{length-take-le}
-use lib.Dec.{ltb}
-use borrow.Author.Tests.{lt-ltb, le-ltb}
 use Rattle.bits.specs.ChoiceLaws.{split}
-use Rattle.bits.specs.Lists.{All, total}
+use Rattle.bits.specs.Lists.{All}
 use Rattle.bits.specs.Bits.{Bits, bits_of_number}
 use Rattle.bits.specs.BitsLaws.{length_bits}
 use Rattle.bits.specs.Bytes.{Byte, bits_of}
@@ -20,7 +18,7 @@ use Rattle.bits.specs.Reads.{found, Reads}
 use Rattle.bits.proofs.Laws.Parts.{part_bytes}
 use Rattle.outcome.specs.Refusals.{bad_view}
 use Rattle.format.specs.Line.{skeleton}
-use Rattle.format.specs.Index.{Index, index_block}
+use Rattle.format.specs.Index.{index_block}
 use Rattle.format.specs.Segments.{Segment, segment_length, segments}
 use Rattle.format.specs.View.{View, FitsHead, head_fields}
 use Rattle.format.specs.declared.Widths.{Widths}
@@ -29,13 +27,12 @@ use Rattle.format.specs.Places.{segment_bits}
 use Rattle.find_parts.specs.Finds.{BlocksFound, LinesPassed, SegmentsPassed}
 use Rattle.find_parts.specs.declared.view.Blocks.{Blocks}
 use Rattle.find_parts.specs.declared.Passed.{Passed}
-use Rattle.find_parts.proofs.Laws.Blocks.{cut, cut_long, block_there, lines_here, index_here, segments_here, no_index_lem}
+use Rattle.find_parts.proofs.Laws.Blocks.{cut, cut_long, block_there, lines_here, index_here, segments_here}
 use Rattle.find_parts.proofs.Laws.Lines.{none_left, lines_counted}
 use Rattle.find_parts.proofs.Laws.Segments.{segments_none}
 use Rattle.list_numbers.specs.Listing.{Listed, listed}
-use Rattle.list_numbers.specs.Counts.{entries, PairsCounted, ListedThere, pairs_of}
+use Rattle.list_numbers.specs.Counts.{PairsCounted, ListedThere, pairs_of}
 use Rattle.find_parts.proofs.Laws.Standing.{stands_behind, number_there}
-use Rattle.find_parts.proofs.Laws.Index.{an_index}
 
 -- ---- the header's first two bytes
 
@@ -62,21 +59,13 @@ segments_wide [] = omega arith
 segments_wide (g ∷ gs) = omega (arith, segment_length g, segments_wide gs)
 
 -- each has four bytes or more, so that there are no more of them than bytes
-segments_counted : {s : List ℕ} {a e : ℕ} {gs : List Segment} {r : Passed} → All Byte s → BlockAt segments s a e gs → SegmentsPassed (cut s a e) (e - a) r
+segments_counted : {s : List ℕ} {a e : ℕ} {gs : List Segment} {r : Passed} → All Byte s → BlockAt segments s a e gs → SegmentsPassed (cut s a e) (length (cut s a e)) r
     → r.count ≡ length gs
 segments_counted {s} {a} {e} {gs} {r} bytes h P =
     let (c, left, z) = P.is gs [] h.value in
     let l : length (take r.count gs) ≡ r.count = length-take-le r.count gs c in
-    let far : length (cut s a e) ≤ r.next = split (e - a) r.count (λ k. omega (arith, cut_long h, segments_wide (take r.count gs))) (λ k. P.all k) in
+    let far : length (cut s a e) ≤ r.next = split (length (cut s a e)) r.count (λ k. omega (arith, cut_long h, segments_wide (take r.count gs))) (λ k. P.all k) in
     none_left gs r.count c (segments_none (part_bytes s a (e - a) bytes) left far)
-
-pairs_listed : (lines : ℕ) {s : List ℕ} {a e n : ℕ} {o : Option Index} → BlockAt (index_block lines) s a e o → PairsCounted lines (cut s a e) n
-    → pairs_of (ltb a e) n ≡ map (λ (i : Index). total length i.lists) o
-pairs_listed lines {s} {a} {e} {n} {o} h P =
-    let z : n ≡ entries o = P.is o [] h.value in
-    split e a
-    (λ k. let q = no_index_lem lines (cut s a e) (omega (arith, cut_long h)) h.value in rw (le-ltb a e k, q))
-    (λ k. an_index lines (cut s a e) (omega (arith, cut_long h)) h.value λ i q. rw (lt-ltb a e k, z, q))
 
 -- ---- the view that code finds at byte a
 
@@ -100,13 +89,13 @@ module _ {w : Widths} {s : List ℕ} {a : ℕ} (T : ListedThere w s a) where
     pub index_there : {l : Passed} → LinesPassed w (cut s x.skeleton.from x.skeleton.to) 1024 l → BlockThere (index_block l.count) (cut s x.index.from x.index.to)
     index_there L = rw (lines_counted lines_at L) (block_there T.short index_at)
 
-pub listed_is : {w : Widths} {s : List ℕ} {a : ℕ} {v : View} {x : Blocks} {l g : Passed} {n m p q t : ℕ} → All Byte s → (at : ViewAt w s a v) → BlocksFound s (a + 8) x
+pub listed_is : {w : Widths} {s : List ℕ} {a : ℕ} {v : View} {x : Blocks} {l g : Passed} {n m q t : ℕ} (p : std.Option ℕ) → All Byte s → (at : ViewAt w s a v) → BlocksFound s (a + 8) x
     → Reads (field_dec bad_view 8) s (8 * a) (found n q) → Reads (field_dec bad_view 8) s (8 * a + 8) (found m t)
     → LinesPassed w (cut s x.skeleton.from x.skeleton.to) 1024 l → PairsCounted l.count (cut s x.index.from x.index.to) p
-    → SegmentsPassed (cut s x.extended.from x.extended.to) (x.extended.to - x.extended.from) g
-    → record { position = m; number = n; lines = l.count; pairs = pairs_of (ltb x.index.from x.index.to) p; segments = g.count } ≡ listed v
-listed_is {s = s} {v = v} {x = x} {l = l} {g = g} {n = n} {m = m} {p = p} bytes at F N M L P G =
+    → SegmentsPassed (cut s x.extended.from x.extended.to) (length (cut s x.extended.from x.extended.to)) g
+    → record { position = m; number = n; lines = l.count; pairs = pairs_of p; segments = g.count } ≡ listed v
+listed_is {s = s} {v = v} {x = x} {l = l} {g = g} {n = n} {m = m} p bytes at F N M L P G =
     let z : l.count ≡ length v.lines = lines_counted (lines_here at.blocks F) L in
     let index : BlockAt (index_block l.count) s x.index.from x.index.to v.index = rw z (index_here at.blocks F) in
-    same_listed (record { position = m; number = n; lines = l.count; pairs = pairs_of (ltb x.index.from x.index.to) p; segments = g.count }) (listed v)
-    (position_is at M) (number_is at N) z (pairs_listed l.count index P) (segments_counted bytes (segments_here at.blocks F) G)
+    same_listed (record { position = m; number = n; lines = l.count; pairs = pairs_of p; segments = g.count }) (listed v)
+    (position_is at M) (number_is at N) z (P.is v.index [] index.value) (segments_counted bytes (segments_here at.blocks F) G)

@@ -6,8 +6,7 @@ use native.Mathlib.Omega.{arith}
 use mathlib.Core.Bool.{Bool, true, false}
 use mathlib.Core.Option.{Option, none, some}
 use mathlib.Core.List.{List, ◌++◌}
-use lib.ListN.{length, take, drop, get_or, length-drop}
-use lib.Seq.{take_all}
+use lib.ListN.{length, take, get_or}
 use lib.Dec.{T}
 use Rattle.bits.specs.Choice.{pick, some?}
 use Rattle.bits.specs.ChoiceLaws.{eqb_true, eqb_false}
@@ -17,7 +16,6 @@ use Rattle.put_bytes.specs.HighFirst.{two}
 use Rattle.put_bytes.proofs.Laws.{lent, back, laid_same, laid_between}
 use Rattle.format.specs.Segments.{Segment, sweat_pores, is_pores}
 use Rattle.find_parts.specs.Finds.{segment_stored}
-use Rattle.find_parts.proofs.Laws.Segments.{two_there}
 use Rattle.pores_parts.specs.Parts.{Pores}
 use Rattle.pores.specs.Payload.{pores_in}
 use Rattle.pores.specs.Keep.{pores_right}
@@ -25,6 +23,8 @@ use Rattle.pores.proofs.Laws.Keep.{kept_other, kept_pores}
 use Rattle.orders.proofs.Laws.Pores.{kept_fits}
 use Rattle.orders.specs.Survive.{survivors}
 use Rattle.orders.specs.Listed.{removal_lines}
+pub use Rattle.order_segments.proofs.Laws.Over.{stored_long}
+use Rattle.order_segments.proofs.Laws.Over.{stored_kind, stored_payload}
 use Rattle.order_pores.specs.Kept.{kept_payload, PoresToKeep, PoresSized, PoresPutThere, PoresPut}
 use Rattle.order_extended.specs.Segment.{kept_segment, SegmentToKeep, SegmentSized, SegmentPutThere, SegmentPut}
 
@@ -34,18 +34,8 @@ use Rattle.order_extended.specs.Segment.{kept_segment, SegmentToKeep, SegmentSiz
 abbrev pub rest : List ℕ → List ℕ
 rest s = part s 4 (length s - 4)
 
-module _ (g : Segment) where
-  pub stored_long : length (segment_stored g) ≡ 4 + length g.payload
-  stored_long = omega arith
-
-  stored_kind : {s : List ℕ} → s ≡ segment_stored g → get_or s 0 0 * 256 + get_or s (0 + 1) 0 ≡ g.kind
-  stored_kind {s} e = two_there s 0 g.kind (ap (take 2) e)
-
-  stored_payload : {s : List ℕ} → s ≡ segment_stored g → rest s ≡ g.payload
-  stored_payload {s} e = take_all (length s - 4) (drop 4 s) (omega (arith, length-drop 4 s)) ∙ ap (drop 4) e
-
-  stored_type : {s : List ℕ} → s ≡ segment_stored g → part s 0 (2 - 0) ≡ two g.kind
-  stored_type e = ap (take 2) e
+stored_type : (g : Segment) {s : List ℕ} → s ≡ segment_stored g → part s 0 (2 - 0) ≡ two g.kind
+stored_type g e = ap (take 2) e
 
 -- ---- its type
 

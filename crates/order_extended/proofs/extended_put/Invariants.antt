@@ -1,12 +1,8 @@
 -- Segment by segment. The invariant: those before are laid, the others are still to come.
-use Prim.Native.Nat.{◌-◌}
-use lib.ListN.{length}
+use Rattle.order_segments.specs.Walk.{Whole, segments_in}
 use Rattle.order_segments.proofs.Laws.Over.{OverAll}
 use Rattle.order_extended.proofs.Laws.Extended.{Putting}
 use Rattle.order_extended.proofs.extended_put.Given as goal
 
-abbrev pub invariant-loop-next : goal.invariant-loop-next
-invariant-loop-next l = OverAll (Putting l.lines l.removal l.initial.out l.out l.at) l.block l.next
-
-abbrev pub decreases-loop-next : goal.decreases-loop-next
-decreases-loop-next l = length l.block - l.next
+abbrev pub invariant-loop-segment : goal.invariant-loop-segment
+invariant-loop-segment l = Whole l.segment-iterator.0.now × OverAll (Putting l.lines l.removal l.initial.out l.out l.at) l.block (segments_in l.segment-iterator.0.now)

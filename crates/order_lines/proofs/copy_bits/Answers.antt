@@ -9,8 +9,8 @@ use Rattle.order_lines.proofs.copy_bits.Lts as lts
 use Rattle.order_lines.proofs.copy_bits.Reads as reads
 use Rattle.order_lines.proofs.copy_bits.Tie as tie
 
-abbrev At-After-smaller-few : Type 0
-At-After-smaller-few = lts.After-smaller tie.the-claims reads.Pre reads.Post
+abbrev At-After-min-few : Type 0
+At-After-min-few = lts.After-min tie.the-claims reads.Pre reads.Post
 
 abbrev At-After-copy_few-q : Type 0
 At-After-copy_few-q = lts.After-copy_few tie.the-claims reads.Pre reads.Post
@@ -21,22 +21,22 @@ At-Else-from-end = lts.Else1 tie.the-claims reads.Pre reads.Post
 abbrev At-After-copy_bytes : Type 0
 At-After-copy_bytes = lts.After-copy_bytes tie.the-claims reads.Pre reads.Post
 
-abbrev from : (c : At-After-smaller-few) → ℕ
-from c = c.args.p + c.smaller-few.result
+abbrev from : (c : At-After-min-few) → ℕ
+from c = c.args.p + c.min-few.result
 
-few : (c : At-After-smaller-few) → (from c ≤ c.args.end) × (c.smaller-few.result ≤ 7)
-few c = (omega (arith, c.smaller-few.ensures, c.requires.order), omega (arith, c.smaller-few.ensures))
+few : (c : At-After-min-few) → (from c ≤ c.args.end) × (c.min-few.result ≤ 7)
+few c = (omega (arith, c.min-few.ensures, c.requires.order), omega (arith, c.min-few.ensures))
 
-abbrev bytes : (c : At-After-smaller-few) → ℕ
+abbrev bytes : (c : At-After-min-few) → ℕ
 bytes c = (c.args.end - from c) / 8
 
-behind_first : (c : At-After-copy_few-q) → c.copy_few-q.result ≡ c.args.at + c.smaller-few.result
+behind_first : (c : At-After-copy_few-q) → c.copy_few-q.result ≡ c.args.at + c.min-few.result
 behind_first c =
     let a = c.args in
     omega (arith, (copied_place a.block.now a.p (from c.before.before) (omega arith) c.copy_few-q.ensures (omega (arith, (few c.before.before).0, c.requires.there))).0)
 
 whole : (c : At-Else-from-end) → 8 * (c.copy_few-q.result / 8) ≡ c.copy_few-q.result
-whole c = omega (arith, c.if-from-end.false, behind_first c.before.before.before, c.smaller-few.ensures, (few c.before.before.before.before.before).0)
+whole c = omega (arith, c.if-from-end.false, behind_first c.before.before.before, c.min-few.ensures, (few c.before.before.before.before.before).0)
 
 two_parts : (c : At-After-copy_bytes) → Copied c.args.block.now c.args.p (from c.before.before.before.before.before.before.before + 8 * bytes c.before.before.before.before.before.before.before) c.args.out.now c.args.at c.copy_bytes.new.out (c.copy_few-q.result + 8 * bytes c.before.before.before.before.before.before.before)
 two_parts c =

@@ -7,6 +7,3 @@ use Rattle.order_lines.proofs.lines_put.Given as goal
 
 abbrev pub invariant-loop-l : goal.invariant-loop-l
 invariant-loop-l l = (length l.out ≡ length l.initial.out) × (l.q ≤ l.p) × (l.p ≤ 8 * length l.block) × PutAll l.w l.block l.removal l.count l.l l.p l.initial.out l.out l.q
-
-abbrev pub decreases-loop-l : goal.decreases-loop-l
-decreases-loop-l l = l.count - l.l

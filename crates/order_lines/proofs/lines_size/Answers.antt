@@ -1,7 +1,8 @@
 -- Line by line. The invariant holds of whatever lines the block has: those that stay are counted so far, the others are to come.
 use native.Mathlib.Omega.{arith}
-use mathlib.Core.Path.{sym, ◌∙◌}
-use Prim.Native.Nat.{◌+◌, ◌-◌, ◌*◌, ◌≤◌}
+use mathlib.Core.Bool.{not}
+use mathlib.Core.Path.{sym, ap, ◌∙◌}
+use Prim.Native.Nat.{◌+◌, ◌*◌, ◌≤◌}
 use lib.ListN.{length}
 use Rattle.bits.specs.Bits.{Bits}
 use Rattle.orders.specs.Listed.{removal_lines}
@@ -10,26 +11,19 @@ use Rattle.order_removal.proofs.Laws.Going.{Turn, turn}
 use Rattle.order_lines.proofs.Laws.Each.{same, Stand, Ends, first_within, Sized, next_gone, next_sized}
 use Rattle.order_lines.proofs.Laws.Lines.{line_reads, line_ends, kept_bits, sizing_first, sized}
 use Rattle.order_lines.proofs.lines_size.Goals as goal
-use Rattle.order_lines.proofs.lines_size.Lts as lts
-use Rattle.order_lines.proofs.lines_size.Reads as reads
-use Rattle.order_lines.proofs.lines_size.Tie as tie
+use Rattle.order_lines.proofs.lines_size.Goals.{In-loop-l, After-line_end-p, then-is_err, else-is_err}
 
-abbrev At-In-loop-l : Type 0
-At-In-loop-l = lts.In-loop tie.the-claims reads.Pre reads.Post goal.the-invariant-loop-l goal.the-decreases-loop-l
-
-abbrev At-After-line_end-p : Type 0
-At-After-line_end-p = lts.After-line_end tie.the-claims reads.Pre reads.Post goal.the-invariant-loop-l goal.the-decreases-loop-l
-
-next : (c : At-In-loop-l) → Turn same (removal_lines c.args.removal.now) c.args.count (Stand (line c.args.w).enc (FitsLine c.args.w) c.args.block.now c.requires.behind) (Sized (line c.args.w).enc (kept_bits c.args.w c.args.removal.now c.requires.value) 0 c.loop-l.bits) c.loop-l.l c.loop-l.p
+next : (c : In-loop-l) → Turn same (removal_lines c.args.removal.now) c.args.count (Stand (line c.args.w).enc (FitsLine c.args.w) c.args.block.now c.requires.behind) (Sized (line c.args.w).enc (kept_bits c.args.w c.args.removal.now c.requires.value) 0 c.loop-l.bits) c.loop-l.l c.loop-l.p
 next c = let p = c.requires in turn (c.loop-l.invariant.2 p.value p.behind p.at p.counts) c.loop-l-test.true
 
-end : (c : At-After-line_end-p) (u : Bits) → Ends (line c.args.w).enc (FitsLine c.args.w) c.args.block.now u c.loop-l.p c.line_end-p.result
+end : (c : After-line_end-p) (u : Bits) → Ends (line c.args.w).enc (FitsLine c.args.w) c.args.block.now u c.loop-l.p c.line_end-p.result
 end c u = line_ends c.args.w c.args.block.now c.loop-l.p u c.line_end-p.ensures
 
-ends : (c : At-After-line_end-p) → (c.loop-l.p ≤ c.line_end-p.result) × (c.line_end-p.result ≤ 8 * length c.args.block.now)
+ends : (c : After-line_end-p) → (c.loop-l.p ≤ c.line_end-p.result) × (c.line_end-p.result ≤ 8 * length c.args.block.now)
 ends c =
-    let x = next c.before in
-    let z = end c c.requires.behind x.value x.others x.at in
+    let p = c.requires in
+    let x = turn (c.loop-l.invariant.2 p.value p.behind p.at p.counts) c.loop-l-test.true in
+    let z = end c p.behind x.value x.others x.at in
     (omega (arith, z), omega (arith, z, first_within x.at))
 
 pub loop-l-init : goal.loop-l-init
@@ -39,40 +33,25 @@ loop-l-init c =
 pub line_end-p-requires : goal.line_end-p-requires
 line_end-p-requires c =
     let p = c.requires in
-    let x = next (c.before) in
+    let x = next (goal.at.line_end-p-requires c).In-loop-l in
     record { narrow = p.narrow; short = p.short; value = x.value; behind = c.loop-l.p + length ((line c.args.w).enc x.value); reads = line_reads c.args.w c.args.block.now c.loop-l.p x.value x.others x.at }
-
-pub rank_of-rank-requires : goal.rank_of-rank-requires
-rank_of-rank-requires c =
-    c.requires.rising
-
-pub overflow_add-l : goal.overflow_add-l
-overflow_add-l c =
-    omega (arith, c.requires.few, c.loop-l-test.true)
-
-pub loop-l-smaller-then-rank : goal.loop-l-smaller-then-rank
-loop-l-smaller-then-rank c =
-    omega (arith, c.loop-l-test.true)
-
-pub loop-l-preserved-then-rank : goal.loop-l-preserved-then-rank
-loop-l-preserved-then-rank c =
-    (omega (arith, c.loop-l.invariant.0, (ends c.before.before.before).0), (ends c.before.before.before).1, λ ls u a n. next_gone c.loop-l-test.true (end c.before.before.before u) (c.loop-l.invariant.2 ls u a n) (sym c.rank_of-rank.ensures.gone ∙ c.if-rank.true))
 
 pub overflow_sub-bits : goal.overflow_sub-bits
 overflow_sub-bits c =
-    omega (arith, (ends c.before.before.before).0)
+    (ends (goal.at.overflow_sub-bits c).After-line_end-p).0
 
 pub overflow_add-bits : goal.overflow_add-bits
 overflow_add-bits c =
-    omega (arith, ends c.before.before.before, c.loop-l.invariant.0, c.requires.short)
-
-pub loop-l-smaller : goal.loop-l-smaller
-loop-l-smaller c =
-    omega (arith, c.loop-l-test.true)
+    omega (arith, ends (goal.at.overflow_add-bits c).After-line_end-p, c.loop-l.invariant.0, c.requires.short)
 
 pub loop-l-preserved : goal.loop-l-preserved
 loop-l-preserved c =
-    (omega (arith, c.loop-l.invariant.0, (ends c.before.before.before).0), (ends c.before.before.before).1, λ ls u a n. next_sized c.loop-l-test.true (end c.before.before.before u) (c.loop-l.invariant.2 ls u a n) (sym c.rank_of-rank.ensures.gone ∙ c.if-rank.false))
+    let here = (goal.at.loop-l-preserved c).After-line_end-p in
+    let z = sym c.rank_of.ensures.gone ∙ c.is_err.ensures.negation in
+    elim c.if-is_err.branch [
+      | then-is_err w ↦ rw w.bits-is (omega (arith, c.loop-l.invariant.0, (ends here).0), (ends here).1, λ ls u a n. next_sized c.loop-l-test.true (end here u) (c.loop-l.invariant.2 ls u a n) (z ∙ ap not w.if-is_err.true))
+      | else-is_err w ↦ rw w.bits-is (omega (arith, c.loop-l.invariant.0, (ends here).0), (ends here).1, λ ls u a n. next_gone c.loop-l-test.true (end here u) (c.loop-l.invariant.2 ls u a n) (z ∙ ap not w.if-is_err.false))
+    ]
 
 pub overflow_add-result : goal.overflow_add-result
 overflow_add-result c =

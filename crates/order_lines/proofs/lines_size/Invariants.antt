@@ -6,6 +6,3 @@ use Rattle.order_lines.proofs.lines_size.Given as goal
 
 abbrev pub invariant-loop-l : goal.invariant-loop-l
 invariant-loop-l l = (l.bits ≤ l.p) × (l.p ≤ 8 * length l.block) × SizingAll l.w l.block l.removal l.count l.l l.p l.bits
-
-abbrev pub decreases-loop-l : goal.decreases-loop-l
-decreases-loop-l l = l.count - l.l

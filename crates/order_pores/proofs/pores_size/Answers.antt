@@ -1,29 +1,20 @@
 -- Line by line. The invariant holds of whatever pores the payload says: those of the lines that stay are counted so far, the others are to come.
 use native.Mathlib.Omega.{arith}
-use mathlib.Core.Path.{◌≡◌, sym, subst, ◌∙◌}
-use Prim.Native.Nat.{◌-◌}
+use mathlib.Core.Bool.{not}
+use mathlib.Core.Path.{sym, ap, subst, ◌∙◌}
+use Rattle.std.specs.Prelude.{Option}
 use Rattle.outcome.specs.Refusals.{bad_pores}
 use Rattle.pores_lines.specs.Found.{LineStands, LineFound}
-use Rattle.pores_lines.specs.declared.LineAt.{LineAt}
+use Rattle.pores_lines.specs.declared.PoreLine.{PoreLine}
+use Rattle.pores_parts.specs.Parts.{Pores}
 use Rattle.order_removal.proofs.Laws.Going.{turn}
 use Rattle.order_lines.proofs.Laws.Each.{next_gone, next_sized}
-use Rattle.order_pores.proofs.Laws.{fits, three_bytes, e_is, line_ends, not_broken, sizing_first, sized}
+use Rattle.order_pores.proofs.Laws.{fits, three_bytes, e_is, line_ends, found_there, sizing_first, sized}
 use Rattle.order_pores.proofs.pores_size.Goals as goal
-use Rattle.order_pores.proofs.pores_size.Lts as lts
-use Rattle.order_pores.proofs.pores_size.Reads as reads
-use Rattle.order_pores.proofs.pores_size.Tie as tie
+use Rattle.order_pores.proofs.pores_size.Goals.{After-unwrap-p, then-is_err, else-is_err}
 
-abbrev At-After-sure-e : Type 0
-At-After-sure-e = lts.After-sure tie.the-claims reads.Pre reads.Post goal.the-invariant-loop-l goal.the-decreases-loop-l
-
-abbrev At-In-At : Type 0
-At-In-At = lts.Past-After-known_told tie.the-claims reads.Pre reads.Post goal.the-invariant-loop-l goal.the-decreases-loop-l
-
-e_right : (c : At-After-sure-e) → c.sure-e.result.value ≡ c.requires.value.e
-e_right c = let p = c.requires in e_is c.args.lines c.args.payload.now p.value p.says (c.sure-e.ensures.0 bad_pores)
-
-stands : (c : At-In-At) → LineStands c.args.payload.now c.loop-l.p c.sure-e.result.value c.in-At.count c.in-At.next
-stands c = subst (λ (r : LineAt). LineFound c.args.payload.now c.loop-l.p c.sure-e.result.value r) c.in-At.is c.line_at.ensures
+stands : (c : After-unwrap-p) → LineStands c.args.payload.now c.loop-l.p c.sure-e.result.value c.unwrap-p.result.count c.unwrap-p.result.next
+stands c = subst (λ (r : Option PoreLine). LineFound c.args.payload.now c.loop-l.p c.sure-e.result.value r) c.unwrap-p.ensures c.line_at.ensures
 
 pub sure-e-requires : goal.sure-e-requires
 sure-e-requires c =
@@ -39,52 +30,24 @@ pub line_at-requires : goal.line_at-requires
 line_at-requires c =
     let p = c.requires in
     let f = fits c.args.lines c.args.payload.now p.value p.says in
-    let z = e_right c.before.before.before in
+    let z = e_is c.args.lines c.args.payload.now p.value p.says (c.sure-e.ensures.0 bad_pores) in
     record { short = p.short; low = omega (arith, z, f.low); high = omega (arith, z, f.high); within = c.loop-l.invariant.1 }
 
-pub returns-in_default : goal.returns-in_default
-returns-in_default c =
+pub unwrap-p-requires : goal.unwrap-p-requires
+unwrap-p-requires c =
     let p = c.requires in
     let t = turn (c.loop-l.invariant.2 p.value p.says) c.loop-l-test.true in
-    not_broken c.args.payload.now c.loop-l.p c.sure-e.result.value p.value t.value t.others t.at (subst (λ (r : LineAt). LineFound c.args.payload.now c.loop-l.p c.sure-e.result.value r) c.in_default.is c.line_at.ensures)
-
-pub rank_of-rank-requires : goal.rank_of-rank-requires
-rank_of-rank-requires c =
-    c.requires.rising
-
-pub overflow_add-l : goal.overflow_add-l
-overflow_add-l c =
-    omega (arith, c.requires.few, c.loop-l-test.true)
-
-pub loop-l-smaller-then-rank : goal.loop-l-smaller-then-rank
-loop-l-smaller-then-rank c =
-    omega (arith, c.loop-l-test.true)
-
-pub loop-l-preserved-then-rank : goal.loop-l-preserved-then-rank
-loop-l-preserved-then-rank c =
-    let L = stands c.before.before.before in
-    (omega (arith, c.loop-l.invariant.0, L.after), L.within, λ v h. next_gone c.loop-l-test.true (line_ends c.args.payload.now c.loop-l.p c.sure-e.result.value v L) (c.loop-l.invariant.2 v h) (sym c.rank_of-rank.ensures.gone ∙ c.if-rank.true))
-
-pub overflow_sub-bits : goal.overflow_sub-bits
-overflow_sub-bits c =
-    omega (arith, (stands c.before.before.before).after)
-
-pub overflow_add-bits : goal.overflow_add-bits
-overflow_add-bits c =
-    let L = stands c.before.before.before in omega (arith, L.after, L.within, c.loop-l.invariant.0, c.requires.short)
-
-pub loop-l-smaller : goal.loop-l-smaller
-loop-l-smaller c =
-    omega (arith, c.loop-l-test.true)
+    found_there c.args.payload.now c.loop-l.p c.sure-e.result.value p.value t.value t.others t.at _ c.line_at.ensures
 
 pub loop-l-preserved : goal.loop-l-preserved
 loop-l-preserved c =
-    let L = stands c.before.before.before in
-    (omega (arith, c.loop-l.invariant.0, L.after), L.within, λ v h. next_sized c.loop-l-test.true (line_ends c.args.payload.now c.loop-l.p c.sure-e.result.value v L) (c.loop-l.invariant.2 v h) (sym c.rank_of-rank.ensures.gone ∙ c.if-rank.false))
-
-pub overflow_add-result : goal.overflow_add-result
-overflow_add-result c =
-    omega (arith, c.loop-l.invariant.0, c.loop-l.invariant.1, c.requires.short)
+    let L = stands (goal.at.loop-l-preserved c).After-unwrap-p in
+    let z = sym c.rank_of.ensures.gone ∙ c.is_err.ensures.negation in
+    let ends = λ (v : Pores). line_ends c.args.payload.now c.loop-l.p c.sure-e.result.value v L in
+    elim c.if-is_err.branch [
+      | then-is_err w ↦ rw w.bits-is (omega (arith, c.loop-l.invariant.0, L.after), L.within, λ v h. next_sized c.loop-l-test.true (ends v) (c.loop-l.invariant.2 v h) (z ∙ ap not w.if-is_err.true))
+      | else-is_err w ↦ rw w.bits-is (omega (arith, c.loop-l.invariant.0, L.after), L.within, λ v h. next_gone c.loop-l-test.true (ends v) (c.loop-l.invariant.2 v h) (z ∙ ap not w.if-is_err.false))
+    ]
 
 pub returns : goal.returns
 returns c =

@@ -1,6 +1,6 @@
 -- The test of a removal list, number by number, and what its bytes say where it is right.
 use mathlib.Core.Path.{◌≡◌, refl, sym, ap, ◌∙◌}
-use mathlib.Core.Logic.{◌≢◌}
+use mathlib.Core.Logic.{◌≢◌, ◌⊎◌, inl, inr}
 use Prim.Native.Nat.{ℕ, suc, ◌+◌, ◌*◌, ◌%◌, ◌≤◌, ◌<◌}
 use native.Mathlib.Omega.{arith}
 use mathlib.Core.Bool.{Bool, true, false, ◌&&◌}
@@ -17,7 +17,7 @@ use Rattle.orders.specs.Order.{rises_ok, lines_ok}
 use Rattle.orders.proofs.Laws.Renumber.{ok_lines}
 use Rattle.order_removal.specs.Rank.{Rising}
 
-listed_even : (bs : List ℕ) → length bs % 2 ≡ 0 → removal_lines bs ≡ numbers_in bs
+pub listed_even : (bs : List ℕ) → length bs % 2 ≡ 0 → removal_lines bs ≡ numbers_in bs
 listed_even bs e = pick_yes (eqb (length bs % 2) 0) _ _ (yes_eqb e)
 
 -- ---- the test of a list
@@ -68,15 +68,19 @@ module _ (n : ℕ) where
     pub testing_high : n ≤ x → lines_ok n (removal_lines bs) ≡ false
     testing_high k = here ∙ rise_high m x (numbers_in (drop (a + 2) bs)) k
 
-    pub testing_next : m ≤ x → x < n → Testing bs (x + 1) (a + 2)
-    testing_next k j =
+    pub testing_bad : (x < m) ⊎ ((m ≤ x) × (n ≤ x)) → lines_ok n (removal_lines bs) ≡ false
+    testing_bad (inl k) = testing_low k
+    testing_bad (inr (l, k)) = testing_high k
+
+    pub testing_next : m ≤ x → x < n → {b : ℕ} → b ≡ a + 2 → Testing bs (x + 1) b
+    testing_next k j y =
         let z : x + 1 ≡ suc x = omega arith in
-        record {
+        rw y (record {
           even = t.even;
           whole = omega (arith, t.whole);
           within = omega (arith, t.even, t.whole);
           is = rw z (here ∙ rise_next m x (numbers_in (drop (a + 2) bs)) k j);
-        }
+        })
 
   pub testing_done : {bs : List ℕ} {m a : ℕ} → Testing bs m a → length bs ≤ a → lines_ok n (removal_lines bs) ≡ true
   testing_done {bs} {m} {a} t l = t.is ∙ ap (λ (ys : List ℕ). rises_ok m n (numbers_in ys)) (drop_of_length-le bs l)

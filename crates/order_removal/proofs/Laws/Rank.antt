@@ -1,7 +1,6 @@
--- Numbers in a rising list: how many are below one, found by halving, and whether it is among them.
-use mathlib.Core.Path.{◌≡◌, refl, sym, ap, ◌∙◌}
-use mathlib.Core.Logic.{◌≢◌}
-use Prim.Native.Nat.{ℕ, zero, suc, ◌+◌, ◌-◌, ◌≤◌, ◌<◌}
+-- Numbers in a rising list: how many are below one, and whether it is among them.
+use mathlib.Core.Path.{◌≡◌, refl, sym}
+use Prim.Native.Nat.{ℕ, zero, suc, ◌-◌, ◌≤◌, ◌<◌}
 use native.Mathlib.Omega.{arith}
 use mathlib.Core.Bool.{false, ◌||◌}
 use mathlib.Core.List.{List, [], ◌∷◌}
@@ -10,7 +9,7 @@ use lib.Dec.{eqb, ltb, ltb→lt, nltb→le}
 use Rattle.bits.specs.ChoiceLaws.{pick_case, eqb_true, eqb_false, eq_split}
 use Rattle.orders.specs.Survive.{elem, at, RisesFrom}
 use Rattle.orders.proofs.Laws.Survive.{rises_lt}
-use Rattle.order_removal.specs.Rank.{below, Ranked}
+use Rattle.order_removal.specs.Rank.{below}
 
 pub below_most : (rs : List ℕ) (n : ℕ) → below rs n ≤ length rs
 below_most [] n = omega arith
@@ -74,32 +73,3 @@ elem_end m (r ∷ rs) n h =
     pick_case (λ (k : ℕ). k ≡ suc (length rs) → (eqb n r || elem n rs) ≡ false) (ltb r n) (suc (below rs n)) (below rs n)
     (λ t l. rw (eqb_false n r (λ e. omega (arith, ltb→lt r n t))) (elem_end (suc r) rs n h.1 (omega arith)))
     (λ t l. absurd (omega (arith, below_most rs n)))
-
--- ---- halving
-
--- how many there are is from low to high
-pub record Halving (rs : List ℕ) (n low high : ℕ) : Type 0 where
-  pub from : low ≤ below rs n
-  pub upto : below rs n ≤ high
-  pub within : high ≤ length rs
-
-pub halving_start : (rs : List ℕ) (n k : ℕ) → k ≡ length rs → Halving rs n 0 k
-halving_start rs n k e = record { from = omega arith; upto = omega (arith, below_most rs n); within = omega arith }
-
-module _ {rs : List ℕ} {n low high : ℕ} (h : RisesFrom 0 rs) (v : Halving rs n low high) where
-  pub halving_up : (i : ℕ) → i < high → at rs i < n → Halving rs n (i + 1) high
-  halving_up i l k = record { from = omega (arith, below_more 0 rs n i h (omega (arith, v.within)) k); upto = v.upto; within = v.within }
-
-  pub halving_down : (i : ℕ) → low ≤ i → i < high → n ≤ at rs i → Halving rs n low i
-  halving_down i l k m = record { from = v.from; upto = below_few 0 rs n i h (omega (arith, v.within)) m; within = omega (arith, v.within) }
-
-  module _ (l : high ≤ low) where
-    is_below : low ≡ below rs n
-    is_below = omega (arith, v.from, v.upto)
-
-    pub not_there : low ≡ length rs → Ranked rs n (record { below = low; gone = false })
-    not_there e = record { below = is_below; gone = sym (elem_end 0 rs n h (omega (arith, is_below))) }
-
-    pub maybe_there : low ≢ length rs → (x : ℕ) → x ≡ at rs low → Ranked rs n (record { below = low; gone = eqb x n })
-    maybe_there d x e =
-        record { below = is_below; gone = ap (λ (y : ℕ). eqb y n) (e ∙ ap (at rs) is_below) ∙ sym (elem_at 0 rs n h (omega (arith, is_below, v.upto, v.within))) }

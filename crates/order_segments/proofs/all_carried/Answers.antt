@@ -1,75 +1,36 @@
--- Segment by segment. The invariant: all are of the two types if those still to come are. The measure is how many bytes are left; a
--- segment has four at least.
+-- Segment by segment. The invariant: all are of the two types if those still to come are.
 use native.Mathlib.Omega.{arith}
-use Prim.Native.Nat.{◌-◌}
-use Rattle.bits.specs.Lists.{All}
-use Rattle.bits.specs.Bytes.{Byte}
+use mathlib.Core.Path.{ap}
+use lib.ListN.{length}
 use Rattle.bits.proofs.Laws.Place.{all_bytes}
-use Rattle.find_parts.proofs.Laws.Segments.{SegmentAt, length_stored}
 use Rattle.orders.specs.Order.{carried}
-use Rattle.order_segments.proofs.Laws.Over.{segment_here}
+use Rattle.order_segments.proofs.Laws.Over.{stored_long, block_whole, segment_here}
 use Rattle.order_segments.proofs.Laws.Seen.{Seen, seeing_first, seeing_fails, seeing_next, seeing_done, low_fails, high_fails, type_passes}
 use Rattle.order_segments.proofs.all_carried.Goals as goal
-use Rattle.order_segments.proofs.all_carried.Lts as lts
-use Rattle.order_segments.proofs.all_carried.Reads as reads
-use Rattle.order_segments.proofs.all_carried.Tie as tie
 
-abbrev At-At-loop-next : Type 0
-At-At-loop-next = lts.At-loop tie.the-claims reads.Pre reads.Post goal.the-invariant-loop-next goal.the-decreases-loop-next
-
-abbrev At-In-loop-next : Type 0
-At-In-loop-next = lts.In-loop tie.the-claims reads.Pre reads.Post goal.the-invariant-loop-next goal.the-decreases-loop-next
-
-bytes : (c : At-At-loop-next) → All Byte c.args.block.now
-bytes c = all_bytes c.args.block.now (λ i. (c.shared_slice_known-1.given i).fits)
-
-here : (c : At-In-loop-next) → SegmentAt c.args.block.now c.loop-next.next
-    (c.loop-next.invariant c.requires.value c.requires.left c.requires.reads).more c.requires.left
-here c =
-    let pre = c.requires in
-    segment_here (Seen carried) (bytes c.before) c.loop-next.invariant c.loop-next-test.true pre.value pre.left pre.reads
-
-pub loop-next-init : goal.loop-next-init
-loop-next-init c =
-    seeing_first carried c.args.block.now
+pub loop-segment-init : goal.loop-segment-init
+loop-segment-init c =
+    let p = c.requires in
+    let b = all_bytes c.args.block.now (λ i. (c.type_inv.block i).fits) in
+    rw c.into_iter-segment-iterator.ensures.into_iter_gives (block_whole c.args.block.now p.value p.left p.reads b, seeing_first carried c.args.block.now b)
 
 pub two_at-kind-requires : goal.two_at-kind-requires
 two_at-kind-requires c =
-    omega (arith, (here c.before).there.within)
+    let p = c.requires in
+    let t = segment_here (Seen carried) c.loop-segment.invariant.1 c.in-Some.ensures.steps p.value p.left p.reads in
+    omega (arith, ap length t.is, stored_long t.value)
 
 pub returns-then-kind-lt-LOCAL_QUALITY : goal.returns-then-kind-lt-LOCAL_QUALITY
 returns-then-kind-lt-LOCAL_QUALITY c =
-    let l = c.loop-next-test.true in
-    seeing_fails carried (bytes c.before.before.before.before) c.loop-next.invariant l (low_fails (bytes c.before.before.before.before) c.loop-next.invariant l c.two_at-kind.ensures c.if-kind-lt-LOCAL_QUALITY.true)
+    seeing_fails carried c.loop-segment.invariant.1 c.in-Some.ensures.steps (λ g is. low_fails c.two_at-kind.ensures g is c.if-kind-lt-LOCAL_QUALITY.true)
 
 pub returns-then-kind-gt-PORES : goal.returns-then-kind-gt-PORES
 returns-then-kind-gt-PORES c =
-    let l = c.loop-next-test.true in
-    seeing_fails carried (bytes c.before.before.before.before.before) c.loop-next.invariant l (high_fails (bytes c.before.before.before.before.before) c.loop-next.invariant l c.two_at-kind.ensures c.if-kind-gt-PORES.true)
+    seeing_fails carried c.loop-segment.invariant.1 c.in-Some.ensures.steps (λ g is. high_fails c.two_at-kind.ensures g is c.if-kind-gt-PORES.true)
 
-pub overflow_add-next : goal.overflow_add-next
-overflow_add-next c =
-    omega (arith, c.loop-next-test.true, c.requires.short)
-
-pub two_at-next-requires : goal.two_at-next-requires
-two_at-next-requires c =
-    omega (arith, (here c.before.before.before.before).there.within)
-
-pub overflow_add-next-in-loop-next : goal.overflow_add-next-in-loop-next
-overflow_add-next-in-loop-next c =
-    let t = here c.before.before.before.before.before in
-    omega (arith, c.two_at-next.ensures, length_stored t, t.there.within, c.requires.short)
-
-pub loop-next-smaller : goal.loop-next-smaller
-loop-next-smaller c =
-    let t = here c.before.before.before.before.before in
-    omega (arith, c.two_at-next.ensures, length_stored t, t.there.within)
-
-pub loop-next-preserved : goal.loop-next-preserved
-loop-next-preserved c =
-    let l = c.loop-next-test.true in
-    seeing_next carried (bytes c.before.before.before.before.before.before) c.loop-next.invariant l (type_passes (bytes c.before.before.before.before.before.before) c.loop-next.invariant l c.two_at-kind.ensures c.if-kind-lt-LOCAL_QUALITY.false c.if-kind-gt-PORES.false) c.two_at-next.ensures
+pub loop-segment-preserved : goal.loop-segment-preserved
+loop-segment-preserved c =
+    (c.in-Some.ensures.goes.keeps, seeing_next carried c.loop-segment.invariant.1 c.in-Some.ensures.steps (λ g is. type_passes c.two_at-kind.ensures g is c.if-kind-lt-LOCAL_QUALITY.false c.if-kind-gt-PORES.false))
 
 pub returns : goal.returns
-returns c =
-    seeing_done carried (bytes c.before.before) c.loop-next.invariant c.loop-next-test.false
+returns c = seeing_done carried c.loop-segment.invariant.1 c.in-None.ensures.steps.0

@@ -1,121 +1,59 @@
--- Segment by segment. The invariant: all pores are right if those still to come are. The measure is how many bytes are left; a segment
--- has four at least.
+-- Segment by segment. The invariant: all pores are right if those still to come are.
 use native.Mathlib.Omega.{arith}
-use mathlib.Core.Path.{subst}
-use Prim.Native.Nat.{◌+◌, ◌-◌}
-use lib.ListN.{length-take, length-drop}
-use Rattle.bits.specs.Lists.{All}
-use Rattle.bits.specs.Bytes.{Byte}
-use Rattle.bits.proofs.Laws.Parts.{part}
+use mathlib.Core.Path.{ap, ◌∙◌}
+use mathlib.Core.Bool.{Bool, not}
+use lib.ListN.{length, length-drop, length-take}
 use Rattle.bits.proofs.Laws.Place.{all_bytes}
-use Rattle.find_parts.proofs.Laws.Segments.{SegmentAt, length_stored}
 use Rattle.pores.specs.Keep.{pores_right, all_pores_right}
-use Rattle.pores_judge.specs.Judged.{PayloadJudged}
-use Rattle.pores_judge.specs.declared.JudgedPayload.{JudgedPayload}
-use Rattle.order_segments.proofs.Laws.Over.{segment_here}
-use Rattle.order_segments.proofs.Laws.Seen.{Seen, seeing_first, seeing_fails, seeing_next, seeing_done, other_passes, pores_pass, pores_fail}
+use Rattle.order_segments.specs.Walk.{segments_in}
+use Rattle.order_segments.proofs.Laws.Over.{Here, stored_long, block_whole, segment_here}
+use Rattle.order_segments.proofs.Laws.Seen.{Seen, seeing_first, seeing_fails, seeing_next, seeing_done, other_passes, pores_tested, judged}
 use Rattle.order_segments.proofs.pores_right.Goals as goal
-use Rattle.order_segments.proofs.pores_right.Lts as lts
-use Rattle.order_segments.proofs.pores_right.Reads as reads
-use Rattle.order_segments.proofs.pores_right.Tie as tie
+use Rattle.order_segments.proofs.pores_right.Goals.{In-Some}
 
-abbrev At-At-loop-next : Type 0
-At-At-loop-next = lts.At-loop tie.the-claims reads.Pre reads.Post goal.the-invariant-loop-next goal.the-decreases-loop-next
-
-abbrev At-In-loop-next : Type 0
-At-In-loop-next = lts.In-loop tie.the-claims reads.Pre reads.Post goal.the-invariant-loop-next goal.the-decreases-loop-next
-
-bytes : (c : At-At-loop-next) → All Byte c.args.block.now
-bytes c = all_bytes c.args.block.now (λ i. (c.shared_slice_known-1.given i).fits)
-
-here : (c : At-In-loop-next) → SegmentAt c.args.block.now c.loop-next.next
-    (c.loop-next.invariant c.requires.block.value c.requires.block.left c.requires.block.reads).more c.requires.block.left
+here : (c : In-Some) → Here (Seen (pores_right c.args.lines)) c.requires.block.value c.in-Some.segment.now (segments_in c.next.new.self.0.now)
 here c =
     let b = c.requires.block in
-    segment_here (Seen (pores_right c.args.lines)) (bytes c.before) c.loop-next.invariant c.loop-next-test.true b.value b.left b.reads
+    segment_here (Seen (pores_right c.args.lines)) c.loop-segment.invariant.1 c.in-Some.ensures.steps b.value b.left b.reads
 
-pub loop-next-init : goal.loop-next-init
-loop-next-init c =
-    seeing_first (pores_right c.args.lines) c.args.block.now
+pub loop-segment-init : goal.loop-segment-init
+loop-segment-init c =
+    let p = c.requires.block in
+    let b = all_bytes c.args.block.now (λ i. (c.type_inv.block i).fits) in
+    rw c.into_iter-segment-iterator.ensures.into_iter_gives (block_whole c.args.block.now p.value p.left p.reads b, seeing_first (pores_right c.args.lines) c.args.block.now b)
 
-pub overflow_add-payload : goal.overflow_add-payload
-overflow_add-payload c =
-    omega (arith, (here c.before).there.within, c.requires.block.short)
+pub two_at-requires : goal.two_at-requires
+two_at-requires c =
+    let t = here (goal.at.two_at-requires c).In-Some in omega (arith, ap length t.is, stored_long t.value)
 
-pub two_at-kind-requires : goal.two_at-kind-requires
-two_at-kind-requires c =
-    omega (arith, (here c.before).there.within)
-
-pub overflow_add-next : goal.overflow_add-next
-overflow_add-next c =
-    omega (arith, c.loop-next-test.true, c.requires.block.short)
-
-pub two_at-next-requires : goal.two_at-next-requires
-two_at-next-requires c =
-    omega (arith, (here c.before.before).there.within)
-
-pub overflow_add-next-in-loop-next : goal.overflow_add-next-in-loop-next
-overflow_add-next-in-loop-next c =
-    let t = here c.before.before.before in
-    omega (arith, c.two_at-next.ensures, length_stored t, t.there.within, c.requires.block.short)
-
-pub loop-next-smaller-then-kind-ne-PORES : goal.loop-next-smaller-then-kind-ne-PORES
-loop-next-smaller-then-kind-ne-PORES c =
-    let t = here c.before.before.before.before in
-    omega (arith, c.two_at-next.ensures, length_stored t, t.there.within)
-
-pub loop-next-preserved-then-kind-ne-PORES : goal.loop-next-preserved-then-kind-ne-PORES
-loop-next-preserved-then-kind-ne-PORES c =
-    let l = c.loop-next-test.true in
-    let b = bytes c.before.before.before.before.before in
-    let S = c.loop-next.invariant in
-    seeing_next (pores_right c.args.lines) b S l (other_passes c.args.lines b S l c.two_at-kind.ensures c.if-kind-ne-PORES.true) c.two_at-next.ensures
+pub loop-segment-preserved-then-two_at-ne-PORES : goal.loop-segment-preserved-then-two_at-ne-PORES
+loop-segment-preserved-then-two_at-ne-PORES c =
+    (c.in-Some.ensures.goes.keeps, seeing_next (pores_right c.args.lines) c.loop-segment.invariant.1 c.in-Some.ensures.steps (λ g is. other_passes c.two_at.ensures g is c.args.lines c.if-two_at-ne-PORES.true))
 
 pub slice_bounds-judge_payload-count : goal.slice_bounds-judge_payload-count
 slice_bounds-judge_payload-count c =
-    let t = here c.before.before.before.before in
-    omega (arith, c.two_at-next.ensures, length_stored t, t.there.within)
+    let t = here (goal.at.slice_bounds-judge_payload-count c).In-Some in omega (arith, ap length t.is, stored_long t.value)
 
 pub slice_bounds-judge_payload-start : goal.slice_bounds-judge_payload-start
 slice_bounds-judge_payload-start c =
-    let t = here c.before.before.before.before in
-    omega (arith, c.two_at-next.ensures, length_stored t, t.there.within)
-
-pub slice_bounds-judge_payload-end : goal.slice_bounds-judge_payload-end
-slice_bounds-judge_payload-end c =
-    let t = here c.before.before.before.before in
-    omega (arith, c.two_at-next.ensures, length_stored t, t.there.within)
+    let t = here (goal.at.slice_bounds-judge_payload-start c).In-Some in omega (arith, ap length t.is, stored_long t.value)
 
 pub judge_payload-requires : goal.judge_payload-requires
 judge_payload-requires c =
-    let t = here c.before.before.before.before.before in
-    record { short = simp (length-take, length-drop) (omega (arith, c.two_at-next.ensures, length_stored t, t.there.within, c.requires.block.short)) }
+    let t = here (goal.at.judge_payload-requires c).In-Some in
+    record { short = simp (length-take, length-drop) (omega (arith, ap length t.is, stored_long t.value, t.fits.length)) }
 
-pub loop-next-smaller : goal.loop-next-smaller
-loop-next-smaller c =
-    let t = here c.before.before.before.before.before.before.before in
-    omega (arith, c.two_at-next.ensures, length_stored t, t.there.within)
-
-pub loop-next-preserved : goal.loop-next-preserved
-loop-next-preserved c =
-    let l = c.loop-next-test.true in
-    let b = bytes c.before.before.before.before.before.before.before.before in
-    let S = c.loop-next.invariant in
-    let n = c.two_at-next.ensures in
-    let j = subst (λ (r : JudgedPayload). PayloadJudged c.args.lines (part c.args.block.now (c.loop-next.next + 4) (c.loop-next.next + c.two_at-next.result - (c.loop-next.next + 4))) r) c.in-Right.is c.judge_payload.ensures in
-    seeing_next (pores_right c.args.lines) b S l (pores_pass c.args.lines b S l c.two_at-kind.ensures c.if-kind-ne-PORES.false n j.says) n
-
-pub returns-in_default : goal.returns-in_default
+pub returns-then-is_none : goal.returns-then-is_none
 unfolding all_pores_right
-returns-in_default c =
-    let l = c.loop-next-test.true in
-    let b = bytes c.before.before.before.before.before.before.before.before in
-    let S = c.loop-next.invariant in
-    let n = c.two_at-next.ensures in
-    let j = subst (λ (r : JudgedPayload). PayloadJudged c.args.lines (part c.args.block.now (c.loop-next.next + 4) (c.loop-next.next + c.two_at-next.result - (c.loop-next.next + 4))) r) c.in_default.is c.judge_payload.ensures in
-    seeing_fails (pores_right c.args.lines) b S l (pores_fail c.args.lines b S l c.two_at-kind.ensures c.if-kind-ne-PORES.false n j)
+returns-then-is_none c =
+    let e = c.is_none.ensures ∙ ap (λ (x : Bool). not x) c.if-is_none.true in
+    seeing_fails (pores_right c.args.lines) c.loop-segment.invariant.1 c.in-Some.ensures.steps (λ g is. pores_tested c.two_at.ensures g is c.args.lines c.if-two_at-ne-PORES.false (judged c.args.lines _ c.judge_payload.result c.judge_payload.ensures e))
+
+pub loop-segment-preserved : goal.loop-segment-preserved
+loop-segment-preserved c =
+    let e = c.is_none.ensures ∙ ap (λ (x : Bool). not x) c.if-is_none.false in
+    (c.in-Some.ensures.goes.keeps, seeing_next (pores_right c.args.lines) c.loop-segment.invariant.1 c.in-Some.ensures.steps (λ g is. pores_tested c.two_at.ensures g is c.args.lines c.if-two_at-ne-PORES.false (judged c.args.lines _ c.judge_payload.result c.judge_payload.ensures e)))
 
 pub returns : goal.returns
 unfolding all_pores_right
-returns c =
-    seeing_done (pores_right c.args.lines) (bytes c.before.before) c.loop-next.invariant c.loop-next-test.false
+returns c = seeing_done (pores_right c.args.lines) c.loop-segment.invariant.1 c.in-None.ensures.steps.0

@@ -1,15 +1,16 @@
 -- The words of a list looked through from the first on: for the highest line beside another, and for the next line that is the higher
 -- one of a word.
-use mathlib.Core.Path.{◌≡◌, refl, ◌∙◌}
+use mathlib.Core.Path.{◌≡◌, refl, sym, ap, ◌∙◌}
 use mathlib.Core.Logic.{◌≢◌}
-use Prim.Native.Nat.{ℕ, suc, ◌+◌, ◌/◌, ◌≤◌, ◌<◌}
+use Prim.Native.Nat.{ℕ, suc, ◌+◌, ◌/◌, ◌≤◌, ◌<◌, min, max}
 use native.Mathlib.Omega.{arith}
 use native.Mathlib.Numerals.{add-one}
+use Rattle.std.specs.Prelude.{Option, Some, None, IfSome}
 use mathlib.Core.List.{List}
 use lib.ListN.{length}
 use Rattle.orders.specs.Act.{Word}
 use Rattle.orders.specs.Listed.{words}
-use Rattle.order_words.specs.After.{word_at, heard, heard_in, Quiet, Silent}
+use Rattle.order_words.specs.After.{word_at, heard, heard_in, Quiet, Before, Silent}
 use Rattle.order_words.specs.Looked.{paired, Bound, NextHigh, TurnThere, TurnTold}
 use Rattle.order_words.specs.declared.Pair.{Pair}
 use Rattle.order_words.proofs.Laws.Said.{said_other_high, said_other_low}
@@ -51,11 +52,8 @@ module _ {list : List ℕ} {high before : ℕ} where
     pub bounding_above : before ≤ p.low → Bounding list high before (i + 1) bound
     bounding_above h = apart bound (omega arith) t.within (λ x k l e. omega arith)
 
-    pub bounding_below : p.low < bound → Bounding list high before (i + 1) bound
-    bounding_below h = apart bound (omega arith) t.within (λ x k l e. omega arith)
-
-    pub bounding_raised : {b : ℕ} → b ≡ p.low + 1 → p.low < before → bound ≤ p.low → Bounding list high before (i + 1) b
-    bounding_raised {b} e h m = apart b (omega arith) (omega arith) (λ x k l z. omega arith)
+    pub bounding_raised : {b : ℕ} → b ≡ max bound (p.low + 1) → p.low < before → Bounding list high before (i + 1) b
+    bounding_raised {b} e h = apart b (omega arith) (omega (arith, t.within)) (λ x k l z. omega arith)
 
   -- all words are passed
   pub bounding_done : {i bound : ℕ} → Bounding list high before i bound → i ≡ length list / 6 → Bound list high before bound
@@ -64,16 +62,16 @@ module _ {list : List ℕ} {high before : ℕ} where
 
 -- ---- the next higher line
 
--- none of the first i words has its higher line from `from` on and below `next`
-pub record Seeking (list : List ℕ) (from i next : ℕ) : Type 0 where
-  pub up : from ≤ next
+-- none of the first i words has its higher line from `from` on and before `next`
+pub record Seeking (list : List ℕ) (from i : ℕ) (next : Option ℕ) : Type 0 where
+  pub up : IfSome next (λ l. from ≤ l)
   pub silent : Silent (heard (words list) i) from next
 
 module _ {list : List ℕ} {from : ℕ} where
-  pub seeking_start : {next : ℕ} → from ≤ next → Seeking list from 0 next
-  seeking_start h = record { up = h; silent = λ l k m x a b start. refl }
+  pub seeking_start : Seeking list from 0 None
+  seeking_start = record { up = tt; silent = λ l k m x a b start. refl }
 
-  module _ {i next : ℕ} {p : Pair} (t : Seeking list from i next) (P : p ≡ paired (word_at (words list) i)) where
+  module _ {i : ℕ} {next : Option ℕ} {p : Pair} (t : Seeking list from i next) (P : p ≡ paired (word_at (words list) i)) where
     -- the same
     abbrev v : Word
     v = word_at (words list) i
@@ -81,37 +79,46 @@ module _ {list : List ℕ} {from : ℕ} where
     abbrev ks : List Word
     ks = heard (words list) i
 
-    aside : (n : ℕ) → from ≤ n → n ≤ next → ((l : ℕ) → from ≤ l → l < n → p.high ≢ l) → Seeking list from (i + 1) n
-    aside n u h f =
+    aside : (n : Option ℕ) → IfSome n (λ l. from ≤ l) → ((l : ℕ) → from ≤ l → Before l n → (p.high ≢ l) × Before l next) → Seeking list from (i + 1) n
+    aside n u f =
         rw (add-one i) (record {
           up = u;
-          silent = λ l k m x a b start. said_other_high v P ks (omega arith) start (f l k m) ∙ t.silent l k (omega arith) x a b start;
+          silent = λ l k m x a b start. let (d, o) = f l k m in said_other_high v P ks (omega arith) start d ∙ t.silent l k o x a b start;
         })
 
     pub seeking_before : p.high < from → Seeking list from (i + 1) next
-    seeking_before h = aside next t.up (omega arith) (λ l k m e. omega arith)
+    seeking_before h = aside next t.up (λ l k m. (λ e. omega arith, m))
 
-    pub seeking_behind : next ≤ p.high → Seeking list from (i + 1) next
-    seeking_behind h = aside next t.up (omega arith) (λ l k m e. omega arith)
+    pub seeking_first : next ≡ None → from ≤ p.high → Seeking list from (i + 1) (Some p.high)
+    seeking_first e h = aside (Some p.high) h (λ l k m. (λ z. omega arith, rw e tt))
 
-    pub seeking_here : from ≤ p.high → p.high < next → Seeking list from (i + 1) p.high
-    seeking_here h b = aside p.high h (omega arith) (λ l k m e. omega arith)
+    pub seeking_lower : {n m : ℕ} → next ≡ Some n → m ≡ min n p.high → from ≤ p.high → Seeking list from (i + 1) (Some m)
+    seeking_lower {n} {m} e z h =
+        let u : from ≤ n = rw e at t.up in
+        aside (Some m) (omega arith) (λ l k o. (λ y. omega arith, rw e (omega arith)))
 
-  pub seeking_done : {i next : ℕ} → Seeking list from i next → i ≡ length list / 6 → NextHigh list from next
+  pub seeking_done : {i : ℕ} {next : Option ℕ} → Seeking list from i next → i ≡ length list / 6 → NextHigh list from next
   unfolding heard_in
   seeking_done t e = record { up = t.up; silent = rw (← e) t.silent }
 
 -- ---- line l's turn
 
-module _ {list : List ℕ} {l named : ℕ} (t : TurnThere list l named) where
+module _ {list : List ℕ} {l : ℕ} {named : Option ℕ} (t : TurnThere list l named) where
   -- no word has it as its higher line
-  pub turn_other : l ≢ named → TurnTold list l (record { bound = 0; next = named })
+  pub turn_other : named ≢ Some l → TurnTold list l (record { bound = 0; next = named })
   turn_other d =
-      let u : l < named = omega (arith, t.next.up) in
       record {
-        bound = record { within = omega arith; quiet = t.next.silent l (omega arith) u };
-        next = record { up = omega arith; silent = λ m a b. t.next.silent m (omega arith) b };
+        bound = record { within = omega arith; quiet = t.next.silent l (omega arith) (before named d t.next.up) };
+        next = record { up = above named d t.next.up; silent = λ m a b. t.next.silent m (omega arith) b };
       }
+    where
+      before : (r : Option ℕ) → r ≢ Some l → IfSome r (λ n. l ≤ n) → Before l r
+      before None d u = tt
+      before (Some n) d u = let e : l ≢ n = λ z. d (ap Some (sym z)) in omega arith
 
-  pub turn_named : {b n : ℕ} → Bound list l (l + 1) b → NextHigh list (l + 1) n → TurnTold list l (record { bound = b; next = n })
+      above : (r : Option ℕ) → r ≢ Some l → IfSome r (λ n. l ≤ n) → IfSome r (λ n. l + 1 ≤ n)
+      above None d u = tt
+      above (Some n) d u = let e : l ≢ n = λ z. d (ap Some (sym z)) in omega arith
+
+  pub turn_named : {b : ℕ} {n : Option ℕ} → Bound list l (l + 1) b → NextHigh list (l + 1) n → TurnTold list l (record { bound = b; next = n })
   turn_named B N = record { bound = rw add-one at B; next = N }

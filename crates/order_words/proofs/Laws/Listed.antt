@@ -1,8 +1,9 @@
 -- The words of a list in its bytes: the one at place i is in bytes 6 i to 6 i + 5, and the first bytes of a list are its first words.
 use mathlib.Core.Path.{◌≡◌, refl, ap, ap₂, ◌∙◌}
-use Prim.Native.Nat.{ℕ, zero, suc, ◌+◌, ◌*◌, ◌/◌, ◌%◌, ◌≤◌, ◌<◌, min, max}
+use Prim.Native.Nat.{ℕ, zero, suc, ◌+◌, ◌*◌, ◌/◌, ◌%◌, ◌≤◌, min, max}
 use native.Mathlib.Omega.{arith}
-use mathlib.Core.Bool.{Bool, true, false}
+use mathlib.Core.Bool.{Bool, true, false, not}
+use Rattle.std.specs.Int.{from_bool}
 use mathlib.Core.List.{List, [], ◌∷◌}
 use lib.ListN.{length, take, get_or}
 use lib.Seq.{length-take-le, get_or-take}
@@ -106,24 +107,15 @@ module _ (list : List ℕ) (i : ℕ) {k a b : ℕ} (l : 6 * i + 6 ≤ length lis
   is_read : word_at (words list) i ≡ record { one = a; other = b; joins = eqb k 0 }
   is_read = rw (ek, ea, eb) (word_at_lem list i l)
 
-  pub pair_turned : a < b → record { high = b; low = a; joins = eqb k 0 } ≡ paired (word_at (words list) i)
-  pair_turned h =
-      let x : max a b ≡ b = omega arith in
-      let y : min a b ≡ a = omega arith in
-      rw (is_read, x, y)
-
-  pub pair_straight : b ≤ a → record { high = a; low = b; joins = eqb k 0 } ≡ paired (word_at (words list) i)
-  pair_straight h =
-      let x : max a b ≡ a = omega arith in
-      let y : min a b ≡ b = omega arith in
-      rw (is_read, x, y)
+  pub pair_read : {high low : ℕ} → high ≡ max a b → low ≡ min a b
+      → record { high = high; low = low; joins = eqb k 0 } ≡ paired (word_at (words list) i)
+  pair_read h m = rw (h, m, is_read)
 
 -- ---- the list of one word
 
 -- the first number
-abbrev pub kind : Bool → ℕ
-kind true = 0
-kind false = 1
+abbrev kind : Bool → ℕ
+kind joins = from_bool (not joins)
 
 abbrev pub bytes_of : ℕ → ℕ → ℕ → List ℕ
 bytes_of k a b = 0 ∷ k ∷ a / 256 ∷ a % 256 ∷ b / 256 ∷ b % 256 ∷ []

@@ -1,8 +1,9 @@
 -- The words of a list looked through from the last back, for the last one about two lines.
 use mathlib.Core.Path.{◌≡◌, refl, sym, ap, ◌∙◌}
-use mathlib.Core.Logic.{◌≢◌}
+use mathlib.Core.Logic.{◌≢◌, ◌⊎◌, inl, inr}
 use Prim.Native.Nat.{ℕ, suc, ◌-◌, ◌/◌, ◌≤◌, ◌<◌, min, max}
 use native.Mathlib.Omega.{arith}
+use Rattle.std.specs.Prelude.{Some, None}
 use mathlib.Core.Bool.{Bool, true, false, ◌&&◌}
 use mathlib.Core.List.{List, ◌∷◌}
 use lib.ListN.{length}
@@ -14,10 +15,8 @@ use Rattle.orders.specs.Act.{Word}
 use Rattle.orders.specs.Listed.{words}
 use Rattle.orders.specs.History.{about, said}
 use Rattle.order_words.specs.After.{word_at, heard, heard_in}
-use Rattle.order_words.specs.Looked.{paired, settled, Says}
+use Rattle.order_words.specs.Looked.{paired, Says}
 use Rattle.order_words.specs.declared.Pair.{Pair}
-use Rattle.order_words.specs.declared.Spoken.{Spoken}
-use Rattle.order_words.specs.declared.Spoken.TheVariants as spoken
 
 -- ---- one word, as code has it, and two lines
 
@@ -56,7 +55,7 @@ module _ {list : List ℕ} {high low : ℕ} where
   unfolding heard_in
   back_start = record { within = omega arith; is = λ start. refl }
 
-  pub back_done : {i : ℕ} → Back list high low i → i ≤ 0 → Says list high low spoken.Nothing
+  pub back_done : {i : ℕ} → Back list high low i → i ≤ 0 → Says list high low None
   back_done {i} t l =
       let z : i ≡ 0 = omega arith in
       record { is = λ start. t.is start ∙ ap (λ (j : ℕ). said (heard (words list) j) high low start) z }
@@ -78,21 +77,9 @@ module _ {list : List ℕ} {high low : ℕ} where
     back_other : ((start : Bool) → said (w ∷ hs) high low start ≡ said hs high low start) → Back list high low (i - 1)
     back_other f = record { within = omega (arith, t.within); is = λ start. last_word start ∙ f start }
 
-    pub back_high : p.high ≢ high → Back list high low (i - 1)
-    back_high d = back_other (λ start. said_other_high w P hs o start d)
+    pub back_next : (p.high ≡ high × (p.low ≢ low)) ⊎ (p.high ≢ high) → Back list high low (i - 1)
+    back_next (inl (e, d)) = back_other (λ start. said_other_low w P hs o start d)
+    back_next (inr d) = back_other (λ start. said_other_high w P hs o start d)
 
-    pub back_low : p.low ≢ low → Back list high low (i - 1)
-    back_low d = back_other (λ start. said_other_low w P hs o start d)
-
-    module _ (e : p.high ≡ high) (f : p.low ≡ low) where
-      pub back_joins : p.joins ≡ true → Says list high low spoken.Joins
-      back_joins j = record { is = λ start. last_word start ∙ said_here w P hs o start e f ∙ j }
-
-      pub back_parts : p.joins ≡ false → Says list high low spoken.Parts
-      back_parts j = record { is = λ start. last_word start ∙ said_here w P hs o start e f ∙ j }
-
--- ---- what the last word settles
-
-pub says_settled : {list : List ℕ} {high low : ℕ} {w v : Spoken} (start : Bool) → Says list high low w → w ≡ v
-    → settled v start ≡ said (heard_in list) high low start
-says_settled start h e = rw (← e) (sym (h.is start))
+    pub back_found : p.high ≡ high → p.low ≡ low → Says list high low (Some p.joins)
+    back_found e f = record { is = λ start. last_word start ∙ said_here w P hs o start e f }

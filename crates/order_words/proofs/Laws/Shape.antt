@@ -116,14 +116,14 @@ module _ {bs : List ℕ} {a x : ℕ} (t : Shaping bs a) (l : a < length bs) (e :
   pub shaping_other : 1 < x → shape_ok bs ≡ false
   shaping_other k = next_word ∙ rw (T_false (leb x 1) (no_leb k))
 
-  pub shaping_next : x ≤ 1 → Shaping bs (a + 6)
-  shaping_next k =
-      record {
+  pub shaping_next : x ≤ 1 → {b : ℕ} → b ≡ a + 6 → Shaping bs b
+  shaping_next k z =
+      rw z (record {
         whole = t.whole;
         here = omega (arith, t.here);
         within = omega (arith, t.whole, t.here);
         is = next_word ∙ rw (T_true (leb x 1) (yes_leb k));
-      }
+      })
 
 pub shaping_done : {bs : List ℕ} {a : ℕ} → Shaping bs a → length bs ≤ a → shape_ok bs ≡ true
 shaping_done {bs} t l = t.is ∙ ap kinds (drop_of_length-le bs l)

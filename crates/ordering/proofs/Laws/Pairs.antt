@@ -1,5 +1,6 @@
 -- Orders about pairs on a view that is found: a list of them judged and carried out; and one order, which is a list of one.
 use mathlib.Core.Path.{◌≡◌, sym, ap, ◌∙◌, subst}
+use mathlib.Core.Logic.{◌⊎◌, inl, inr}
 use Prim.Native.Nat.{ℕ, ◌≤◌, ◌<◌}
 use native.Mathlib.Omega.{arith}
 use mathlib.Core.Bool.{Bool, not, ◌&&◌}
@@ -11,6 +12,9 @@ use Rattle.bits.specs.ChoiceLaws.{not_first, not_second}
 use Rattle.outcome.specs.Refusals.{bad_lines, no_index, bad_pairs}
 use Rattle.outcome.specs.Outcome.{Outcome, refused, Answers}
 use Rattle.outcome.specs.declared.Answer.{Answer}
+use Rattle.std.specs.Prelude.{Result}
+use Rattle.outcome.specs.Why.{answer_of}
+use Rattle.outcome.specs.declared.refusal.Refused.{Refused}
 use Rattle.outcome.proofs.Laws.{room_answers, answer_refused}
 use Rattle.format.specs.View.{View}
 use Rattle.format.specs.Places.{view_at, count}
@@ -30,11 +34,11 @@ use Rattle.order_words.proofs.Laws.Shape.{shaped}
 use Rattle.order_record.specs.Rebuilt.{new_record, Placed}
 use Rattle.order_record.proofs.Laws.Extended.{all_fit}
 use Rattle.order_record.proofs.Laws.Acts.{record_worded}
-use Rattle.order_view.specs.Named.{Named}
+use Rattle.order_view.specs.Named.{Named, NotNamed}
 use Rattle.order_carry.specs.Carried.{held_to, CarriedOut}
 use Rattle.order_pairs.specs.Judged.{OrdersThere, AllRight, OneRefused}
 use Rattle.order_pairs.proofs.Laws.Limits.{words_placed}
-use Rattle.ordering.specs.Orders.{PairsThere, PairsDone}
+use Rattle.ordering.specs.Orders.{NotIndexed, PairsThere, PairsDone}
 use Rattle.ordering.proofs.Laws.View.{counted, right, few, not_indexed, is_indexed, own_refused}
 
 -- ---- a list
@@ -52,15 +56,15 @@ module _ {s : List ℕ} {x : Site} {list : List ℕ} (t : PairsThere s x list) w
       let S = shaped list t.shape in
       words_placed (record { there = list_there.there; few = omega (arith, S.whole, S.few); passed = A.passed t.view t.count t.named })
 
-  pub list_done : {before after : List ℕ} {last : ℕ} {a : Answer} → AllRight s x list (length before) last → CarriedOut s x list [] last before after a → PairsDone s x list before after a
-  list_done {before} {after} {last} {a} A C =
+  pub list_done : {before after : List ℕ} {last : ℕ} {r : Result ℕ Refused} → AllRight s x list (length before) last → CarriedOut s x list [] last before after r → PairsDone s x list before after (answer_of r)
+  list_done {before} {after} {last} {r} A C =
       record {
         is = λ view n F.
             let S = shaped list t.shape in
             let z : new_record [] list F.place F.value ≡ record_after F.place (heard_in list) F.value =
             record_worded F.place list F.value F.at.there (all_fit _ F.at.segments.value) (right F) (A.passed view n F) (omega (arith, S.whole, S.some)) in
             let h = C.is F.value F.place F.reads F.at (λ l. rw z (A.allowed view n F (rw z at l))) in
-            subst (λ (u : Outcome ℕ). Answers u before after a) (ap (held_to last (length before)) z ∙ sym (A.is view n F)) h;
+            subst (λ (u : Outcome ℕ). Answers u before after (answer_of r)) (ap (held_to last (length before)) z ∙ sym (A.is view n F)) h;
       }
 
 module _ {s : List ℕ} {view : ViewName} {n : ℕ} {x : Site} (F : Named s view n x) where
@@ -97,11 +101,16 @@ module _ {s : List ℕ} {view : ViewName} {n : ℕ} {x : Site} (F : Named s view
       bad_pair : T (not both) → order (pair_order view n a b joins) s ≡ refused bad_lines 0
       bad_pair t = own_refused F (pair_act joins a b) ((indexed? v, no_index) ∷ []) both bad_lines _ (word_tests_lem joins a b v) (is_indexed F l, tt) t (omega arith)
 
-      pub no_first : n ≤ a → order (pair_order view n a b joins) s ≡ refused bad_lines 0
+      no_first : n ≤ a → order (pair_order view n a b joins) s ≡ refused bad_lines 0
       no_first k = bad_pair (not_first (ltb a (count v)) (ltb b (count v)) (no_ltb {a = a} (omega (arith, counted F))))
 
-      pub no_second : n ≤ b → order (pair_order view n a b joins) s ≡ refused bad_lines 0
+      no_second : n ≤ b → order (pair_order view n a b joins) s ≡ refused bad_lines 0
       no_second k = bad_pair (not_second (ltb a (count v)) (ltb b (count v)) (no_ltb {a = b} (omega (arith, counted F))))
+
+      -- as code tests them, one after the other
+      pub no_line : (n ≤ a) ⊎ ((a < n) × (n ≤ b)) → order (pair_order view n a b joins) s ≡ refused bad_lines 0
+      no_line (inl k) = no_first k
+      no_line (inr (_, k)) = no_second k
 
     -- their numbers have 16 bits
     pub one_there : a < n → b < n → OneThere a b
@@ -115,3 +124,11 @@ module _ {s : List ℕ} {view : ViewName} {n : ℕ} {x : Site} (F : Named s view
         let e : in_turn 0 (singly (pairs_call view n list before)) s ≡ outcome (word_call view n (length before) w) s =
         ap (λ (ws : List Word). in_turn 0 (map (word_call view n (length before)) ws) s) W.is ∙ turn_one (word_call view n (length before) w) s F.value F.reads in
         room_answers (subst (λ (u : Outcome ℕ). Answers u before after c) e (D.is view n F))
+
+-- ---- the view and its index
+
+pub not_there : {s : List ℕ} {view : ViewName} {n e p : ℕ} → NotNamed s view n e p → NotIndexed s view n e p
+not_there N = record { pair = λ a b joins. N.order (pair_act joins a b); pairs = λ list before. N.pairs list (length before) }
+
+pub without_index : {s : List ℕ} {view : ViewName} {n : ℕ} {x : Site} → Named s view n x → x.index.to ≤ x.index.from → NotIndexed s view n no_index 0
+without_index F l = record { pair = λ a b joins. pair_no_index F a b joins l; pairs = λ list before. pairs_no_index F list before l }

@@ -8,7 +8,9 @@ use lib.ListN.{length}
 use lib.Dec.{T}
 use Rattle.outcome.specs.Refusals.{bad_lines, extended, bad_pores}
 use Rattle.outcome.specs.Outcome.{refused, Answers}
-use Rattle.outcome.specs.declared.Answer.{Answer}
+use Rattle.std.specs.Prelude.{Result}
+use Rattle.outcome.specs.Why.{answer_of}
+use Rattle.outcome.specs.declared.refusal.Refused.{Refused}
 use Rattle.format.specs.Record.{Record}
 use Rattle.format.specs.View.{View}
 use Rattle.format.specs.Places.{view_at, count}
@@ -95,9 +97,9 @@ module _ {s : List ℕ} {view : ViewName} {n : ℕ} {x : Site} (F : Named s view
                 right = λ d. rw F.at.count (subst T (sym y ∙ ok_is) tt);
               }
 
-          pub removal_done : {before after : List ℕ} {a : Answer} → CarriedOut s x [] lines 0 before after a → Answers (order (removal_order view n lines) s) before after a
+          pub removal_done : {before after : List ℕ} {a : Result ℕ Refused} → CarriedOut s x [] lines 0 before after a → Answers (order (removal_order view n lines) s) before after (answer_of a)
           removal_done {before} {after} {a} C =
               let o : Order = removal_order view n lines in
               let z : new_record lines [] F.place F.value ≡ edited F.place act F.value = record_removed F.place lines F.value rises (right F) in
               let h = C.is F.value F.place F.reads F.at (λ l. rw z (order_keeps o F.place F.value (allowed F) (record { means = F.means; count = counted F; passes = passes; small = rw z at l }))) in
-              order_answers o s F.reads F.means (counted F) passes (subst (λ (r : Record). Answers (held_to 0 (length before) r) before after a) z h)
+              order_answers o s F.reads F.means (counted F) passes (subst (λ (r : Record). Answers (held_to 0 (length before) r) before after (answer_of a)) z h)

@@ -11,7 +11,7 @@ use Rattle.bits.specs.Codec.{got}
 use Rattle.outcome.specs.Refusals.{other_count}
 use Rattle.outcome.specs.Numbers.{among, pairs_numbers}
 use Rattle.outcome.specs.Outcome.{Outcome, refused, given, number_of, length_of, laid}
-use Rattle.outcome.proofs.Refused.{Refused, refused_map}
+use Rattle.outcome.proofs.Refusing.{Refused, refused_map}
 use Rattle.outcome.proofs.Numbers.{not_zero}
 use Rattle.format.specs.Record.{Record, read}
 use Rattle.orders.specs.Act.{remove}

@@ -11,7 +11,7 @@ use Rattle.bits.specs.ListsLaws.{all_append}
 use Rattle.bits.specs.Bytes.{Byte}
 use Rattle.bits.specs.Codec.{Read, got}
 use Rattle.outcome.specs.Outcome.{given, number_of}
-use Rattle.outcome.proofs.Refused.{refused_case}
+use Rattle.outcome.proofs.Refusing.{refused_case}
 use Rattle.format.specs.View.{View}
 use Rattle.format.specs.Record.{Record, read, write, Allowed}
 use Rattle.format.specs.Places.{view_at, with_view, count}

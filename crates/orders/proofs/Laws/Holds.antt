@@ -10,7 +10,7 @@ use lib.Dec.{leb, le→leb}
 use lib.Seq.{take-append_seam}
 use Rattle.bits.specs.ChoiceLaws.{pick_yes, eqb_false}
 use Rattle.outcome.specs.Outcome.{Outcome, refused, given, number_of, length_of, laid}
-use Rattle.outcome.proofs.Refused.{Refused}
+use Rattle.outcome.proofs.Refusing.{Refused}
 use Rattle.outcome.proofs.Numbers.{RefusedBy}
 use Rattle.orders.specs.Order.{Order, order, holds}
 use Rattle.orders.specs.History.{now_holds}

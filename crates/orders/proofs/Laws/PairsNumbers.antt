@@ -17,7 +17,7 @@ use Rattle.outcome.specs.Numbers.{among, Gives, pairs_numbers}
 use Rattle.outcome.specs.Placed.{PlacedInList}
 use Rattle.outcome.specs.Outcome.{given, room, number_of, Answers}
 use Rattle.outcome.specs.declared.Answer.{Answer}
-use Rattle.outcome.proofs.Refused.{Refused, refused_case, refused_map, refused_shown, room_refused}
+use Rattle.outcome.proofs.Refusing.{Refused, refused_case, refused_map, refused_shown, room_refused}
 use Rattle.outcome.proofs.Numbers.{RefusedBy, among_first, answer_number}
 use Rattle.format.specs.Record.{Record, read, write, Allowed}
 use Rattle.format.proofs.Laws.Refuses.{read_refuses}

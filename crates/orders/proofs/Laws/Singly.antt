@@ -16,7 +16,7 @@ use Rattle.outcome.specs.Numbers.{among, pairs_numbers}
 use Rattle.outcome.specs.Outcome.{Outcome, refused, given, room, number_of, place_of, Answers, Gave}
 use Rattle.outcome.specs.declared.Answer.{Answer}
 use Rattle.outcome.proofs.Laws.{room_zero, answer_there}
-use Rattle.outcome.proofs.Refused.{Refused, refused_case}
+use Rattle.outcome.proofs.Refusing.{Refused, refused_case}
 use Rattle.outcome.proofs.Numbers.{never_zero}
 use Rattle.format.specs.View.{View}
 use Rattle.format.specs.Record.{read}

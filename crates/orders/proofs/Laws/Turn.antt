@@ -11,7 +11,7 @@ use Rattle.bits.specs.Codec.{got}
 use Rattle.outcome.specs.Numbers.{among}
 use Rattle.outcome.specs.Outcome.{refused, given, room}
 use Rattle.outcome.proofs.Laws.{room_again}
-use Rattle.outcome.proofs.Refused.{refused_case}
+use Rattle.outcome.proofs.Refusing.{refused_case}
 use Rattle.format.specs.Record.{Record, read}
 use Rattle.format.specs.declared.ViewName.{ViewName}
 use Rattle.orders.specs.Act.{Word}

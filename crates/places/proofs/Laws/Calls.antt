@@ -13,7 +13,7 @@ use Rattle.bits.specs.Codec.{Read}
 use Rattle.bits.specs.Codec as C
 use Rattle.outcome.specs.Outcome.{Outcome, refused, given, room, number_of, place_of, AnswersAs, told}
 use Rattle.outcome.specs.declared.Answer.{Answer}
-use Rattle.outcome.proofs.Refused.{Refused, room_refused, refused_shown}
+use Rattle.outcome.proofs.Refusing.{Refused, room_refused, refused_shown}
 use Rattle.format.specs.Record.{Record, read}
 use Rattle.format.specs.Call.{from_read, on_record}
 use Rattle.places.specs.Reach.{reach, Agree, AnsweredAlike}

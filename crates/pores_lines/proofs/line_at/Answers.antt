@@ -1,7 +1,6 @@
 -- Element by element. The invariant: the line's distances are those counted and those still to come.
 use native.Mathlib.Omega.{arith}
 use mathlib.Core.Path.{◌∙◌}
-use Prim.Native.Nat.{◌-◌}
 use Rattle.outcome.specs.Refusals.{bad_pores}
 use Rattle.pores_elements.proofs.ElementLaws.{pow_four}
 use Rattle.pores_lines.proofs.Laws.{going_first, no_mark, other_mark, zero_breaks, zero_ends, going_ones, going_distance, end_breaks, end_ends}

@@ -16,7 +16,7 @@ use Rattle.pores_parts.specs.Parts.{Pores}
 use Rattle.pores.specs.Numbers.{line_numbers, make_of_numbers, numbers, used_up, pores_of, fours_in, pores_from}
 use Rattle.pores_numbers.specs.Judged.{LinesJudged, NumbersBroken, NumbersJudged}
 use Rattle.pores_numbers.specs.declared.JudgedNumbers.{JudgedNumbers}
-use Rattle.pores_numbers.specs.declared.JudgedNumbers.TheVariants as n
+use Rattle.std.specs.Prelude.{Option, Some, None}
 use Rattle.pores_numbers.proofs.Laws.Fours.{four_at, fours_from}
 
 -- the pores of what is read of the lines
@@ -102,12 +102,12 @@ module _ (lines : ℕ) (vs : List ℕ) where
               first_two ∙ both_right lines (four_at vs 0) (four_at vs 4) (fours_in (drop 8 vs)) right_resolution (T_true (within 2 8 (four_at vs 4)) (within_yes 2 8 (four_at vs 4) (omega (arith, ee)) (omega (arith, ee))))
               ∙ ap₂ (λ (y z : ℕ). used_up (with_lines y z (times_dec line_numbers lines (fours_in (drop 8 vs))))) (sym ex) (sym ee)
 
-          pub numbers_judged : (r : JudgedNumbers) → LinesJudged lines vs e r → NumbersJudged lines vs r
-          numbers_judged (n.Right k u) R =
+          pub numbers_judged : (r : Option JudgedNumbers) → LinesJudged lines vs e r → NumbersJudged lines vs r
+          numbers_judged (Some n) R =
               record {
                 value = record { resolution = x; e = e; lines = R.value };
                 is = from_lines ∙ ap (λ (o : Read ℕ (List (List ℕ))). used_up (with_lines x e o)) R.is;
                 bits = R.bits;
                 elements = R.elements;
               }
-          numbers_judged n.Broken B = record { is = from_lines ∙ not_used_up x e (times_dec line_numbers lines (fours_in (drop 8 vs))) B.is }
+          numbers_judged None B = record { is = from_lines ∙ not_used_up x e (times_dec line_numbers lines (fours_in (drop 8 vs))) B.is }

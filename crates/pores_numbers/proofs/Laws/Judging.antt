@@ -8,7 +8,6 @@ use mathlib.Core.List.{List, [], ◌∷◌}
 use lib.ListN.{length, drop}
 use lib.Dec.{leb}
 use mir.Facts.{yes_leb, no_leb}
-use Rattle.bits.specs.Choice.{within}
 use Rattle.bits.specs.ChoiceLaws.{pick_yes, pick_no}
 use Rattle.bits.specs.Lists.{total}
 use Rattle.bits.specs.Codec.{Read, got, refused, next, value_of, then_dec, times_dec, via_dec, only_dec, Codec}
@@ -100,10 +99,10 @@ module _ {vs : List ℕ} {at e t : ℕ} (h : LineThere vs at e t) where
               distances_zero z =
                   stops (rw (← one_more) (sums_none distance_number (distance_elements e) v (n - 1) (fours_in (drop a vs)) (rw here (distance_zero d (fours_in (drop (a + 4) vs)) z))))
 
-              pub distances_next : {p w : ℕ} → d ≢ 0 → p ≡ 2 ^ e → w ≡ counted (v + (d - 1) / (p - 2) + 1) → Distances vs e m (at + 4) u (n - 1) (a + 4) w
-              distances_next {p} {w} z ep ew =
+              pub distances_next : {o p w : ℕ} → o ≡ n - 1 → d ≢ 0 → p ≡ 2 ^ e → w ≡ counted (v + (d - 1) / (p - 2) + 1) → Distances vs e m (at + 4) u o (a + 4) w
+              distances_next {p = p} {w = w} eo z ep ew =
                   let q : w ≡ counted (v + distance_elements e d) = omega (arith, rw ep at ew) in
-                  record {
+                  rw eo record {
                     start = omega (arith, D.start);
                     within = distance_fits;
                     few = omega arith;
@@ -149,9 +148,9 @@ module _ (lines : ℕ) {vs : List ℕ} {e : ℕ} where
           let y : value_of (times_dec line_numbers lines (fours_in (drop 8 vs))) ≡ none = none_sums (line_elements e) 0 (times_dec line_numbers lines (fours_in (drop 8 vs))) (rw L.is at z) in
           record { is = λ ls g. let x : ◌≡◌ {A = ℕ} 0 1 = cc in omega arith }
 
-      pub lines_next : {b u : ℕ} → LineRight vs a e t b u → Lines lines vs e (n - 1) b u
-      lines_next {b} {u} R =
-          record {
+      pub lines_next : {o b u : ℕ} → o ≡ n - 1 → LineRight vs a e t b u → Lines lines vs e o b u
+      lines_next eo R =
+          rw eo record {
             there = record { whole = L.there.whole; start = R.start; within = R.within; low = L.there.low; high = L.there.high; few = omega (arith, R.elements) };
             is = rw R.elements
                 (sym (sums_next line_numbers (line_elements e) t (n - 1) (fours_in (drop a vs)) R.is)

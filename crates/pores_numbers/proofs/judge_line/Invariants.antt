@@ -3,8 +3,5 @@ use Prim.Native.Nat.{◌-◌}
 use Rattle.pores_numbers.proofs.Laws.Judging.{Distances}
 use Rattle.pores_numbers.proofs.judge_line.Given as goal
 
-abbrev pub invariant-loop-left : goal.invariant-loop-left
-invariant-loop-left l = Distances l.values l.e l.initial.left l.initial.next l.initial.total l.left l.next l.total
-
-abbrev pub decreases-loop-left : goal.decreases-loop-left
-decreases-loop-left l = l.left
+abbrev pub invariant-loop : goal.invariant-loop
+invariant-loop l = Distances l.values l.e l.count l.initial.next l.initial.total (l.count - l.counter) l.next l.total

@@ -129,9 +129,9 @@ module _ {lines : ℕ} {vs : List ℕ} {e : ℕ} {out : List ℕ} (h : PayloadRo
                   room = putting_room ((line e).enc (here l).first) (line_bits e (here l).others) (first_put l) lines_room;
                 }
 
-            pub lines_next : {next : List ℕ} {z : Reached} → LinePut vs e now y next z → Lines lines vs e old at (n - 1) next z
-            lines_next P =
-                record {
+            pub lines_next : {o : ℕ} {next : List ℕ} {z : Reached} → o ≡ n - 1 → LinePut vs e now y next z → Lines lines vs e old at o next z
+            lines_next eo P =
+                rw eo record {
                   is = λ ls q.
                       let l = L.is ls q in
                       let (b, c) = P.is (here l).first (here l).behind (here l).reads in

@@ -59,8 +59,8 @@ module _ {old : List ℕ} {at d e : ℕ} (h : DistanceRoom old at d e) {k : ℕ}
       ones_fit =
           can_put (putting_room (bits_of_number e (k + 1)) (run_enc e (n - 1) (last_of d k)) one_element run_room) (omega (arith, two_passed)) (omega (arith, h.narrow))
 
-      pub ones_put : {next : List ℕ} {r : ℕ} → PutMore now q (k + 1) e next r → Ones e d k (n - 1) (ones_of d k) old at next r
-      ones_put m = putting_more (bits_of_number e (k + 1)) (run_enc e (n - 1) (last_of d k)) one_element (puts_one m)
+      pub ones_put : {o : ℕ} {next : List ℕ} {r : ℕ} → o ≡ n - 1 → PutMore now q (k + 1) e next r → Ones e d k o (ones_of d k) old at next r
+      ones_put eo m = rw eo (putting_more (bits_of_number e (k + 1)) (run_enc e (n - 1) (last_of d k)) one_element (puts_one m))
 
     module _ (l : n ≤ 0) where
       last_element : Putting (bits_of_number e (last_of d k) ++ []) (run_enc e (ones_of d k) (last_of d k)) old at now q
@@ -136,9 +136,9 @@ module _ {vs : List ℕ} {e : ℕ} {out : List ℕ} {x : Reached} (h : LineRoom 
                 room = putting_room ((distance e).enc (four_at vs a)) (enc_all (distance e) (here its).others) (first_put its) distances_room;
               })
 
-          pub distances_next : {next : List ℕ} {r : ℕ} → DistancePut d e now q next r → Distances vs e m (x.byte + 4) old at (n - 1) (a + 4) next r
-          distances_next P =
-              record {
+          pub distances_next : {o : ℕ} {next : List ℕ} {r : ℕ} → o ≡ n - 1 → DistancePut d e now q next r → Distances vs e m (x.byte + 4) old at o (a + 4) next r
+          distances_next eo P =
+              rw eo record {
                 is = λ ds r g.
                     let L = D.is ds r g in
                     record {

@@ -2,12 +2,8 @@
 use mathlib.Core.Path.{◌≡◌}
 use Prim.Native.Nat.{◌-◌}
 use lib.ListN.{length}
-use Rattle.pores_elements.specs.Element.{most}
 use Rattle.pores_payload.proofs.Laws.Putting.{Ones}
 use Rattle.pores_payload.proofs.put_distance.Given as goal
 
-abbrev pub invariant-loop-left : goal.invariant-loop-left
-invariant-loop-left l = (length l.out ≡ length l.initial.out) × Ones l.e l.distance l.most l.left l.initial.left l.initial.out l.initial.next l.out l.next
-
-abbrev pub decreases-loop-left : goal.decreases-loop-left
-decreases-loop-left l = l.left
+abbrev pub invariant-loop : goal.invariant-loop
+invariant-loop l = (length l.out ≡ length l.initial.out) × Ones l.e l.distance l.most (l.ones - l.counter) l.ones l.initial.out l.initial.next l.out l.next

@@ -1,6 +1,6 @@
 -- The first one, two or three bytes of the window are stored: as many as the number reaches into.
 use mathlib.Core.Path.{◌≡◌}
-use Prim.Native.Nat.{ℕ, suc, ◌+◌, ◌/◌, ◌%◌, ◌≤◌, ◌<◌}
+use Prim.Native.Nat.{ℕ, suc, ◌+◌, ◌/◌, ◌%◌, ◌≤◌}
 use native.Mathlib.Numerals.{add-one}
 use native.Mathlib.Omega.{arith}
 use lib.ListN.{take, length-set}
@@ -9,27 +9,16 @@ use Rattle.put_bits.specs.Put.{PutMore}
 use Rattle.put_bits.proofs.Laws.{put_more, put_nothing}
 use Rattle.put_bits.proofs.ThreeBytes.{three}
 use Rattle.put_bits.proofs.put_bits.Goals as goal
-use Rattle.put_bits.proofs.put_bits.Lts as lts
-use Rattle.put_bits.proofs.put_bits.Reads as reads
-use Rattle.put_bits.proofs.put_bits.Tie as tie
+use Rattle.put_bits.proofs.put_bits.Goals.{After-window-word}
 
-abbrev At-After-wide : Type 0
-At-After-wide = lts.After-wide tie.the-claims reads.Pre reads.Post
-
-abbrev At-After-window-word : Type 0
-At-After-window-word = lts.After-window tie.the-claims reads.Pre reads.Post
-
-byte_small : (c : At-After-wide) → c.wide.result < 256
-byte_small c = omega (arith, c.slice_known-2-1.given (c.args.at / 8))
-
-more : (c : At-After-window-word) (m : ℕ) → (c.args.at % 8 + c.args.width + 7) / 8 ≡ m → 1 ≤ m → m ≤ 3
+more : (c : After-window-word) (m : ℕ) → (c.args.at % 8 + c.args.width + 7) / 8 ≡ m → 1 ≤ m → m ≤ 3
     → PutMore c.args.out.now c.args.at c.args.value c.args.width
     (sets c.args.out.now (c.args.at / 8) (take m (three c.window-word.result))) (c.args.at + c.args.width)
 more c m begins some few =
     let a = c.args in
     let pre = c.requires in
     put_more a.out.now a.at a.value a.width c.wide.result c.window-word.result m pre.below pre.room
-    c.wide.ensures (byte_small c.before) c.window-word.ensures begins some few
+    c.wide.ensures (omega arith) c.window-word.ensures begins some few
 
 pub returns-then-width-eq0 : goal.returns-then-width-eq0
 returns-then-width-eq0 c =
@@ -37,11 +26,11 @@ returns-then-width-eq0 c =
 
 pub window-word-requires : goal.window-word-requires
 window-word-requires c =
-    (byte_small c.before, omega arith, omega arith, c.requires.below, c.requires.narrow)
+    (omega arith, omega arith, omega arith, c.requires.below, c.requires.narrow)
 
 pub returns-then-width-free : goal.returns-then-width-free
 returns-then-width-free c =
-    more c.before 1 (omega arith) (omega arith) (omega arith)
+    more (goal.at.returns-then-width-free c).After-window-word 1 (omega arith) (omega arith) (omega arith)
 
 pub bounds-out-i-3 : goal.bounds-out-i-3
 bounds-out-i-3 c =
@@ -49,7 +38,7 @@ bounds-out-i-3 c =
 
 pub returns-then-width-free-2 : goal.returns-then-width-free-2
 returns-then-width-free-2 c =
-    rw (add-one (c.args.at / 8)) (more c.before.before 2 (omega arith) (omega arith) (omega arith))
+    rw (add-one (c.args.at / 8)) (more (goal.at.returns-then-width-free-2 c).After-window-word 2 (omega arith) (omega arith) (omega arith))
 
 pub bounds-out-i-4 : goal.bounds-out-i-4
 bounds-out-i-4 c =
@@ -59,4 +48,4 @@ pub returns : goal.returns
 returns c =
     let i = c.args.at / 8 in
     let e : i + 2 ≡ suc (suc i) = omega arith in
-    rw (add-one i, e) (more c.before.before 3 (omega arith) (omega arith) (omega arith))
+    rw (add-one i, e) (more (goal.at.returns c).After-window-word 3 (omega arith) (omega arith) (omega arith))

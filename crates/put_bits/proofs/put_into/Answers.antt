@@ -9,14 +9,9 @@ use Rattle.put_bits.proofs.ThreeBytes.{three}
 use Rattle.put_bits.proofs.Sum.{added}
 use Rattle.put_bits.proofs.Into.{three_of, put_into, into_nothing, two_added, three_added}
 use Rattle.put_bits.proofs.put_into.Goals as goal
-use Rattle.put_bits.proofs.put_into.Lts as lts
-use Rattle.put_bits.proofs.put_into.Reads as reads
-use Rattle.put_bits.proofs.put_into.Tie as tie
+use Rattle.put_bits.proofs.put_into.Goals.{After-window-word}
 
-abbrev At-After-window-word : Type 0
-At-After-window-word = lts.After-window tie.the-claims reads.Pre reads.Post
-
-into : (c : At-After-window-word) (m : ℕ) → (c.args.at % 8 + c.args.width + 7) / 8 ≡ m → m ≤ 3
+into : (c : After-window-word) (m : ℕ) → (c.args.at % 8 + c.args.width + 7) / 8 ≡ m → m ≤ 3
     → PutInto c.args.out.now c.args.at c.args.value c.args.width
     (sets c.args.out.now (c.args.at / 8) (take m (added (three_of c.args.out.now (c.args.at / 8)) (three c.window-word.result))))
 into c m begins few =
@@ -29,12 +24,12 @@ returns-then-width-eq0 c =
 
 pub returns-then-end-le8 : goal.returns-then-end-le8
 returns-then-end-le8 c =
-    rw c.add_at.ensures (into c.before.before.before.before.before.before 1 (omega arith) (omega arith))
+    rw c.add_at.ensures (into (goal.at.returns-then-end-le8 c).After-window-word 1 (omega arith) (omega arith))
 
 pub returns-then-end-le16 : goal.returns-then-end-le16
 returns-then-end-le16 c =
-    rw (two_added c.args.out.now (c.args.at / 8) c.window-word.result c.add_at.ensures c.add_at-2.ensures) (into c.before.before.before.before.before.before.before.before.before.before.before 2 (omega arith) (omega arith))
+    rw (two_added c.args.out.now (c.args.at / 8) c.window-word.result c.add_at.ensures c.add_at-2.ensures) (into (goal.at.returns-then-end-le16 c).After-window-word 2 (omega arith) (omega arith))
 
 pub returns : goal.returns
 returns c =
-    rw (three_added c.args.out.now (c.args.at / 8) c.window-word.result c.add_at.ensures c.add_at-2.ensures c.add_at-3.ensures) (into c.before.before.before.before.before.before.before.before.before.before.before.before.before.before.before 3 (omega arith) (omega arith))
+    rw (three_added c.args.out.now (c.args.at / 8) c.window-word.result c.add_at.ensures c.add_at-2.ensures c.add_at-3.ensures) (into (goal.at.returns c).After-window-word 3 (omega arith) (omega arith))

@@ -1,12 +1,8 @@
 -- The first three bytes are copied, and cell by cell a number is read. The invariant: the cells' values up to here are laid.
 use mathlib.Core.Path.{◌≡◌}
-use Prim.Native.Nat.{◌+◌, ◌-◌, ◌*◌, ◌≤◌}
-use lib.ListN.{length}
+use Prim.Native.Nat.{◌+◌, ◌*◌}
 use Rattle.quality_values.proofs.Laws.Laying.{Laying}
 use Rattle.quality_values.proofs.put_values.Given as goal
 
 abbrev pub invariant-loop-i : goal.invariant-loop-i
-invariant-loop-i l = (l.i ≤ l.grid.cells) × (length l.out ≡ length l.initial.out) × (l.place.at ≡ 24 + l.i * l.grid.bits) × Laying l.payload l.grid l.i l.initial.out l.out
-
-abbrev pub decreases-loop-i : goal.decreases-loop-i
-decreases-loop-i l = l.grid.cells - l.i
+invariant-loop-i l = record { place : l.place.at ≡ 24 + l.i * l.grid.bits; laying : Laying l.payload l.grid l.i l.initial.out l.out }

@@ -16,7 +16,7 @@ use Rattle.find_parts.specs.Finds.{LinesLeft}
 use Rattle.find_parts.proofs.Laws.Lines.{LineNext, lines_first, lines_none}
 use Rattle.sheet_bytes.specs.Bytes.{line_bytes}
 use Rattle.read_blocks.specs.LineOuts.{LineOut, LinesOut}
-use Rattle.read_blocks.specs.declared.line.Lined.{Lined}
+use Rattle.read_blocks.specs.declared.Moved.{Moved}
 use Rattle.read_blocks.specs.declared.line.Lines.{Lines}
 use Rattle.sheet_bytes.proofs.Laws.Sizes.{line_size_lem}
 use Rattle.read_blocks.proofs.Laws.Laying.{Laying, laying_none, laying_room, laying_more, laying_all}
@@ -42,14 +42,14 @@ module _ {w : Widths} {s d o : List ℕ} {p n at : ℕ} (h : LinesDone w s d o p
     line_room = omega (arith, laying_room (line_bytes w.k) line_size h.laying l.is)
 
     -- the line is written: r is the writer's answer
-    module _ {b ys : List ℕ} {r : Lined} (x : LineOut w s p b ys r) where
+    module _ {b ys : List ℕ} {r : Moved} (x : LineOut w s p b ys r) where
       pub line_fits : at + r.written ≤ length d
       line_fits = omega (arith, line_room, (x.is l.value l.behind l.reads).1.count, line_size_lem w.k l.value)
 
       pub line_on : p < r.next.at
       line_on = omega (arith, l.far, (x.is l.value l.behind l.reads).0)
 
-    pub lines_more : {ys : List ℕ} {r : Lined} → LineOut w s p (lent o at) ys r → LinesDone w s d (back o at ys) r.next.at (n + 1) (at + r.written)
+    pub lines_more : {ys : List ℕ} {r : Moved} → LineOut w s p (lent o at) ys r → LinesDone w s d (back o at ys) r.next.at (n + 1) (at + r.written)
     lines_more {ys} {r} x =
         let (q, y) = x.is l.value l.behind l.reads in
         record {

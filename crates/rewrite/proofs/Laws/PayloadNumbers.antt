@@ -12,7 +12,7 @@ use Rattle.outcome.specs.Refusals.{too_long, no_room, no_segment}
 use Rattle.outcome.specs.Numbers.{among, Gives}
 use Rattle.outcome.specs.Outcome.{refused, AnswersAs}
 use Rattle.outcome.specs.declared.Answer.{Answer}
-use Rattle.outcome.proofs.Refused.{Refused}
+use Rattle.outcome.proofs.Refusing.{Refused}
 use Rattle.outcome.proofs.Numbers.{RefusedBy, among_first, answer_number, never_zero}
 use Rattle.format.specs.Limits.{most_bytes}
 use Rattle.format.specs.Record.{Record, size}

@@ -15,7 +15,7 @@ use Rattle.outcome.specs.Placed.{Placed}
 use Rattle.outcome.specs.Outcome.{Outcome, refused, given, told}
 use Rattle.outcome.specs.declared.Answer.{Answer}
 use Rattle.outcome.proofs.Laws.{not_given, given_is, own_known, told_zero, told_own}
-use Rattle.outcome.proofs.Refused.{Refused, refused_shown_at, refused_known}
+use Rattle.outcome.proofs.Refusing.{Refused, refused_shown_at, refused_known}
 use Rattle.outcome.proofs.Numbers.{RefusedBy, among_first, told_number, never_zero}
 use Rattle.outcome.proofs.Placed.{no_place}
 use Rattle.format.specs.Record.{Record, read}

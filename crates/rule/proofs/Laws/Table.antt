@@ -1,19 +1,17 @@
 -- Any table of rules: the row with a number is found by going over the rows one by one; a number stands for nothing exactly where no row
 -- has it; and where numbers and least b rise from row to row, which is one test over the table, a rule wants no less than those with
 -- lower numbers.
-use mathlib.Core.Path.{◌≡◌, refl, sym, ap, ◌∙◌}
+use mathlib.Core.Path.{◌≡◌, refl, ◌∙◌}
 use mathlib.Core.Logic.{◌≢◌}
-use Prim.Native.Nat.{ℕ, ◌+◌, ◌≤◌, ◌<◌}
+use Prim.Native.Nat.{ℕ, ◌≤◌, ◌<◌}
 use native.Mathlib.Omega.{arith}
-use native.Mathlib.Numerals.{add-one}
 use mathlib.Core.Bool.{Bool, true}
 use mathlib.Core.Option.{Option, none, some}
 use mathlib.Core.List.{List, [], ◌∷◌}
-use lib.ListN.{length, drop, get_or, drop_of_length-le}
-use lib.Seq.{drop-cons}
+use lib.ListN.{drop}
 use lib.Dec.{T, eqb, leb, ltb, eqb→eq, leb→le, ltb→lt}
-use mir.Facts.{yes_eqb, no_eqb, eqb_no}
-use Rattle.bits.specs.ChoiceLaws.{pick_yes, pick_no, pick_split}
+use mir.Facts.{no_eqb, eqb_no}
+use Rattle.bits.specs.ChoiceLaws.{pick_no, pick_split}
 use Rattle.bits.specs.Lists.{All, all_true}
 use Rattle.bits.specs.ListsLaws.{all_true_lem}
 use Rattle.rule.specs.Rules.{least_in}
@@ -21,29 +19,9 @@ use Rattle.rule.specs.declared.Rule.{Rule}
 
 -- ---- row by row
 
-abbrev no_row : Rule
-no_row = record { number = 0; least = 0 }
-
 -- the rows from i on say what all of them say
 pub record Looking (rows : List Rule) (rule i : ℕ) : Type 0 where
   pub is : least_in (drop i rows) rule ≡ least_in rows rule
-
-pub looking_start : (rows : List Rule) (rule : ℕ) → Looking rows rule 0
-looking_start rows rule = record { is = refl }
-
-module _ {rows : List Rule} {rule i : ℕ} (h : Looking rows rule i) where
-  module _ (l : i < length rows) where
-    here : least_in (get_or rows i no_row ∷ drop (i + 1) rows) rule ≡ least_in rows rule
-    here = sym (ap (λ (rs : List Rule). least_in rs rule) (drop-cons rows i no_row l ∙ ap (λ (j : ℕ). get_or rows i no_row ∷ drop j rows) (sym (add-one i)))) ∙ h.is
-
-    pub looking_found : (get_or rows i no_row).number ≡ rule → some (get_or rows i no_row).least ≡ least_in rows rule
-    looking_found e = sym (pick_yes (eqb (get_or rows i no_row).number rule) _ _ (yes_eqb e)) ∙ here
-
-    pub looking_next : (get_or rows i no_row).number ≢ rule → Looking rows rule (i + 1)
-    looking_next e = record { is = sym (pick_no (eqb (get_or rows i no_row).number rule) _ _ (no_eqb e)) ∙ here }
-
-  pub looking_done : length rows ≤ i → none ≡ least_in rows rule
-  looking_done l = sym (ap (λ (rs : List Rule). least_in rs rule) (drop_of_length-le rows l)) ∙ h.is
 
 -- ---- numbers that no row has
 

@@ -1,10 +1,7 @@
--- The invariant: the numbers drawn so far are laid, and the walk goes on over the codes that are left.
-use Prim.Native.Nat.{◌-◌}
-use Rattle.trail_steps.proofs.Laws.{Drawing}
+-- The invariant: the elements that have come are laid, and with those of the walk that are still to come they are all.
+use Rattle.trail_steps.specs.Elements.{elements, Ready}
+use Rattle.trail_steps.proofs.Laws.{Laying}
 use Rattle.trail_steps.proofs.trail_numbers.Given as goal
 
-abbrev pub invariant-loop-i : goal.invariant-loop-i
-invariant-loop-i l = Drawing (λ xs. xs) l.half l.k l.n l.heading l.block l.initial.q.at l.initial.out l.i l.q.at l.pen l.out l.at
-
-abbrev pub decreases-loop-i : goal.decreases-loop-i
-decreases-loop-i l = l.n - l.i
+abbrev pub invariant-loop-element : goal.invariant-loop-element
+invariant-loop-element l = Ready l.element-iterator × Laying (λ xs. xs) (elements l.fn.walk) (elements l.element-iterator) l.initial.out l.out l.at

@@ -39,7 +39,7 @@ module _ (w l : ℕ) {s : List ℕ} (ns : List ℕ) (e : s ≡ joined two ns) wh
   numbers = omega (arith, ap length e, twos_length ns)
 
   -- number i of the list is at bytes 2i and 2i + 1
-  pub number_at : {i n : ℕ} → i < length ns → n ≡ get_or s (2 * i) 0 * 256 + get_or s (2 * i + 1) 0 → n ≡ get_or ns i 0
+  number_at : {i n : ℕ} → i < length ns → n ≡ get_or s (2 * i) 0 * 256 + get_or s (2 * i + 1) 0 → n ≡ get_or ns i 0
   number_at {i} k z =
       z ∙ ap (λ (x : List ℕ). get_or x (2 * i) 0 * 256 + get_or x (2 * i + 1) 0) e
       ∙ sym (Numbers.number_at (joined two ns) i (omega (arith, twos_length ns))) ∙ ap (λ (x : List ℕ). get_or x i 0) (Numbers.numbers_written ns)
@@ -52,7 +52,7 @@ module _ (w l : ℕ) {s : List ℕ} (ns : List ℕ) (e : s ≡ joined two ns) wh
         (g.puts.place ∙ ap (λ (n : ℕ). at + n) (codes_long bad_index w (take i (diffs l ns)) ∙ ap (λ (n : ℕ). n * w) m), g.puts.same)
 
     -- the next number is at most the one before, and their difference is the list's
-    pub next_is : i < length ns → (get_or ns i 0 ≤ before) × (before - get_or ns i 0 ≡ get_or (diffs l ns) i 0)
+    next_is : i < length ns → (get_or ns i 0 ≤ before) × (before - get_or ns i 0 ≡ get_or (diffs l ns) i 0)
     next_is k = go (drop i ns) (drop-cons ns i 0 k) g.left g.falls
       where
         go : (xs : List ℕ) → xs ≡ get_or ns i 0 ∷ drop (suc i) ns → diffs before xs ≡ drop i (diffs l ns) → Falls g.least before xs
@@ -65,8 +65,17 @@ module _ (w l : ℕ) {s : List ℕ} (ns : List ℕ) (e : s ≡ joined two ns) wh
             ap (λ (j : ℕ). get_or (diffs l ns) j 0) (sym y) ∙ sym (get_or-drop i (diffs l ns) 0 0) ∙ ap (λ (ds : List ℕ). get_or ds 0 0) (sym d) in
             (omega (arith, a, f.0), ap (λ (n : ℕ). before - n) (sym a) ∙ sym b)
 
+    -- of the next number n as code reads it: it is one of the list, at most the one before, and their difference is the list's
+    pub number_next : i < length s / 2 → {n : ℕ} → n ≡ get_or s (2 * i) 0 * 256 + get_or s (2 * i + 1) 0
+        → (i < length ns) × (n ≤ before) × (before - n ≡ get_or (diffs l ns) i 0)
+    number_next j z =
+        let k : i < length ns = omega (arith, numbers) in
+        let y = number_at k z in
+        let (a, b) = next_is k in
+        (k, omega (arith, y, a), ap (λ (m : ℕ). before - m) y ∙ b)
+
     -- and so it goes on behind it
-    pub behind_next : i < length ns → (diffs (get_or ns i 0) (drop (i + 1) ns) ≡ drop (i + 1) (diffs l ns)) × Falls 1 (get_or ns i 0) (drop (i + 1) ns)
+    behind_next : i < length ns → (diffs (get_or ns i 0) (drop (i + 1) ns) ≡ drop (i + 1) (diffs l ns)) × Falls 1 (get_or ns i 0) (drop (i + 1) ns)
     behind_next k =
         let z : drop i ns ≡ get_or ns i 0 ∷ drop (i + 1) ns = drop-cons ns i 0 k ∙ ap (λ (j : ℕ). get_or ns i 0 ∷ drop j ns) (sym (add-one i)) in
         let y : drop i (diffs l ns) ≡ get_or (diffs l ns) i 0 ∷ drop (i + 1) (diffs l ns) =

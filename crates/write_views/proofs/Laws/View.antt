@@ -17,7 +17,7 @@ use Rattle.put_bytes.proofs.Laws.{laid_next, lent, back}
 use Rattle.format.specs.Line.{Line, FitsLine, line, skeleton}
 use Rattle.format.specs.Index.{Index, index_block}
 use Rattle.format.specs.View.{View}
-use Rattle.format.specs.Segments.{Segment, FitsSegment, segment, segments}
+use Rattle.format.specs.Segments.{Segment, FitsSegment, segments}
 use Rattle.format.specs.declared.Widths.{Widths}
 use Rattle.find_parts.proofs.Laws.Lists.{all_long}
 use Rattle.find_parts.proofs.Laws.Blocks.{block_long, skeleton_is}
@@ -157,6 +157,10 @@ module _ (w : Widths) (s : List ℕ) (a : ℕ) (v : View) (rest : List ℕ) (e :
       pub lines_laid : Laid (sized_out (skeleton w) v.lines) (lent o1 h) o2 x.bytes × (x.count ≡ length v.lines) × (drop x.next s ≡ behind_lines)
       lines_laid = S.is v.lines behind_lines lines_at
 
+      -- so far
+      pub lines_done : h + x.bytes ≡ 10 + length (in_bytes ((skeleton w).enc v.lines))
+      lines_done = omega (arith, head_laid.count, lines_laid.0.count)
+
       pub index_at : IndexAt x.count s x.next v.index (joined segment_bytes v.segments ++ rest)
       index_at = record { is = lines_laid.2; behind = index_behind; fits = rw lines_laid.1 r.index }
 
@@ -165,6 +169,10 @@ module _ (w : Widths) (s : List ℕ) (a : ℕ) (v : View) (rest : List ℕ) (e :
         index_laid =
             let (l, d) = I.is v.index (joined segment_bytes v.segments ++ rest) index_at in
             (rw lines_laid.1 at l, d)
+
+        -- so far
+        pub index_done : h + x.bytes + y.bytes ≡ 12 + length (in_bytes ((skeleton w).enc v.lines)) + length (in_bytes ((index_block (length v.lines)).enc v.index))
+        index_done = omega (arith, lines_done, index_laid.0.count)
 
         module _ {o4 : List ℕ} {z : Done} (G : SegmentsSized s y.next (lent (back (back o1 h o2) (h + x.bytes) o3) (h + x.bytes + y.bytes)) o4 z) where
           pub segments_laid : Laid (sized_out segments v.segments) (lent (back (back o1 h o2) (h + x.bytes) o3) (h + x.bytes + y.bytes)) o4 z.bytes × (drop z.next s ≡ rest)

@@ -9,7 +9,7 @@ use Rattle.check_blocks.proofs.Laws.Segments.{SegmentsGoing}
 use Rattle.check_blocks.proofs.run.segment_sizes.Given as goal
 
 abbrev pub invariant-loop-size : goal.invariant-loop-size
-invariant-loop-size l = (l.p + l.bytes ≤ l.end) × ((fs : List Field) → Segments l.sheet l.p fs → SegmentsGoing l.sheet fs l.end l.bytes)
+invariant-loop-size l = (l.p + l.bytes ≤ l.next) × ((fs : List Field) → Segments l.sheet l.p fs → SegmentsGoing l.sheet fs l.next l.bytes)
 
 abbrev pub decreases-loop-size : goal.decreases-loop-size
-decreases-loop-size l = length l.sheet - l.end
+decreases-loop-size l = length l.sheet - l.next

@@ -2,9 +2,6 @@
 use Rattle.find_parts.proofs.Laws.Blocks.{skeleton_end, index_next, index_end, extended_next, extended_end}
 use Rattle.find_parts.proofs.view.blocks_at.Goals as goal
 
-pub block_at-index-requires : goal.block_at-index-requires
-block_at-index-requires c = let pre = c.requires in (pre.short, index_next pre.blocks c.block_at-skeleton.ensures)
-
 pub block_at-extended-requires : goal.block_at-extended-requires
 block_at-extended-requires c =
     let pre = c.requires in

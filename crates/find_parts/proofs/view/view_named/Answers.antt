@@ -1,46 +1,25 @@
 -- From header to header. The invariant is that the views before have other names, whatever record the bytes are; the measure is how
 -- many bytes are left.
-use Prim.Native.Nat.{◌-◌}
 use native.Mathlib.Omega.{arith}
-use Rattle.bits.specs.Lists.{All}
-use Rattle.bits.specs.Bytes.{Byte}
 use Rattle.bits.proofs.Laws.Place.{all_bytes}
 use Rattle.find_parts.proofs.Laws.Record.{record_apart}
 use Rattle.find_parts.proofs.Laws.Blocks.{blocks_there}
 use Rattle.find_parts.proofs.Laws.Views.{view_in_lem}
 use Rattle.find_parts.proofs.Laws.Named.{seeking_start, seeking_none, more, header_within, seeking_found, seeking_on, seeking_less}
 use Rattle.find_parts.proofs.view.view_named.Goals as goal
-use Rattle.find_parts.proofs.view.view_named.Lts as lts
-use Rattle.find_parts.proofs.view.view_named.Reads as reads
-use Rattle.find_parts.proofs.view.view_named.Tie as tie
-
-abbrev At-After-shared_slice_known-1 : Type 0
-At-After-shared_slice_known-1 = lts.After-shared_slice_known tie.the-claims reads.Pre reads.Post goal.the-invariant-loop-a goal.the-decreases-loop-a
-
-lent_bytes : (c : At-After-shared_slice_known-1) → All Byte c.args.bytes.now
-lent_bytes c = all_bytes c.args.bytes.now (λ i. (c.shared_slice_known-1.given i).fits)
 
 pub loop-a-init : goal.loop-a-init
-loop-a-init c =
-    λ r e. seeking_start c.args.view c.args.bytes.now e
+loop-a-init c = λ r e. seeking_start c.args.view c.args.bytes.now e
 
 pub has_name-requires : goal.has_name-requires
 has_name-requires c =
-    let pre = c.requires in
-    omega (arith, header_within (c.loop-a.invariant pre.value pre.reads) c.loop-a-test.true)
+    let pre = c.requires in omega (arith, header_within (c.loop-a.invariant pre.value pre.reads) c.loop-a-test.true)
 
 pub returns-then-has_name : goal.returns-then-has_name
 returns-then-has_name c =
     let l = c.loop-a-test.true in
-    record {
-      there = λ _ r e. seeking_found (c.loop-a.invariant r e) l (lent_bytes c.before.before.before.before.before) c.has_name.ensures c.if-has_name.true;
-      none = λ k r e. absurd (omega arith);
-    }
-
-pub overflow_add-a : goal.overflow_add-a
-overflow_add-a c =
-    let pre = c.requires in
-    omega (arith, c.loop-a-test.true, (record_apart _ pre.reads).short)
+    let bytes = all_bytes c.args.bytes.now (λ i. (c.type_inv.bytes i).fits) in
+    record { within = l; there = λ r e. seeking_found (c.loop-a.invariant r e) l bytes c.has_name.ensures c.if-has_name.true }
 
 pub blocks_at-blocks-requires : goal.blocks_at-blocks-requires
 blocks_at-blocks-requires c =
@@ -55,12 +34,8 @@ loop-a-smaller c =
 
 pub loop-a-preserved : goal.loop-a-preserved
 loop-a-preserved c =
-    λ r e.
-    seeking_on (c.loop-a.invariant r e) c.loop-a-test.true (lent_bytes c.before.before.before.before.before.before) c.has_name.ensures c.blocks_at-blocks.ensures c.if-has_name.false
+    let bytes = all_bytes c.args.bytes.now (λ i. (c.type_inv.bytes i).fits) in
+    λ r e. seeking_on (c.loop-a.invariant r e) c.loop-a-test.true bytes c.has_name.ensures c.blocks_at-blocks.ensures c.if-has_name.false
 
 pub returns : goal.returns
-returns c =
-    record {
-      there = λ k r e. absurd (omega (arith, k, c.loop-a-test.false));
-      none = λ l r e. seeking_none (c.loop-a.invariant r e) l;
-    }
+returns c = λ r e. seeking_none (c.loop-a.invariant r e) c.loop-a-test.false

@@ -1,5 +1,5 @@
 -- Line by line. The invariant holds of whatever lines the list has: those that stay are counted so far, the others are to come.
-use Prim.Native.Nat.{◌+◌, ◌-◌, ◌≤◌}
+use Prim.Native.Nat.{◌+◌, ◌≤◌}
 use Rattle.order_lists.proofs.Laws.List.{MeasuringAll}
 use Rattle.order_lists.proofs.list.list_numbers.Given as goal
 

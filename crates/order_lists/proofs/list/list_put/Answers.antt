@@ -11,42 +11,15 @@ use Rattle.find_parts.proofs.Laws.Lists.{list_bits_lem}
 use Rattle.orders.specs.Listed.{removal_lines}
 use Rattle.order_removal.specs.Rank.{below}
 use Rattle.order_lists.specs.List.{gone, Fares, become}
-use Rattle.order_lists.specs.declared.list.Fate.{Fate}
+use Rattle.std.specs.Prelude.{Option}
 use Rattle.order_lists.proofs.Laws.List.{PuttingList, putting_first, putting_gone, put_fits, put_room, putting_stays, all_counted, put_all}
 use borrow.Author.Rules.{rules}
 use Rattle.order_lists.proofs.list.list_put.Goals as goal
-use Rattle.order_lists.proofs.list.list_put.Lts as lts
-use Rattle.order_lists.proofs.list.list_put.Reads as reads
-use Rattle.order_lists.proofs.list.list_put.Tie as tie
-
-abbrev At-Start : Type 0
-At-Start = lts.Start tie.the-claims reads.Pre reads.Post goal.the-invariant-loop-k goal.the-decreases-loop-k
-
-abbrev At-At-loop-k : Type 0
-At-At-loop-k = lts.At-loop tie.the-claims reads.Pre reads.Post goal.the-invariant-loop-k goal.the-decreases-loop-k
-
-abbrev At-After-fate_of : Type 0
-At-After-fate_of = lts.After-fate_of tie.the-claims reads.Pre reads.Post goal.the-invariant-loop-k goal.the-decreases-loop-k
-
-abbrev At-In-Stays : Type 0
-At-In-Stays = lts.Past-After-known_told tie.the-claims reads.Pre reads.Post goal.the-invariant-loop-k goal.the-decreases-loop-k
-
-abbrev new : (c : At-Start) → List ℕ
-new c = become c.args.list c.args.words.now c.args.removal.now c.requires.there.value
-
-going : (c : At-At-loop-k) → PuttingList c.args.block.now c.args.list c.args.words.now c.args.removal.now (new c.before.before.before.before.before.before.before.before.before.before) c.args.width c.loop-k.k c.requires.there.behind c.loop-k.before c.loop-k.count c.put_bits-p.new.out c.put_bits-p.result c.loop-k.out c.loop-k.p
-going c = let p = c.requires in c.loop-k.invariant.3 p.there.value p.there.behind p.there.at p.fits
-
-fares : (c : At-After-fate_of) (r : Fate) → c.fate_of.result ≡ r → Fares (removal_lines c.args.removal.now) c.step_on-step.result.stays c.step_on-step.result.line r
-fares c r e = subst (λ (x : Fate). Fares (removal_lines c.args.removal.now) c.step_on-step.result.stays c.step_on-step.result.line x) e c.fate_of.ensures
-
-stays : (c : At-In-Stays) → T (not (gone (removal_lines c.args.removal.now) c.step_on-step.result.stays c.step_on-step.result.line)) × (c.in-Stays.line ≡ c.step_on-step.result.line - below (removal_lines c.args.removal.now) c.step_on-step.result.line)
-stays c = fares c.before _ c.in-Stays.is
 
 pub put_bits-p-requires : goal.put_bits-p-requires
 put_bits-p-requires c =
     let p = c.requires in
-    let b = list_bits_lem c.args.width c.args.list.own (new c.before.before.before.before.before.before) in
+    let b = list_bits_lem c.args.width c.args.list.own (become c.args.list c.args.words.now c.args.removal.now c.requires.there.value) in
     record { below = pow_pos c.args.width; narrow = p.narrow; room = omega (arith, b, p.room.room); near = omega (arith, b, p.room.near) }
 
 pub loop-k-init : goal.loop-k-init
@@ -60,7 +33,7 @@ overflow_add-k c =
 pub step_on-step-requires : goal.step_on-step-requires
 step_on-step-requires c =
     let p = c.requires.there in
-    let m = going c.before.before.before in
+    let m = (c.loop-k.invariant.3 c.requires.there.value c.requires.there.behind c.requires.there.at c.requires.fits) in
     record { narrow = c.loop-k.invariant.0; short = p.short; more = omega (arith, c.loop-k-test.true); before = m.top; value = m.ms; behind = p.behind; at = m.at }
 
 pub fate_of-requires : goal.fate_of-requires
@@ -73,21 +46,21 @@ loop-k-smaller-in_default c =
 
 pub loop-k-preserved-in_default : goal.loop-k-preserved-in_default
 loop-k-preserved-in_default c =
-    (omega (arith, c.loop-k.invariant.0, c.step_on-step.ensures.width), omega (arith, c.loop-k.invariant.1, c.step_on-step.ensures.less), c.loop-k.invariant.2, putting_gone c.step_on-step.ensures c.loop-k.invariant.3 (fares c.before.before _ c.in_default.is))
+    (omega (arith, c.loop-k.invariant.0, c.step_on-step.ensures.width), omega (arith, c.loop-k.invariant.1, c.step_on-step.ensures.less), c.loop-k.invariant.2, putting_gone c.step_on-step.ensures c.loop-k.invariant.3 c.in_default.ensures)
 
 pub overflow_sub-before : goal.overflow_sub-before
 overflow_sub-before c =
-    omega (arith, (put_fits c.step_on-step.ensures c.in-Stays.line (stays c.before.before).1 (stays c.before.before).0 (going c.before.before.before.before.before.before.before.before)).0)
+    omega (arith, (put_fits c.step_on-step.ensures c.in-Some.line c.in-Some.ensures.1 c.in-Some.ensures.0 (c.loop-k.invariant.3 c.requires.there.value c.requires.there.behind c.requires.there.at c.requires.fits)).0)
 
 pub put_bits-p-requires-in-loop-k : goal.put_bits-p-requires-in-loop-k
 put_bits-p-requires-in-loop-k c =
     let p = c.requires in
-    let m = going c.before.before.before.before.before.before.before.before in
-    let b = list_bits_lem c.args.width c.args.list.own (new c.before.before.before.before.before.before.before.before.before.before.before.before.before.before.before.before.before.before) in
-    let r = put_room c.step_on-step.ensures c.in-Stays.line (stays c.before.before).1 (stays c.before.before).0 m in
+    let m = (c.loop-k.invariant.3 c.requires.there.value c.requires.there.behind c.requires.there.at c.requires.fits) in
+    let b = list_bits_lem c.args.width c.args.list.own (become c.args.list c.args.words.now c.args.removal.now c.requires.there.value) in
+    let r = put_room c.step_on-step.ensures c.in-Some.line c.in-Some.ensures.1 c.in-Some.ensures.0 m in
     let first = c.put_bits-p.ensures in
     record {
-      below = (put_fits c.step_on-step.ensures c.in-Stays.line (stays c.before.before).1 (stays c.before.before).0 m).1;
+      below = (put_fits c.step_on-step.ensures c.in-Some.line c.in-Some.ensures.1 c.in-Some.ensures.0 m).1;
       narrow = p.narrow;
       room = omega (arith, r, b, first.place, first.same, c.loop-k.invariant.2, p.room.room);
       near = omega (arith, r, b, first.place, p.room.near);
@@ -103,13 +76,13 @@ loop-k-smaller c =
 
 pub loop-k-preserved : goal.loop-k-preserved
 loop-k-preserved c =
-    (omega (arith, c.loop-k.invariant.0, c.step_on-step.ensures.width), omega (arith, c.loop-k.invariant.1, c.step_on-step.ensures.less), search rules, putting_stays c.step_on-step.ensures c.loop-k.invariant.3 c.in-Stays.line (stays c.before.before.before.before.before).1 (stays c.before.before.before.before.before).0 c.put_bits-p-in-loop-k.ensures)
+    (omega (arith, c.loop-k.invariant.0, c.step_on-step.ensures.width), omega (arith, c.loop-k.invariant.1, c.step_on-step.ensures.less), search rules, putting_stays c.step_on-step.ensures c.loop-k.invariant.3 c.in-Some.line c.in-Some.ensures.1 c.in-Some.ensures.0 c.put_bits-p-in-loop-k.ensures)
 
 pub put_into-requires : goal.put_into-requires
 put_into-requires c =
     let p = c.requires in
-    let b = list_bits_lem c.args.width c.args.list.own (new c.before.before.before.before.before.before.before.before.before.before.before.before.before.before) in
-    let e = all_counted (omega (arith, c.loop-k-test.false)) (going c.before.before.before.before) in
+    let b = list_bits_lem c.args.width c.args.list.own (become c.args.list c.args.words.now c.args.removal.now c.requires.there.value) in
+    let e = all_counted (omega (arith, c.loop-k-test.false)) (c.loop-k.invariant.3 c.requires.there.value c.requires.there.behind c.requires.there.at c.requires.fits) in
     let first = c.put_bits-p.ensures in
     let n = c.loop-k.invariant.2 in
     record { below = rw e p.fits.count; narrow = p.narrow; room = omega (arith, b, first.same, n, p.room.room); near = omega (arith, b, p.room.near) }

@@ -1,7 +1,7 @@
 -- Bits kept free, then line by line, then the count into them. The invariant holds of whatever lines the list has: the differences of
 -- those that stay are put, and counted.
 use mathlib.Core.Path.{◌≡◌}
-use Prim.Native.Nat.{◌+◌, ◌-◌, ◌≤◌}
+use Prim.Native.Nat.{◌+◌, ◌≤◌}
 use lib.ListN.{length}
 use Rattle.order_lists.proofs.Laws.List.{PuttingAll}
 use Rattle.order_lists.proofs.list.list_put.Given as goal

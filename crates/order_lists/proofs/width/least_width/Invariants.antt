@@ -1,10 +1,6 @@
 -- Width by width, up to 16. The invariant: no width before this one holds the number.
-use Prim.Native.Nat.{◌-◌}
 use Rattle.order_lists.proofs.Laws.Width.{Looking}
 use Rattle.order_lists.proofs.width.least_width.Given as goal
 
 abbrev pub invariant-loop-w : goal.invariant-loop-w
-invariant-loop-w l = Looking l.most l.limit l.w
-
-abbrev pub decreases-loop-w : goal.decreases-loop-w
-decreases-loop-w l = 16 - l.w
+invariant-loop-w l = Looking l.most l.w

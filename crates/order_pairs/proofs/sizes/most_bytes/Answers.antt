@@ -1,28 +1,17 @@
 -- The old index block's width divides what is left of its bits; and the sums and products stay small.
 use native.Mathlib.Omega.{arith}
-use Rattle.bits.specs.Lists.{All}
-use Rattle.bits.specs.Bytes.{Byte}
 use Rattle.bits.proofs.Laws.Place.{all_bytes}
 use Rattle.order_pairs.proofs.Laws.Size.{width_there, block_short, few_numbers, few_bits_lem, at_most}
 use Rattle.order_pairs.proofs.sizes.most_bytes.Goals as goal
-use Rattle.order_pairs.proofs.sizes.most_bytes.Lts as lts
-use Rattle.order_pairs.proofs.sizes.most_bytes.Reads as reads
-use Rattle.order_pairs.proofs.sizes.most_bytes.Tie as tie
-
-abbrev At-After-shared_slice_known-1 : Type 0
-At-After-shared_slice_known-1 = lts.After-shared_slice_known tie.the-claims reads.Pre reads.Post
-
-bytes : (c : At-After-shared_slice_known-1) → All Byte c.args.bytes.now
-bytes c = all_bytes c.args.bytes.now (λ i. (c.shared_slice_known-1.given i).fits)
 
 pub overflow_cast-old : goal.overflow_cast-old
-overflow_cast-old c = omega (arith, c.shared_slice_known-2-1.given c.args.site.index.from)
+overflow_cast-old c = omega (arith, c.type_inv.bytes c.args.site.index.from)
 
 pub overflow_mul-numbers : goal.overflow_mul-numbers
 overflow_mul-numbers c = omega (arith, block_short c.requires.there)
 
 pub nonzero_div-numbers : goal.nonzero_div-numbers
-nonzero_div-numbers c = omega (arith, width_there c.requires.there (bytes c.before.before))
+nonzero_div-numbers c = omega (arith, width_there c.requires.there (all_bytes c.args.bytes.now (λ i. (c.type_inv.bytes i).fits)))
 
 pub overflow_add-numbers : goal.overflow_add-numbers
 overflow_add-numbers c = omega (arith, few_numbers c.requires.there c.requires.few)
@@ -45,4 +34,4 @@ overflow_add-result-2 c =
     omega (arith, block_short c.requires.there, few_bits_lem c.requires.there c.requires.few c.least_width.ensures)
 
 pub returns : goal.returns
-returns c = rw c.least_width.ensures (at_most c.args.orders c.requires.there.index (bytes c.before.before.before))
+returns c = rw c.least_width.ensures (at_most c.args.orders c.requires.there.index (all_bytes c.args.bytes.now (λ i. (c.type_inv.bytes i).fits)))

@@ -1,5 +1,4 @@
 -- List by list; the invariant is what is laid and what is still read.
-use mathlib.Core.Path.{◌≡◌}
 use Prim.Native.Nat.{◌-◌, ◌*◌, ◌≤◌}
 use lib.ListN.{length, drop}
 use Rattle.bits.specs.Bytes.{bits_of}
@@ -11,10 +10,5 @@ use Rattle.read_blocks.proofs.Laws.Underway.{Underway}
 use Rattle.read_blocks.proofs.index.lists_out.Given as goal
 
 abbrev pub invariant-loop-l : goal.invariant-loop-l
-invariant-loop-l l = (l.l ≤ l.lines)
-    × (l.q.at ≤ 8 * length l.block)
-    × (length l.out ≡ length l.initial.out)
-    × Underway list_bytes list_size (along_dec (neighbours l.w) up l.lines 0 (drop l.initial.q.at (bits_of l.block))) (along_dec (neighbours l.w) up (l.lines - l.l) l.l (drop l.q.at (bits_of l.block))) l.initial.out l.out l.at
-
-abbrev pub decreases-loop-l : goal.decreases-loop-l
-decreases-loop-l l = l.lines - l.l
+invariant-loop-l l = (l.next.at ≤ 8 * length l.block)
+    × Underway list_bytes list_size (along_dec (neighbours l.w) up l.lines 0 (drop l.initial.next.at (bits_of l.block))) (along_dec (neighbours l.w) up (l.lines - l.l) l.l (drop l.next.at (bits_of l.block))) l.initial.out l.out l.at

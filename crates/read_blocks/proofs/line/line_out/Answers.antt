@@ -8,48 +8,41 @@ use Rattle.read_blocks.proofs.line.line_out.Goals as goal
 
 pub end_sure-first-requires : goal.end_sure-first-requires
 end_sure-first-requires c =
-    let s = c.before.before.before in
-    (s.requires.short, s.requires.narrow.b, s.requires.narrow.c, start_there s.args.w s.requires.reads)
+    (c.requires.short, c.requires.narrow.b, c.requires.narrow.c, start_there c.args.w c.requires.reads)
 
 pub sure-field-requires : goal.sure-field-requires
 sure-field-requires c =
-    let s = c.before.before.before.before in
     let start = c.end_sure-first.ensures in
-    (s.requires.short, search rules, count_there s.args.w s.requires.reads start)
+    (c.requires.short, search rules, count_there c.args.w c.requires.reads start)
 
 pub overflow_mul-at : goal.overflow_mul-at
 overflow_mul-at c =
-    let s = c.before.before.before.before.before.before.before in
     let start = c.end_sure-first.ensures in
     let count = c.sure-field.ensures.0 bad_line in
-    omega (arith, s.requires.short, finish_there s.args.w s.requires.reads start count)
+    omega (arith, c.requires.short, finish_there c.args.w c.requires.reads start count)
 
 pub overflow_add-at : goal.overflow_add-at
 overflow_add-at c =
-    let s = c.before.before.before.before.before.before.before.before in
     let start = c.end_sure-first.ensures in
     let count = c.sure-field.ensures.0 bad_line in
-    omega (arith, s.requires.short, finish_there s.args.w s.requires.reads start count)
+    omega (arith, c.requires.short, finish_there c.args.w c.requires.reads start count)
 
 pub end_sure-last-requires : goal.end_sure-last-requires
 end_sure-last-requires c =
-    let s = c.before.before.before.before.before.before.before.before in
     let start = c.end_sure-first.ensures in
     let count = c.sure-field.ensures.0 bad_line in
-    (s.requires.short, s.requires.narrow.b, s.requires.narrow.c, finish_there s.args.w s.requires.reads start count)
+    (c.requires.short, c.requires.narrow.b, c.requires.narrow.c, finish_there c.args.w c.requires.reads start count)
 
 pub parts_out-written-requires : goal.parts_out-written-requires
 parts_out-written-requires c =
-    let s = c.before.before.before.before.before.before.before.before.before.before.before.before.before in
     let start = c.end_sure-first.ensures in
     let count = c.sure-field.ensures.0 bad_line in
     let finish = c.end_sure-last.ensures in
-    parts_there s.args.w s.requires.reads start count finish s.requires.narrow s.requires.short s.requires.room
+    parts_there c.args.w c.requires.reads start count finish c.requires.narrow c.requires.short c.requires.room
 
 pub returns : goal.returns
 returns c =
-    let s = c.before.before.before.before.before.before.before.before.before.before.before.before.before.before.before.before in
     let start = c.end_sure-first.ensures in
     let count = c.sure-field.ensures.0 bad_line in
     let finish = c.end_sure-last.ensures in
-    line_laid s.args.w s.requires.reads start count finish c.parts_out-written.ensures
+    line_laid c.args.w c.requires.reads start count finish c.parts_out-written.ensures

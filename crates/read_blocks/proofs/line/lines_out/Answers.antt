@@ -1,7 +1,6 @@
 -- One line after the other. The invariant holds the lines that are laid and those still to be read; the measure is the bits that
 -- are left.
 use mathlib.Core.Path.{refl}
-use Prim.Native.Nat.{◌-◌}
 use native.Mathlib.Omega.{arith}
 use lib.ListN.{length-take, length-drop}
 use Rattle.find_parts.proofs.Laws.Lines.{line_next}
@@ -11,39 +10,15 @@ use Rattle.read_blocks.proofs.line.lines_out.Goals as goal
 
 pub loop-p-init : goal.loop-p-init
 loop-p-init c =
-    let s = c.before.before.before.before in
-    (refl, rw c.start-p.ensures (lines_start s.requires.reads s.requires.room))
-
-pub overflow_sub-end : goal.overflow_sub-end
-overflow_sub-end c =
-    omega (arith, c.loop-p.invariant.1.left.within)
-
-pub slice_bounds-line_out-count : goal.slice_bounds-line_out-count
-slice_bounds-line_out-count c =
-    let done = c.loop-p.invariant.1 in
-    let next = line_next done.left c.loop-p-test.true in
-    omega (arith, line_room done next)
-
-pub slice_bounds-line_out-start : goal.slice_bounds-line_out-start
-slice_bounds-line_out-start c =
-    let done = c.loop-p.invariant.1 in
-    let next = line_next done.left c.loop-p-test.true in
-    omega (arith, line_room done next)
-
-pub slice_bounds-line_out-end : goal.slice_bounds-line_out-end
-slice_bounds-line_out-end c =
-    let done = c.loop-p.invariant.1 in
-    let next = line_next done.left c.loop-p-test.true in
-    omega (arith, line_room done next)
+    (refl, rw c.start-p.ensures (lines_start c.requires.reads c.requires.room))
 
 pub line_out-l-requires : goal.line_out-l-requires
 line_out-l-requires c =
     let done = c.loop-p.invariant.1 in
     let next = line_next done.left c.loop-p-test.true in
-    let s = c.before.before.before.before.before.before.before.before in
     record {
-      narrow = s.requires.narrow;
-      short = s.requires.short;
+      narrow = c.requires.narrow;
+      short = c.requires.short;
       value = next.value;
       behind = next.behind;
       reads = next.reads;

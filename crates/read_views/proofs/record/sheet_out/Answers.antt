@@ -9,18 +9,6 @@ pub header_out-at-requires : goal.header_out-at-requires
 header_out-at-requires c =
     header_room c.requires
 
-pub slice_bounds-views_out-count : goal.slice_bounds-views_out-count
-slice_bounds-views_out-count c =
-    omega (arith, views_room c.requires c.header_out-at.ensures)
-
-pub slice_bounds-views_out-start : goal.slice_bounds-views_out-start
-slice_bounds-views_out-start c =
-    omega (arith, views_room c.requires c.header_out-at.ensures)
-
-pub slice_bounds-views_out-end : goal.slice_bounds-views_out-end
-slice_bounds-views_out-end c =
-    omega (arith, views_room c.requires c.header_out-at.ensures)
-
 pub views_out-at-requires : goal.views_out-at-requires
 views_out-at-requires c =
     let s = c.requires in
@@ -39,5 +27,5 @@ overflow_add-at c =
 
 pub returns : goal.returns
 returns c =
-    let bytes = all_bytes c.args.bytes.now (λ i. (c.shared_slice_known-1.given i).fits) in
+    let bytes = all_bytes c.args.bytes.now (λ i. (c.type_inv.bytes i).fits) in
     sheet_laid bytes c.header_out-at.ensures c.views_out-at.ensures

@@ -9,37 +9,32 @@ use Rattle.read_views.proofs.view.view_out.Goals as goal
 
 pub overflow_add-b : goal.overflow_add-b
 overflow_add-b c =
-    let s = c.before.before.before.before.before.before.before in
-    let lines = (view_apart s.args.w s.requires.seen s.requires.reads).0.blocks.lines in
-    omega (arith, s.requires.short, lines.from, lines.within)
+    let lines = (view_apart c.args.w c.requires.seen c.requires.reads).0.blocks.lines in
+    omega (arith, c.requires.short, lines.from, lines.within)
 
 pub slice_bounds-copy-end-2 : goal.slice_bounds-copy-end-2
 slice_bounds-copy-end-2 c =
-    let s = c.before.before.before.before.before.before.before.before in
-    let lines = (view_apart s.args.w s.requires.seen s.requires.reads).0.blocks.lines in
+    let lines = (view_apart c.args.w c.requires.seen c.requires.reads).0.blocks.lines in
     omega (arith, lines.from, lines.within)
 
 pub blocks_out-blocks-requires : goal.blocks_out-blocks-requires
 blocks_out-blocks-requires c =
-    let s = c.before.before.before.before.before.before.before.before.before.before.before.before.before in
-    let view = (view_apart s.args.w s.requires.seen s.requires.reads).0 in
+    let view = (view_apart c.args.w c.requires.seen c.requires.reads).0 in
     record {
-      narrow = s.requires.narrow;
-      short = s.requires.short;
-      value = s.requires.value;
+      narrow = c.requires.narrow;
+      short = c.requires.short;
+      value = c.requires.value;
       behind = view.behind;
       blocks = view.blocks;
-      room = simp (length-take, length-drop) (omega (arith, s.requires.room, c.put_three-at.ensures.count, simp length-take at c.copy-at.ensures.count));
+      room = simp (length-take, length-drop) (omega (arith, c.requires.room, c.put_three-at.ensures.count, simp length-take at c.copy-at.ensures.count));
     }
 
 pub overflow_add-at-2 : goal.overflow_add-at-2
 overflow_add-at-2 c =
-    let s = c.before.before.before.before.before.before.before.before.before.before.before.before.before.before.before.before.before in
-    let view = (view_apart s.args.w s.requires.seen s.requires.reads).0 in
-    omega (arith, s.requires.room, blocks_wide view.blocks c.blocks_out-blocks.ensures, c.put_three-at.ensures.count, simp length-take at c.copy-at.ensures.count)
+    let view = (view_apart c.args.w c.requires.seen c.requires.reads).0 in
+    omega (arith, c.requires.room, blocks_wide view.blocks c.blocks_out-blocks.ensures, c.put_three-at.ensures.count, simp length-take at c.copy-at.ensures.count)
 
 pub returns : goal.returns
 returns c =
-    let s = c.before.before.before.before.before.before.before.before.before.before.before.before.before.before.before.before.before in
-    let bytes = all_bytes s.args.bytes.now (λ i. (c.shared_slice_known-1.given i).fits) in
-    record { is = view_laid s.args.a bytes c.put_three-at.ensures c.copy-at.ensures c.blocks_out-blocks.ensures }
+    let bytes = all_bytes c.args.bytes.now (λ i. (c.type_inv.bytes i).fits) in
+    record { is = view_laid c.args.a bytes c.put_three-at.ensures c.copy-at.ensures c.blocks_out-blocks.ensures }

@@ -10,10 +10,6 @@ end_put-p-requires c =
     let (a, b) = line_room c.args.w pre.value pre.room in
     record { narrow = pre.narrow; there = omega (arith, held_long k pre.value pre.held); value = pre.value.start; fits = pre.fits.start; held = held_start k pre.value pre.held; room = record { room = omega (arith, a); near = omega (arith, b) } }
 
-pub overflow_sub-end : goal.overflow_sub-end
-overflow_sub-end c =
-    omega (arith, held_long c.args.w.k c.requires.value c.requires.held)
-
 pub put_bits-p-requires : goal.put_bits-p-requires
 put_bits-p-requires c =
     let pre = c.requires in
@@ -26,18 +22,6 @@ put_bits-p-requires c =
       room = omega (arith, a, place, (start_put c.args.w pre.value pre.fits pre.held S).same);
       near = omega (arith, b, place);
     }
-
-pub slice_bounds-codes_put-count : goal.slice_bounds-codes_put-count
-slice_bounds-codes_put-count c =
-    omega (arith, held_long c.args.w.k c.requires.value c.requires.held)
-
-pub slice_bounds-codes_put-start : goal.slice_bounds-codes_put-start
-slice_bounds-codes_put-start c =
-    omega (arith, held_long c.args.w.k c.requires.value c.requires.held)
-
-pub slice_bounds-codes_put-end : goal.slice_bounds-codes_put-end
-slice_bounds-codes_put-end c =
-    omega (arith, held_long c.args.w.k c.requires.value c.requires.held)
 
 pub codes_put-p-requires : goal.codes_put-p-requires
 codes_put-p-requires c =

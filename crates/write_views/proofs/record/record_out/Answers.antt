@@ -22,18 +22,6 @@ device_out-at-requires c =
     let pre = c.requires in
     (sheet_long pre.value pre.allowed pre.is, omega (arith, pre.room, pre.size, size_is pre.value pre.allowed pre.is), omega (arith, pre.size, size_small pre.value pre.allowed pre.is))
 
-pub slice_bounds-scale_out-count : goal.slice_bounds-scale_out-count
-slice_bounds-scale_out-count c =
-    let pre = c.requires in omega (arith, c.device_out-at.ensures.count, device_long pre.value pre.allowed pre.is c.args.size, pre.room, pre.size, size_is pre.value pre.allowed pre.is)
-
-pub slice_bounds-scale_out-start : goal.slice_bounds-scale_out-start
-slice_bounds-scale_out-start c =
-    let pre = c.requires in omega (arith, c.device_out-at.ensures.count, device_long pre.value pre.allowed pre.is c.args.size, pre.room, pre.size, size_is pre.value pre.allowed pre.is)
-
-pub slice_bounds-scale_out-end : goal.slice_bounds-scale_out-end
-slice_bounds-scale_out-end c =
-    let pre = c.requires in omega (arith, c.device_out-at.ensures.count, device_long pre.value pre.allowed pre.is c.args.size, pre.room, pre.size, size_is pre.value pre.allowed pre.is)
-
 pub scale_out-at-requires : goal.scale_out-at-requires
 scale_out-at-requires c =
     let pre = c.requires in (
@@ -41,22 +29,6 @@ scale_out-at-requires c =
       simp (length-take, length-drop) (omega (arith, c.device_out-at.ensures.count, device_long pre.value pre.allowed pre.is c.args.size, pre.room, pre.size, size_is pre.value pre.allowed pre.is)),
       omega (arith, pre.count, views_small pre.value pre.allowed pre.is),
     )
-
-pub overflow_add-at : goal.overflow_add-at
-overflow_add-at c =
-    let pre = c.requires in omega (arith, c.device_out-at.ensures.count, c.scale_out-at.ensures.count, device_long pre.value pre.allowed pre.is c.args.size, scale_long pre.value pre.allowed pre.is c.args.views, pre.room, pre.size, size_is pre.value pre.allowed pre.is)
-
-pub slice_bounds-views_out-count : goal.slice_bounds-views_out-count
-slice_bounds-views_out-count c =
-    let pre = c.requires in omega (arith, c.device_out-at.ensures.count, c.scale_out-at.ensures.count, device_long pre.value pre.allowed pre.is c.args.size, scale_long pre.value pre.allowed pre.is c.args.views, pre.room, pre.size, size_is pre.value pre.allowed pre.is)
-
-pub slice_bounds-views_out-start : goal.slice_bounds-views_out-start
-slice_bounds-views_out-start c =
-    let pre = c.requires in omega (arith, c.device_out-at.ensures.count, c.scale_out-at.ensures.count, device_long pre.value pre.allowed pre.is c.args.size, scale_long pre.value pre.allowed pre.is c.args.views, pre.room, pre.size, size_is pre.value pre.allowed pre.is)
-
-pub slice_bounds-views_out-end : goal.slice_bounds-views_out-end
-slice_bounds-views_out-end c =
-    let pre = c.requires in omega (arith, c.device_out-at.ensures.count, c.scale_out-at.ensures.count, device_long pre.value pre.allowed pre.is c.args.size, scale_long pre.value pre.allowed pre.is c.args.views, pre.room, pre.size, size_is pre.value pre.allowed pre.is)
 
 pub views_out-at-requires : goal.views_out-at-requires
 views_out-at-requires c =

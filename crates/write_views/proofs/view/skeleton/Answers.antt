@@ -22,12 +22,6 @@ put_two-at-requires c =
     let l = rw (skeleton_bytes c.args.w pre.value) at (c.lines_out-lines.ensures.is pre.value pre.rest pre.at).0 in
     omega (arith, l.count, pre.small, pre.room)
 
-pub overflow_add-result : goal.overflow_add-result
-overflow_add-result c =
-    let pre = c.requires in
-    let l = rw (skeleton_bytes c.args.w pre.value) at (c.lines_out-lines.ensures.is pre.value pre.rest pre.at).0 in
-    omega (arith, l.count, pre.small, pre.room)
-
 pub returns : goal.returns
 returns c =
     record {
