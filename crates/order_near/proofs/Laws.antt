@@ -5,7 +5,6 @@ use Prim.Native.Nat.{ℕ, suc, ◌+◌, ◌*◌, ◌≤◌, ◌<◌}
 use native.Mathlib.Omega.{arith}
 use native.Mathlib.Numerals.{add-one}
 use mathlib.Core.Bool.{Bool, true, false, ◌||◌}
-use Rattle.std.specs.Prelude.{Some, None}
 use mathlib.Core.List.{List, [], ◌∷◌}
 use lib.ListN.{length, drop, get_or}
 use lib.Dec.{eqb}
@@ -17,14 +16,13 @@ use Rattle.bits.specs.Reads.{found, Reads}
 use Rattle.outcome.specs.Refusals.{bad_index}
 use Rattle.orders.specs.Survive.{elem}
 use Rattle.find_parts.proofs.Laws.Index.{width_is_lem}
-use Rattle.order_words.specs.Looked.{Says}
 use Rattle.order_walk.specs.Walk.{WalkAt, NextLine, ListsAt, ListHere, EntryThere, EntryAt}
 use Rattle.order_walk.specs.declared.walk.ListWalk.{ListWalk}
 use Rattle.order_walk.specs.declared.walk.LineStep.{LineStep}
 use Rattle.order_walk.specs.declared.walk.Entry.{Entry}
 use Rattle.order_walk.proofs.Laws.Walk.{walk_end}
 use Rattle.order_walk.proofs.Laws.Block.{first_here, others_at, before, as_many, lists_stand}
-use Rattle.order_near.specs.Near.{Has, FindThere, FoundAt, Near, NearAfter}
+use Rattle.order_near.specs.Near.{Has, FindThere, FoundAt, Near}
 
 -- ---- one list
 
@@ -139,11 +137,3 @@ near_is s high low h F H =
     }
 
 -- ---- after the words
-
-module _ {s words : List ℕ} {high low : ℕ} where
-  pub near_said : {joins : Bool} → Says words high low (Some joins) → NearAfter s words high low joins
-  near_said S = record { is = λ lines i u e l. sym (S.is (elem low (get_or i.lists high []))) }
-
-  -- the index is asked
-  pub near_old : {r : Bool} → Says words high low None → Near s high low r → NearAfter s words high low r
-  near_old S m = record { is = λ lines i u e l. m.is lines i u e l ∙ sym (S.is (elem low (get_or i.lists high []))) }

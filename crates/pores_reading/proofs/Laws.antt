@@ -14,6 +14,7 @@ use Rattle.put_bytes.specs.Laid.{Laid}
 use Rattle.put_bytes.specs.HighFirst.{four, joined}
 use Rattle.outcome.specs.Refusals.{bad_pores, no_room}
 use Rattle.outcome.specs.Outcome.{given, AnswersInFours}
+use Rattle.outcome.specs.declared.Answer.{Answer}
 use Rattle.outcome.proofs.Laws.{answer_refused, answer_full, answer_given}
 use Rattle.format.specs.Segments.{sweat_pores}
 use Rattle.format.specs.Places.{view_at, segment_at}
@@ -29,7 +30,10 @@ use Rattle.pores.specs.NumbersLaws.{fours_long}
 use Rattle.pores.specs.Calls.{pores_format, pores}
 use Rattle.pores_judge.specs.Judged.{PayloadThere, RightPayload}
 use Rattle.pores_values.specs.Put.{NumbersLaid}
-use Rattle.pores_reading.specs.Reading.{NumbersGiven}
+
+-- what reading the numbers of the segment at x answers, whatever name the call has for it
+pub record NumbersGiven (s : List ℕ) (x : Spot) (before after : List ℕ) (a : Answer) : Type 0 where
+  pub is : (view : ViewName) (place : ℕ) → SegmentStands s view place x → AnswersInFours (pores view place s) before after a
 
 -- ---- refused before a segment is found
 

@@ -12,7 +12,7 @@ use outcome::{Answer, Refusal, Refused};
 use pores_judge::judge_payload;
 use pores_values::put_numbers;
 
-// The same as a Result: how many numbers there are.
+// How many numbers are given.
 fn read_pores(bytes: &[u8], view: ViewName, place: usize, out: &mut [u8]) -> Result<usize, Refused>
     ensures { AnswersInFours (pores view place bytes.now) out.old out.new (answer_of result) }
 {

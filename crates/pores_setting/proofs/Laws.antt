@@ -13,6 +13,7 @@ use mir.Facts.{yes_eqb, no_eqb}
 use Rattle.bits.specs.ChoiceLaws.{pick_yes, pick_no, split}
 use Rattle.outcome.specs.Refusals.{bad_pores}
 use Rattle.outcome.specs.Outcome.{Answers}
+use Rattle.outcome.specs.declared.Answer.{Answer}
 use Rattle.outcome.specs.Why.{answer_of}
 use Rattle.outcome.specs.declared.refusal.Refused.{Refused}
 use Rattle.outcome.proofs.Laws.{answer_refused}
@@ -34,7 +35,11 @@ use Rattle.pores.proofs.Laws.Size.{payload_long}
 use Rattle.pores_numbers.specs.Judged.{most_counted, NumbersRight, NumbersBroken}
 use Rattle.pores_payload.specs.Payload.{PayloadRoom, PayloadLaid}
 use Rattle.pores_payload.proofs.Laws.Listed.{all_listed}
-use Rattle.pores_setting.specs.Setting.{counted_size, FewElements, PayloadSet}
+use Rattle.pores_setting.specs.Setting.{counted_size, FewElements}
+
+-- what rewriting the payload of the segment at x answers, whatever name the call has for it
+pub record PayloadSet (s : List ℕ) (x : Spot) (vs before after : List ℕ) (a : Answer) : Type 0 where
+  pub is : (view : ViewName) (place : ℕ) → SegmentStands s view place x → Answers (set_pores view place vs s) before after a
 
 -- ---- how long the payload is that right numbers make
 

@@ -24,7 +24,7 @@ fn payload_size(e: usize, elements: usize) -> usize
     3 + (elements * e + 7) / 8
 }
 
-// The same as a Result: how many bytes the new record has.
+// How many bytes the new record has.
 fn set_payload(
     bytes: &[u8],
     view: ViewName,

@@ -12,7 +12,12 @@ use outcome::{Answer, Refusal, Refused};
 use quality_values::{judge_payload, put_values};
 
 // How many values are given.
-fn put_quality(bytes: &[u8], view: ViewName, place: usize, out: &mut [u8]) -> Result<usize, Refused>
+fn read_quality(
+    bytes: &[u8],
+    view: ViewName,
+    place: usize,
+    out: &mut [u8],
+) -> Result<usize, Refused>
     ensures { Answers (quality view place bytes.now) out.old out.new (answer_of result) }
 {
     let spot = find_segment(bytes, view, place)?;
@@ -31,5 +36,5 @@ fn put_quality(bytes: &[u8], view: ViewName, place: usize, out: &mut [u8]) -> Re
 pub fn quality(bytes: &[u8], view: ViewName, place: usize, out: &mut [u8]) -> Answer
     ensures { Answers (quality view place bytes.now) out.old out.new result }
 {
-    Answer::of(put_quality(bytes, view, place, out))
+    Answer::of(read_quality(bytes, view, place, out))
 }

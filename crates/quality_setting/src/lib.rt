@@ -15,7 +15,7 @@ use quality_payload::{judge_values, put_payload};
 use rewrite_put::record_put;
 
 // How many bytes the new record has.
-fn put_record(
+fn set_payload(
     bytes: &[u8],
     view: ViewName,
     place: usize,
@@ -44,5 +44,5 @@ pub fn set_quality(
 ) -> Answer
     ensures { Answers (set_quality view place values.now bytes.now) out.old out.new result }
 {
-    Answer::of(put_record(bytes, view, place, values, out))
+    Answer::of(set_payload(bytes, view, place, values, out))
 }

@@ -35,13 +35,13 @@ fn judge_sheet(sheet: &[u8]) -> Result<Valued, Refusal>
     Ok(record)
 }
 
-// The same, 20, and then the bytes of the record.
-fn put_record(sheet: &[u8], bytes: &mut [u8]) -> Result<usize, Refused>
+// How many bytes the record has: 21, 22, 19, 20.
+fn write_out(sheet: &[u8], bytes: &mut [u8]) -> Result<usize, Refused>
     ensures { Answers (writing sheet.now) bytes.old bytes.new (answer_of result) }
 {
     let record = judge_sheet(sheet)?;
     if bytes.len() < record.bytes {
-        return Err(Refused::from(Refusal::NoRoom));
+        return Err(Refusal::NoRoom.into());
     }
     Ok(record_out(bytes, sheet, record.bytes, record.views))
 }
@@ -49,5 +49,5 @@ fn put_record(sheet: &[u8], bytes: &mut [u8]) -> Result<usize, Refused>
 pub fn write(sheet: &[u8], bytes: &mut [u8]) -> Answer
     ensures { Answers (writing sheet.now) bytes.old bytes.new result }
 {
-    Answer::of(put_record(sheet, bytes))
+    Answer::of(write_out(sheet, bytes))
 }

@@ -25,9 +25,6 @@ module _ (rs : List ℕ) (n : ℕ) (stays : Bool) where
       go true = tt
       go false = tt
 
-  pub let_stay : stays ≡ true → elem n rs ≡ false → T (not (gone rs stays n))
-  let_stay s e = rw (s, e) tt
-
 -- ---- the list: the line, if the words let it stay, and those behind it
 
 module _ (rs : List ℕ) (n : ℕ) (behind : List ℕ) where

@@ -1,5 +1,5 @@
 -- The test of a removal list, number by number, and what its bytes say where it is right.
-use mathlib.Core.Path.{◌≡◌, refl, sym, ap, ◌∙◌}
+use mathlib.Core.Path.{◌≡◌, refl, ap, ◌∙◌}
 use mathlib.Core.Logic.{◌≢◌, ◌⊎◌, inl, inr}
 use Prim.Native.Nat.{ℕ, suc, ◌+◌, ◌*◌, ◌%◌, ◌≤◌, ◌<◌}
 use native.Mathlib.Omega.{arith}
@@ -10,7 +10,7 @@ use lib.Dec.{T, eqb, leb, ltb}
 use mir.Facts.{yes_eqb, no_eqb, yes_leb, yes_ltb, no_leb, no_ltb}
 use Rattle.bits.specs.ChoiceLaws.{pick_yes, pick_no, T_true, T_false, eq_split}
 use Rattle.bits.specs.Lists.{All}
-use Rattle.put_bytes.proofs.Numbers.{length_numbers, numbers_from_lem, number_at}
+use Rattle.put_bytes.proofs.Numbers.{length_numbers, numbers_from_lem}
 use Rattle.orders.specs.Survive.{at}
 use Rattle.orders.specs.Listed.{numbers_in, removal_lines}
 use Rattle.orders.specs.Order.{rises_ok, lines_ok}
@@ -93,11 +93,6 @@ lines_rise n bs e =
     (λ z. let (_, c, d) = ok_lines n (removal_lines bs) (rw e tt) in
     (record { even = rw (listed_even bs z) (omega (arith, length_numbers bs)); rises = c }, d))
     (λ z. let t : T (lines_ok n (removal_lines bs)) = rw e tt in absurd (rw (lines_odd n bs z) at t))
-
-pub rising_at : (bs : List ℕ) → Rising bs → (i : ℕ) → i < length (removal_lines bs) → get_or bs (2 * i) 0 * 256 + get_or bs (2 * i + 1) 0 ≡ at (removal_lines bs) i
-rising_at bs r i l =
-    let e : length bs % 2 ≡ 0 = omega (arith, r.even) in
-    rw (listed_even bs e) (sym (number_at bs i (omega (arith, r.even))))
 
 -- no bytes name no lines
 pub none_listed : (bs : List ℕ) → length bs ≡ 0 → removal_lines bs ≡ []

@@ -1,6 +1,6 @@
 -- The words of a list looked through from the first on: for the highest line beside another, and for the next line that is the higher
 -- one of a word.
-use mathlib.Core.Path.{◌≡◌, refl, sym, ap, ◌∙◌}
+use mathlib.Core.Path.{◌≡◌, refl, ◌∙◌}
 use mathlib.Core.Logic.{◌≢◌}
 use Prim.Native.Nat.{ℕ, suc, ◌+◌, ◌/◌, ◌≤◌, ◌<◌, min, max}
 use native.Mathlib.Omega.{arith}
@@ -11,7 +11,7 @@ use lib.ListN.{length}
 use Rattle.orders.specs.Act.{Word}
 use Rattle.orders.specs.Listed.{words}
 use Rattle.order_words.specs.After.{word_at, heard, heard_in, Quiet, Before, Silent}
-use Rattle.order_words.specs.Looked.{paired, Bound, NextHigh, TurnThere, TurnTold}
+use Rattle.order_words.specs.Looked.{paired, Bound, NextHigh}
 use Rattle.order_words.specs.declared.Pair.{Pair}
 use Rattle.order_words.proofs.Laws.Said.{said_other_high, said_other_low}
 
@@ -100,25 +100,3 @@ module _ {list : List ℕ} {from : ℕ} where
   pub seeking_done : {i : ℕ} {next : Option ℕ} → Seeking list from i next → i ≡ length list / 6 → NextHigh list from next
   unfolding heard_in
   seeking_done t e = record { up = t.up; silent = rw (← e) t.silent }
-
--- ---- line l's turn
-
-module _ {list : List ℕ} {l : ℕ} {named : Option ℕ} (t : TurnThere list l named) where
-  -- no word has it as its higher line
-  pub turn_other : named ≢ Some l → TurnTold list l (record { bound = 0; next = named })
-  turn_other d =
-      record {
-        bound = record { within = omega arith; quiet = t.next.silent l (omega arith) (before named d t.next.up) };
-        next = record { up = above named d t.next.up; silent = λ m a b. t.next.silent m (omega arith) b };
-      }
-    where
-      before : (r : Option ℕ) → r ≢ Some l → IfSome r (λ n. l ≤ n) → Before l r
-      before None d u = tt
-      before (Some n) d u = let e : l ≢ n = λ z. d (ap Some (sym z)) in omega arith
-
-      above : (r : Option ℕ) → r ≢ Some l → IfSome r (λ n. l ≤ n) → IfSome r (λ n. l + 1 ≤ n)
-      above None d u = tt
-      above (Some n) d u = let e : l ≢ n = λ z. d (ap Some (sym z)) in omega arith
-
-  pub turn_named : {b : ℕ} {n : Option ℕ} → Bound list l (l + 1) b → NextHigh list (l + 1) n → TurnTold list l (record { bound = b; next = n })
-  turn_named B N = record { bound = rw add-one at B; next = N }

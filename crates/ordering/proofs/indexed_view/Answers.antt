@@ -1,5 +1,4 @@
 -- The view, and then its index.
-use native.Mathlib.Omega.{arith}
 use Rattle.std.proofs.lemmas.Result.{err_from_is_err_and}
 use Rattle.ordering.proofs.Laws.Pairs.{not_there, without_index}
 use Rattle.ordering.proofs.indexed_view.Goals as goal

@@ -1,6 +1,5 @@
 -- The view and its index, the list's shape, and then the orders of the list on it.
 use mathlib.Core.Path.{sym, ◌∙◌}
-use lib.ListN.{length}
 use Rattle.std.proofs.lemmas.Result.{err_from_is_err_and}
 use Rattle.outcome.proofs.Laws.{answer_refused}
 use Rattle.ordering.proofs.Laws.Pairs.{there, pairs_no_shape, pairs_done}

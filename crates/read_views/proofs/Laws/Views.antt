@@ -1,5 +1,5 @@
 -- The loop over the views of a record s: which are laid so far, and which are still to be read.
-use mathlib.Core.Path.{◌≡◌, sym, ◌∙◌}
+use mathlib.Core.Path.{◌≡◌}
 use Prim.Native.Nat.{ℕ, ◌+◌, ◌≤◌}
 use native.Mathlib.Omega.{arith}
 use mathlib.Core.List.{List, []}
@@ -10,13 +10,13 @@ use Rattle.format.specs.View.{View}
 use Rattle.format.specs.Record.{Record, read}
 use Rattle.format.specs.SheetSize.{view_size}
 use Rattle.format.specs.declared.Widths.{Widths}
-use Rattle.find_parts.proofs.Laws.Views.{ViewsLeft, ViewNext, views_first, views_none}
+use Rattle.find_parts.proofs.Laws.Views.{ViewsLeft, ViewNext, views_first}
 use Rattle.sheet_bytes.specs.Bytes.{view_bytes}
 use Rattle.read_views.specs.ViewOuts.{ViewWritten}
-use Rattle.read_views.specs.SheetOuts.{ViewsToRead, ViewsOut}
+use Rattle.read_views.specs.SheetOuts.{ViewsToRead}
 use Rattle.read_views.specs.declared.view.ViewOut.{ViewOut}
 use Rattle.sheet_bytes.proofs.Laws.Sizes.{view_size_lem}
-use Rattle.read_blocks.proofs.Laws.Laying.{Laying, laying_none, laying_room, laying_more, laying_all}
+use Rattle.read_blocks.proofs.Laws.Laying.{Laying, laying_none, laying_room, laying_more}
 
 -- ---- i views are laid; the next starts at byte p
 
@@ -58,13 +58,3 @@ module _ {w : Widths} {count : ℕ} {s d o : List ℕ} {p i at : ℕ} (h : Views
           left = rw q l.further;
           laying = laying_more (view_bytes w.k) view_size h.laying l.is (view_size_lem w.k l.value) y;
         }
-
-  pub views_all : count ≤ i → ViewsOut s d o at
-  views_all l =
-      let f : h.rest ≡ [] = views_none h.left l in
-      record {
-        is = λ r k.
-            let g : got h.value [] ≡ got r [] = sym h.reads ∙ k in
-            let m : h.value ≡ r = cc in
-            rw (← m, ← h.widths) (laying_all (view_bytes w.k) view_size h.laying f);
-      }

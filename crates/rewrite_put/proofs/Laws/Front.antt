@@ -85,9 +85,6 @@ module _ {s : List ℕ} {x : Spot} {k : ℕ} {out : List ℕ} (t : FrontRoom s x
       × (length s ≤ 32768) × (14 ≤ x.extended.from)
   bounds = let p = t.spot in (p.first, p.order, p.inside, p.within, p.short, p.from)
 
-  pub room_is : (x.payload.from + k ≤ length out) × (x.payload.from + k ≤ 32768)
-  room_is = (omega (arith, bounds, t.room), omega (arith, bounds, t.small))
-
   pub head_end : {o o1 : List ℕ} {a : ℕ} → Laid (head_of s (x.extended.from - 2) (new_length s x k)) o o1 a → a + 2 ≡ x.extended.from
   head_end h = let z = head_count s (x.extended.from - 2) (new_length s x k) (omega (arith, bounds)) (omega (arith, bounds)) in omega (arith, h.count, z, bounds)
 
@@ -95,9 +92,6 @@ module _ {s : List ℕ} {x : Spot} {k : ℕ} {out : List ℕ} (t : FrontRoom s x
   between_long =
       let z = part_length s x.extended.from (x.payload.from - 2 - x.extended.from) (omega (arith, bounds)) in
       omega (arith, z, bounds)
-
-  pub between_end : {o o1 : List ℕ} {a : ℕ} → Laid (part s x.extended.from (x.payload.from - 2 - x.extended.from)) o o1 a → a + 2 + x.extended.from ≡ x.payload.from
-  between_end h = omega (arith, h.count, between_long)
 
   pub front_end : {o o1 : List ℕ} {a : ℕ} → Laid (front_of s x k) o o1 a → a ≡ x.payload.from
   front_end h =

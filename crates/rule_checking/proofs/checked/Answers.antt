@@ -1,9 +1,6 @@
 -- The rule, then the judge's verdict, then the bits of a direction.
-use mathlib.Core.Path.{◌≡◌, sym, ap, ◌∙◌}
-use mathlib.Core.Option.{some}
+use mathlib.Core.Path.{sym}
 use Rattle.std.proofs.lemmas.Result.{err_from_is_err_and}
-use Rattle.rule.specs.Rules.{least_of}
-use Rattle.rule.specs.Row.{known_least}
 use Rattle.rule_checking.proofs.Laws.{no_rule_lem, refuses, below, passed}
 use Rattle.rule_checking.proofs.checked.Goals as goal
 

@@ -1,6 +1,4 @@
 -- Each case of what is found is a part of the record: the payload's, or one with no bytes.
-use native.Mathlib.Omega.{arith}
-use Rattle.find_segment.proofs.Laws.{bounds}
 use Rattle.segment.proofs.Laws.{none_given, part_given}
 use Rattle.segment.proofs.payload.Goals as goal
 

@@ -1,14 +1,7 @@
 -- Line by line. The invariant holds of whatever lines the list has: those that stay are counted so far, the others are to come.
 use native.Mathlib.Omega.{arith}
-use mathlib.Core.Path.{◌≡◌, subst}
-use Prim.Native.Nat.{ℕ, ◌-◌}
-use mathlib.Core.Bool.{not}
-use lib.Dec.{T}
-use Rattle.orders.specs.Listed.{removal_lines}
-use Rattle.order_removal.specs.Rank.{below}
-use Rattle.order_lists.specs.List.{gone, Fares, become}
-use Rattle.std.specs.Prelude.{Option}
-use Rattle.order_lists.proofs.Laws.List.{Measuring, measuring_first, measuring_gone, next_falls, measuring_stays, measured}
+use Prim.Native.Nat.{◌-◌}
+use Rattle.order_lists.proofs.Laws.List.{measuring_first, measuring_gone, next_falls, measuring_stays, measured}
 use Rattle.order_lists.proofs.list.list_numbers.Goals as goal
 
 pub loop-k-init : goal.loop-k-init

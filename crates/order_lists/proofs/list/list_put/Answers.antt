@@ -1,18 +1,13 @@
 -- Bits kept free, then line by line, then the count into them. The invariant holds of whatever lines the list has: the differences of
 -- those that stay are put, and counted.
 use native.Mathlib.Omega.{arith}
-use mathlib.Core.Path.{◌≡◌, refl, subst}
-use Prim.Native.Nat.{ℕ, ◌-◌}
-use mathlib.Core.Bool.{not}
-use mathlib.Core.List.{List}
-use lib.Dec.{T}
+use mathlib.Core.Path.{refl}
+use Prim.Native.Nat.{◌-◌}
 use lib.Pow.{pow_pos}
 use Rattle.find_parts.proofs.Laws.Lists.{list_bits_lem}
-use Rattle.orders.specs.Listed.{removal_lines}
 use Rattle.order_removal.specs.Rank.{below}
-use Rattle.order_lists.specs.List.{gone, Fares, become}
-use Rattle.std.specs.Prelude.{Option}
-use Rattle.order_lists.proofs.Laws.List.{PuttingList, putting_first, putting_gone, put_fits, put_room, putting_stays, all_counted, put_all}
+use Rattle.order_lists.specs.List.{become}
+use Rattle.order_lists.proofs.Laws.List.{putting_first, putting_gone, put_fits, put_room, putting_stays, all_counted, put_all}
 use borrow.Author.Rules.{rules}
 use Rattle.order_lists.proofs.list.list_put.Goals as goal
 

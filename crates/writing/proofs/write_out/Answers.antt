@@ -3,7 +3,7 @@ use Rattle.std.proofs.lemmas.Result.{err_from_is_err_and}
 use native.Mathlib.Omega.{arith}
 use Rattle.bits.proofs.Laws.Place.{all_bytes}
 use Rattle.writing.proofs.Laws.{refuses, no_room_lem, record_there, laid}
-use Rattle.writing.proofs.put_record.Goals as goal
+use Rattle.writing.proofs.write_out.Goals as goal
 
 pub returns-in_err-record : goal.returns-in_err-record
 returns-in_err-record c =
@@ -12,7 +12,7 @@ returns-in_err-record c =
 
 pub returns-then-bytes-record : goal.returns-then-bytes-record
 returns-then-bytes-record c =
-    rw c.from.ensures (no_room_lem c.args.sheet.now c.args.bytes.now (all_bytes c.args.sheet.now (λ i. (c.type_inv.sheet i).fits)) c.in_ok-record.ensures (omega (arith, c.if-bytes-record.true)))
+    rw c.into.ensures (no_room_lem c.args.sheet.now c.args.bytes.now (all_bytes c.args.sheet.now (λ i. (c.type_inv.sheet i).fits)) c.in_ok-record.ensures (omega (arith, c.if-bytes-record.true)))
 
 pub record_out-requires : goal.record_out-requires
 record_out-requires c =

@@ -5,7 +5,7 @@ use Rattle.bits.proofs.Laws.Place.{all_bytes}
 use Rattle.outcome.specs.declared.refusal.Refusal.TheVariants.{BadQuality}
 use Rattle.find_segment.proofs.Laws.{bounds}
 use Rattle.quality_reading.proofs.Laws.{not_found, payload_there, other_type, broken, no_room_lem, values_given_lem}
-use Rattle.quality_reading.proofs.put_quality.Goals as goal
+use Rattle.quality_reading.proofs.read_quality.Goals as goal
 
 pub returns-in_err-spot : goal.returns-in_err-spot
 returns-in_err-spot c =

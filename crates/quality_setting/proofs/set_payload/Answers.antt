@@ -5,7 +5,7 @@ use Rattle.outcome.specs.declared.refusal.Refusal.TheVariants.{BadQuality}
 use Rattle.quality.specs.Payload.{payload_for}
 use Rattle.quality_payload.specs.Payload.{PayloadRoom}
 use Rattle.quality_setting.proofs.Laws.{few, not_found, image_small, other_type, broken, put, right_room, right_put}
-use Rattle.quality_setting.proofs.put_record.Goals as goal
+use Rattle.quality_setting.proofs.set_payload.Goals as goal
 
 pub returns-in_err-spot : goal.returns-in_err-spot
 returns-in_err-spot c =
