@@ -2,7 +2,7 @@
 use Rattle.std.proofs.Common.{None}
 use Rattle.std.specs.Prelude.{Ok, Err}
 use mathlib.Core.Path.{ap}
-use Prim.Native.Nat.{ℕ, ◌+◌, ◌≤◌, ◌<◌}
+use Prim.Native.Nat.{ℕ, ◌+◌, ◌≤◌}
 use native.Mathlib.Omega.{arith}
 use mathlib.Core.List.{List}
 use lib.ListN.{length}

@@ -1,5 +1,4 @@
-// The nest over views, lines and codes. What refuses in it leaves it by one label, from whatever depth, as document 01 asks; what another
-// judge refuses is handed on.
+// The nest over views, lines and codes. What refuses leaves it by one label, from whatever depth, as document 01 asks.
 #![tactic(auto)]
 
 ghost use Rattle.std.specs.Prelude.{◌≡◌, ◌≤◌, length};
@@ -28,7 +27,10 @@ pub fn judge_views(bytes: &[u8], w: Widths, count: usize) -> Result<Reached, Fau
     let mut size: usize = 0;
     'views: {
         for _ in 0..count {
-            let (head, len) = head_at(bytes, a, &seen)?;
+            let (head, len) = match head_at(bytes, a, &seen) {
+                Ok(read) => read,
+                Err(fault) => break 'views Err(fault),
+            };
             let b = a + 10;
             if bytes.len() - b < len {
                 break 'views Err(Refusal::Past.at(8 * b));
@@ -70,9 +72,17 @@ pub fn judge_views(bytes: &[u8], w: Widths, count: usize) -> Result<Reached, Fau
                 lines += 15 + stated.value;
                 n += 1;
             }
-            zeros_at(p, block).map_err(|place| Refusal::BadLine.at(8 * b + place))?;
-            let index = index_at(bytes, e, n)?;
-            let segments = segments_at(bytes, index.next)?;
+            if let Err(place) = zeros_at(p, block) {
+                break 'views Err(Refusal::BadLine.at(8 * b + place));
+            }
+            let index = match index_at(bytes, e, n) {
+                Ok(reached) => reached,
+                Err(fault) => break 'views Err(fault),
+            };
+            let segments = match segments_at(bytes, index.next) {
+                Ok(reached) => reached,
+                Err(fault) => break 'views Err(fault),
+            };
             seen[head.position] += 1;
             size += 11 + lines + index.size + segments.size;
             a = segments.next;

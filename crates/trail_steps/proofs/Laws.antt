@@ -7,7 +7,7 @@ use mathlib.Core.Logic.{◌≢◌}
 use mathlib.Core.Bool.{Bool, not, true, false}
 use mathlib.Core.List.{List, [], ◌∷◌, ◌++◌, append_assoc, append-nil}
 use lib.ListN.{length, drop, length-append}
-use native.Mathlib.Nat.{suc-mul, zero-add}
+use native.Mathlib.Nat.{suc-mul, zero-mul, zero-add}
 use Rattle.bits.specs.ChoiceLaws.{eqb_true, eqb_false}
 use Rattle.bits.specs.Lists.{total}
 use Rattle.put_bytes.specs.Laid.{Laid}
@@ -22,7 +22,7 @@ use Rattle.outcome.specs.Refusals.{bad_line}
 use Rattle.trail.specs.Trail.{turns_level, follow, new_heading}
 use Rattle.trail.proofs.Laws.{trail_small}
 use Rattle.trail_steps.specs.Walk.{drawn_by, StepDraws}
-use Rattle.trail_steps.specs.Elements.{codes_in, elements, Ready}
+use Rattle.trail_steps.specs.Elements.{codes_in, elements, CodesStand, Ready}
 use Rattle.bits.specs.declared.Cursor.{Cursor}
 use Rattle.trail_steps.specs.declared.Pen.{Pen}
 use Rattle.trail_steps.specs.declared.CodeWalk.{CodeWalk}
@@ -46,11 +46,17 @@ code_next k n {s} {p} h r =
     ap (λ (j : ℕ). codes_in k j (drop p (bits_of s))) e ∙ rw (x, y)
 
 -- a code is there, and behind it the others
-pub code_there : (k n p m : ℕ) → 0 < n → p + n * k ≤ m → (p + k ≤ m) × (p + k + (n - 1) * k ≤ m)
-code_there k n p m l h =
+pub code_there : (k n p m : ℕ) → 1 ≤ k → 0 < n → n * k ≤ m - p → (p + k ≤ m) × ((n - 1) * k ≤ m - (p + k))
+code_there k n p m o l h =
     let e : n ≡ suc (n - 1) = omega arith in
     let f : n * k ≡ (n - 1) * k + k = ap (λ (j : ℕ). j * k) e ∙ suc-mul (n - 1) k in
     (omega arith, omega arith)
+
+-- where no codes are left, nothing is asked of the place
+pub none_asked : (w : CodeWalk) → w.left ≡ 0 → CodesStand w
+none_asked w e =
+    let z : w.left * w.k ≡ 0 = rw e (zero-mul w.k) in
+    omega (arith, z)
 
 -- a walk that has read a code and stepped by it draws what the step drew, and then the rest
 module _ (w : CodeWalk) (h : Ready w) (l : 0 < w.left) {v : ℕ} (n : Cursor) (r : Reads (field_dec bad_line w.k) w.block.now w.codes.at (found v n.at)) (e : n.at ≡ w.codes.at + w.k)
@@ -60,7 +66,7 @@ module _ (w : CodeWalk) (h : Ready w) (l : 0 < w.left) {v : ℕ} (n : Cursor) (r
 
   pub still_ready : Ready stepped
   still_ready =
-      record { low = h.low; high = h.high; short = h.short; there = rw e (code_there w.k w.left w.codes.at _ l h.there).1; some = h.some; few = h.few; below = st.heading }
+      record { low = h.low; high = h.high; short = h.short; there = rw e (code_there w.k w.left w.codes.at _ h.low l h.there).1; some = h.some; few = h.few; below = st.heading }
 
   pub goes_on : elements w ≡ drawn_by d ++ elements stepped
   unfolding elements

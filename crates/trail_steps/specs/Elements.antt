@@ -1,5 +1,5 @@
 -- What the walk along the codes of a line draws, and what it asks. "The trail is one 16-bit number for each drawn element."
-use Rattle.std.specs.Prelude.{ℕ, zero, suc, ◌+◌, ◌*◌, ◌≤◌, ◌<◌, List, [], ◌∷◌, length, take, drop}
+use Rattle.std.specs.Prelude.{ℕ, zero, suc, ◌-◌, ◌*◌, ◌≤◌, ◌<◌, List, [], ◌∷◌, length, take, drop}
 use Rattle.bits.specs.Bits.{Bits, number_of_bits}
 use Rattle.bits.specs.Bytes.{bits_of}
 use Rattle.trail.specs.Trail.{follow}
@@ -14,19 +14,23 @@ codes_in k (suc n) s = number_of_bits (take k s) ∷ codes_in k n (drop k s)
 unfoldable pub elements : CodeWalk → List ℕ
 elements w = follow w.half w.k w.pen.high w.pen.heading (codes_in w.k w.left (drop w.codes.at (bits_of w.block.now)))
 
+-- the codes that are left, if any, stand in the block
+abbrev pub CodesStand : CodeWalk → Type 0
+CodesStand w = w.left * w.k ≤ 8 * length w.block.now - w.codes.at
+
 -- What counting asks: the codes are there.
 pub record CodesThere (w : CodeWalk) : Type 0 where
   pub low : 1 ≤ w.k
   pub high : w.k ≤ 8
   pub short : length w.block.now ≤ 65535
-  pub there : w.codes.at + w.left * w.k ≤ 8 * length w.block.now
+  pub there : CodesStand w
 
 -- What the walk asks: the codes are there, N is from 1 to 255, and the heading below 2N.
 pub record Ready (w : CodeWalk) : Type 0 where
   pub low : 1 ≤ w.k
   pub high : w.k ≤ 8
   pub short : length w.block.now ≤ 65535
-  pub there : w.codes.at + w.left * w.k ≤ 8 * length w.block.now
+  pub there : CodesStand w
   pub some : 1 ≤ w.half
   pub few : w.half ≤ 255
   pub below : w.pen.heading < 2 * w.half

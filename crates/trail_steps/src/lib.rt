@@ -32,7 +32,7 @@ impl Pen {
     }
 
     // One code of k bits: the element that it draws, if it turns no level.
-    fn step(&mut self, code: usize, k: usize, half: usize) -> Option<usize>
+    pub fn step(&mut self, code: usize, k: usize, half: usize) -> Option<usize>
         requires { (1 ≤ k) × (k ≤ 8) × (code < 2 ^ k) × (1 ≤ half) × (half ≤ 255) × (self.old.heading < 2 * half) }
         ensures { StepDraws half k self.old code self.new result }
     {

@@ -1,6 +1,6 @@
 -- From where a line stands to its trail, and from there to the statement of the call.
 use mathlib.Core.Path.{◌≡◌, sym, ◌∙◌}
-use Prim.Native.Nat.{ℕ, ◌+◌, ◌*◌, ◌≤◌, ◌<◌}
+use Prim.Native.Nat.{ℕ, ◌-◌, ◌+◌, ◌*◌, ◌≤◌, ◌<◌}
 use native.Mathlib.Omega.{arith}
 use mathlib.Core.List.{List}
 use Rattle.std.proofs.Common.{Bor}
@@ -52,11 +52,11 @@ module _ (sc : Scale) {s : List ℕ} {p : ℕ} {l : Line} {q : ℕ} (h : Reads (
     direction_is = (same D (direction_at sc.widths at_line.start (omega (arith, at_line.start.within)))).0
 
   module _ {n c : ℕ} (N : Reads (field_dec bad_line 8) s (p + end_bits sc.widths) (found n c)) where
-    codes_are : (codes_in sc.widths.k n (drop c (bits_of s)) ≡ l.codes) × (c + n * sc.widths.k ≤ 8 * length s)
+    codes_are : (codes_in sc.widths.k n (drop c (bits_of s)) ≡ l.codes) × (n * sc.widths.k ≤ 8 * length s - c)
     codes_are =
         let (e, z) = same N at_line.count in
         let b = codes_read sc.widths.k (length l.codes) (drop (p + end_bits sc.widths + 8) (bits_of s)) at_line.codes.is in
-        (rw (e, z) b, rw (e, z) at_line.codes.within)
+        (rw (e, z) b, rw (e, z) (omega (arith, at_line.codes.within)))
 
     module _ {d z : ℕ} (D : Reads (field_dec bad_line sc.widths.b) s (p + 2) (found d z)) where
       pub draws : (b : Bor (List ℕ)) → b.now ≡ s → Narrow sc.widths → length s ≤ 65535 → 1 ≤ sc.half → sc.half ≤ 255

@@ -3,12 +3,8 @@ use native.Mathlib.Omega.{arith}
 use native.Mathlib.Nat.{add-mul}
 use Prim.Native.Nat.{ℕ, ◌-◌, ◌+◌, ◌*◌}
 use mathlib.Core.Path.{◌≡◌, ap}
-use Rattle.std.proofs.Common.{rules}
-use Rattle.std.specs.Prelude.{Ok, Err}
-use Rattle.std.proofs.lemmas.Result.{err_from_is_err_and}
 use Rattle.bits.proofs.Laws.Reads.{below}
 use Rattle.outcome.specs.Refusals.{bad_line}
-use Rattle.outcome.specs.declared.refusal.Refusal.TheVariants.{BadLine}
 use Rattle.judge_views.proofs.Laws.Bounds.{index_small_lem, segments_small}
 use Rattle.judge_views.proofs.Laws.Line.{dirty, clean, lines_start, lines_over, line_no_start, line_no_codes, line_no_rest, line_turn}
 use Rattle.judge_views.proofs.Laws.View.{views_start, head_refused, block_past, one_of_eleven, no_more_than, lines_refused, zeros_refused, index_refused, segments_refused, views_turn}
@@ -17,14 +13,13 @@ use Rattle.judge_views.proofs.judge_views.Goals as goal
 pub loop-init : goal.loop-init
 loop-init c = views_start _ _ _ (omega (arith, c.requires))
 
-pub returns-in_err-head : goal.returns-in_err-head
-returns-in_err-head c =
-    let p = err_from_is_err_and c.from_residual.result c.from_residual.ensures.1 in
-    rw (p.1, p.2) (head_refused c.loop.invariant c.loop-test.true c.in_err-head.ensures, omega arith)
+pub returns-in-Err : goal.returns-in-Err
+returns-in-Err c =
+    (head_refused c.loop.invariant c.loop-test.true c.in-Err.ensures, omega arith)
 
 pub returns-then-bytes-b : goal.returns-then-bytes-b
 returns-then-bytes-b c =
-    rw c.at.ensures (block_past c.loop.invariant c.loop-test.true c.in_ok-head.ensures c.if-bytes-b.true, omega arith)
+    rw c.at.ensures (block_past c.loop.invariant c.loop-test.true c.in-Ok.ensures c.if-bytes-b.true, omega arith)
 
 pub loop-p-init : goal.loop-p-init
 loop-p-init c = lines_start _ _ _ c.start-p.ensures
@@ -33,13 +28,13 @@ pub returns-then-n-eq-MOST_LINES : goal.returns-then-n-eq-MOST_LINES
 returns-then-n-eq-MOST_LINES c =
     let L = c.loop-p.invariant in
     rw c.at-then-n-eq-MOST_LINES.ensures
-    (lines_refused c.loop.invariant c.loop-test.true c.in_ok-head.ensures c.if-bytes-b.false L.within (lines_over L c.if-n-eq-MOST_LINES.true c.loop-p-test.true), omega arith)
+    (lines_refused c.loop.invariant c.loop-test.true c.in-Ok.ensures c.if-bytes-b.false L.within (lines_over L c.if-n-eq-MOST_LINES.true c.loop-p-test.true), omega arith)
 
 pub returns-then-end-p : goal.returns-then-end-p
 returns-then-end-p c =
     let L = c.loop-p.invariant in
     rw c.at-then-end-p.ensures (
-      lines_refused c.loop.invariant c.loop-test.true c.in_ok-head.ensures c.if-bytes-b.false L.within
+      lines_refused c.loop.invariant c.loop-test.true c.in-Ok.ensures c.if-bytes-b.false L.within
           (line_no_start L (omega (arith, c.if-n-eq-MOST_LINES.false, L.few)) c.loop-p-test.true (omega (arith, c.if-end-p.true))),
       omega arith,
     )
@@ -49,7 +44,7 @@ returns-then-end-p-2 c =
     let L = c.loop-p.invariant in
     let m = c.loop-left in
     rw c.at-then-end-p-2.ensures (
-      lines_refused c.loop.invariant c.loop-test.true c.in_ok-head.ensures c.if-bytes-b.false L.within
+      lines_refused c.loop.invariant c.loop-test.true c.in-Ok.ensures c.if-bytes-b.false L.within
           (line_no_codes L (omega (arith, c.if-n-eq-MOST_LINES.false, L.few)) c.loop-p-test.true (omega arith) (c.sure-stated.ensures.0 bad_line) m.left m.p.at m.invariant.2 m.invariant.1 128 (omega (arith, c.loop-left-test.true)) c.if-end-p-2.true),
       omega arith,
     )
@@ -66,7 +61,7 @@ returns-then-end-p-3 c =
     let L = c.loop-p.invariant in
     let m = c.loop-left in
     rw c.at-then-end-p-3.ensures (
-      lines_refused c.loop.invariant c.loop-test.true c.in_ok-head.ensures c.if-bytes-b.false L.within
+      lines_refused c.loop.invariant c.loop-test.true c.in-Ok.ensures c.if-bytes-b.false L.within
           (line_no_rest L (omega (arith, c.if-n-eq-MOST_LINES.false, L.few)) c.loop-p-test.true (omega arith) (c.sure-stated.ensures.0 bad_line) m.left m.p.at m.invariant.2 m.invariant.1 c.if-end-p-3.true),
       omega arith,
     )
@@ -85,55 +80,46 @@ loop-p-preserved c =
     let m = c.loop-left in
     line_turn L (omega (arith, c.if-n-eq-MOST_LINES.false, L.few)) c.loop-p-test.true (omega arith) (c.sure-stated.ensures.0 bad_line) m.left m.p.at m.invariant.2 m.invariant.1 c.if-end-p-3.false
 
-pub returns-in_err-map_err : goal.returns-in_err-map_err
-returns-in_err-map_err c =
-    let p = err_from_is_err_and c.from_residual-in_err-map_err.result c.from_residual-in_err-map_err.ensures.1 in
-    let h : (q : ℕ) × (c.zeros_at.result ≡ Err q) × (c.in_err-map_err.field-0.0 ≡ record { why = BadLine; place = 8 * (c.loop.a + 10) + q }) = search rules in
-    rw (p.1, p.2)
-    (rw h.2 (zeros_refused c.loop.invariant c.loop-test.true c.in_ok-head.ensures c.if-bytes-b.false c.loop-p.invariant c.loop-p-test.false {q = h.0} (dirty {q = h.0} h.1 (c.zeros_at.ensures bad_line))), omega arith)
+pub returns-in-Err-zeros_at : goal.returns-in-Err-zeros_at
+returns-in-Err-zeros_at c =
+    rw c.at-in-Err-zeros_at.ensures
+    (zeros_refused c.loop.invariant c.loop-test.true c.in-Ok.ensures c.if-bytes-b.false c.loop-p.invariant c.loop-p-test.false (dirty c.in-Err-zeros_at.is (c.zeros_at.ensures bad_line)), omega arith)
 
-pub returns-in_err-index : goal.returns-in_err-index
-returns-in_err-index c =
-    let p = err_from_is_err_and c.from_residual-in_err-index.result c.from_residual-in_err-index.ensures.1 in
-    let h : c.zeros_at.result ≡ Ok tt = search rules in
-    let z = clean h (c.zeros_at.ensures bad_line) in
-    rw (p.1, p.2)
-    (index_refused c.loop.invariant c.loop-test.true c.in_ok-head.ensures c.if-bytes-b.false c.loop-p.invariant c.loop-p-test.false z c.in_err-index.ensures, omega arith)
+pub returns-in-Err-index_at : goal.returns-in-Err-index_at
+returns-in-Err-index_at c =
+    let z = clean c.in_default.is (c.zeros_at.ensures bad_line) in
+    (index_refused c.loop.invariant c.loop-test.true c.in-Ok.ensures c.if-bytes-b.false c.loop-p.invariant c.loop-p-test.false z c.in-Err-index_at.ensures, omega arith)
 
-pub returns-in_err-segments : goal.returns-in_err-segments
-returns-in_err-segments c =
-    let p = err_from_is_err_and c.from_residual-in_err-segments.result c.from_residual-in_err-segments.ensures.1 in
-    let h : c.zeros_at.result ≡ Ok tt = search rules in
-    let z = clean h (c.zeros_at.ensures bad_line) in
-    rw (p.1, p.2)
-    (segments_refused c.loop.invariant c.loop-test.true c.in_ok-head.ensures c.if-bytes-b.false c.loop-p.invariant c.loop-p-test.false z c.in_ok-index.index.next c.in_ok-index.ensures c.in_err-segments.ensures, omega arith)
+pub returns-in-Err-segments_at : goal.returns-in-Err-segments_at
+returns-in-Err-segments_at c =
+    let z = clean c.in_default.is (c.zeros_at.ensures bad_line) in
+    (segments_refused c.loop.invariant c.loop-test.true c.in-Ok.ensures c.if-bytes-b.false c.loop-p.invariant c.loop-p-test.false z c.in-Ok-index_at.reached.next c.in-Ok-index_at.ensures c.in-Err-segments_at.ensures, omega arith)
 
 pub bounds-seen-head : goal.bounds-seen-head
 bounds-seen-head c =
-    omega (arith, one_of_eleven c.loop.invariant c.loop-test.true c.in_ok-head.ensures)
+    omega (arith, one_of_eleven c.loop.invariant c.loop-test.true c.in-Ok.ensures)
 
 pub overflow_add-seen : goal.overflow_add-seen
 overflow_add-seen c =
-    omega (arith, no_more_than c.loop.invariant c.loop-test.true c.in_ok-head.ensures, c.loop-test.true, c.requires)
+    omega (arith, no_more_than c.loop.invariant c.loop-test.true c.in-Ok.ensures, c.loop-test.true, c.requires)
 
 pub bounds-seen-head-in-loop : goal.bounds-seen-head-in-loop
 bounds-seen-head-in-loop c =
-    omega (arith, one_of_eleven c.loop.invariant c.loop-test.true c.in_ok-head.ensures)
+    omega (arith, one_of_eleven c.loop.invariant c.loop-test.true c.in-Ok.ensures)
 
 pub overflow_add-size-in-loop : goal.overflow_add-size-in-loop
 overflow_add-size-in-loop c =
-    omega (arith, c.loop-p.invariant.few, c.loop-p.invariant.small, index_small_lem c.loop-p.n c.in_ok-index.ensures)
+    omega (arith, c.loop-p.invariant.few, c.loop-p.invariant.small, index_small_lem c.loop-p.n c.in-Ok-index_at.ensures)
 
 pub overflow_add-size-in-loop-2 : goal.overflow_add-size-in-loop-2
 overflow_add-size-in-loop-2 c =
-    omega (arith, c.loop-p.invariant.few, c.loop-p.invariant.small, index_small_lem c.loop-p.n c.in_ok-index.ensures, segments_small c.in_ok-segments.ensures, c.requires)
+    omega (arith, c.loop-p.invariant.few, c.loop-p.invariant.small, index_small_lem c.loop-p.n c.in-Ok-index_at.ensures, segments_small c.in-Ok-segments_at.ensures, c.requires)
 
 pub overflow_add-size-in-loop-3 : goal.overflow_add-size-in-loop-3
 overflow_add-size-in-loop-3 c =
-    omega (arith, c.loop-p.invariant.few, c.loop-p.invariant.small, index_small_lem c.loop-p.n c.in_ok-index.ensures, segments_small c.in_ok-segments.ensures, c.loop.invariant.small, c.loop-test.true, c.requires)
+    omega (arith, c.loop-p.invariant.few, c.loop-p.invariant.small, index_small_lem c.loop-p.n c.in-Ok-index_at.ensures, segments_small c.in-Ok-segments_at.ensures, c.loop.invariant.small, c.loop-test.true, c.requires)
 
 pub loop-preserved : goal.loop-preserved
 loop-preserved c =
-    let h : c.zeros_at.result ≡ Ok tt = search rules in
-    let z = clean h (c.zeros_at.ensures bad_line) in
-    views_turn c.loop.invariant c.loop-test.true c.in_ok-head.ensures c.if-bytes-b.false c.loop-p.invariant c.loop-p-test.false z c.in_ok-index.index.next c.in_ok-index.ensures c.in_ok-segments.segments.next (omega (arith, c.requires)) c.in_ok-segments.ensures
+    let z = clean c.in_default.is (c.zeros_at.ensures bad_line) in
+    views_turn c.loop.invariant c.loop-test.true c.in-Ok.ensures c.if-bytes-b.false c.loop-p.invariant c.loop-p-test.false z c.in-Ok-index_at.reached.next c.in-Ok-index_at.ensures c.in-Ok-segments_at.reached.next (omega (arith, c.requires)) c.in-Ok-segments_at.ensures

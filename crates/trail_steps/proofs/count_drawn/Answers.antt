@@ -19,7 +19,7 @@ loop-preserved c =
     let l : 0 < n = omega arith in
     let e : c.args.walk.left - (c.loop.counter + 1) ≡ n - 1 = omega arith in
     let (there, upto, is) = c.loop.invariant in
-    let on = (code_there k n c.loop.codes.at _ l there).1 in
+    let on = (code_there k n c.loop.codes.at _ c.requires.low l there).1 in
     elim c.if-code-top.branch [
       | then-code-top w ↦ rw (e, z) (on, omega arith, omega (arith, is, drawn_one k n l (rw z at (r bad_line)) (λ f. omega arith)))
       | else-code-top w ↦ rw (e, z) (on, omega arith, omega (arith, is, drawn_none k n l (rw z at (r bad_line)) (omega arith)))

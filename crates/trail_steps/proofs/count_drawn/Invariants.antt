@@ -7,6 +7,6 @@ use Rattle.trail_steps.proofs.count_drawn.Given as goal
 
 abbrev pub invariant-loop : goal.invariant-loop
 invariant-loop l =
-    (l.codes.at + (l.end - l.counter) * l.walk.k ≤ 8 * length l.walk.block.now)
+    ((l.end - l.counter) * l.walk.k ≤ 8 * length l.walk.block.now - l.codes.at)
     × (l.count ≤ l.counter)
     × (l.count + drawn l.walk.k (codes_in l.walk.k (l.end - l.counter) (drop l.codes.at (bits_of l.walk.block.now))) ≡ length (elements l.walk))

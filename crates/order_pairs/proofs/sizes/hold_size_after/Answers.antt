@@ -1,4 +1,7 @@
 -- By the bound, or measured.
+use Rattle.std.proofs.Common.{arith}
+use mathlib.Core.Path.{ap, ◌∙◌}
+use Rattle.order_carry.specs.Carried.{size_number}
 use Rattle.order_pairs.proofs.Laws.Limits.{most_within, words_placed, size_measured}
 use Rattle.order_pairs.proofs.sizes.hold_size_after.Goals as goal
 
@@ -12,4 +15,4 @@ measure-sizes-requires c =
 
 pub returns-clause-number : goal.returns-clause-number
 returns-clause-number c =
-    size_measured c.measure-sizes.ensures c.hold_size.ensures.number
+    size_measured c.measure-sizes.ensures (c.hold_size.ensures.number ∙ ap (size_number c.args.lent) (omega arith))
